@@ -1,0 +1,79 @@
+-- Sign extension: what it is on each half, that it keeps the low bits, and the code's way to it.
+-- Assumes nothing.
+use mathlib.Core.Path.{_≡_, refl, sym, ap, ap₂, _∙_}
+use mathlib.Core.Bool.{Bool, true, false}
+use Prim.Native.Nat.{ℕ, suc, _+_, _-_, _*_, _/_, _%_, _^_, _<_, _≤_}
+use native.Mathlib.Nat.{mod-eq-of-lt, one-mul, zero-mul, add-mul-mod-self-right, sub-add-cancel, div-one, lt-of-lt-of-le, le-of-lt}
+use native.Mathlib.Omega.{arith}
+use lib.Dec.{ltb}
+use lib.Pow.{pow-pos, pow-mono, pow-add, pow-lt, high-ones}
+use lib.Bits.{bitXor, xor-comm, xor-shifted, xor-block, xor-zero-r}
+use borrow.Author.Tests.{ltb-true, ltb-false, lt-ltb, le-ltb}
+use Rattle.words.specs.Word.{field, sext, fitsSigned}
+use Rattle.words.proofs.Shifts.{one-shl}
+
+-- k bits are two halves
+pub halves : (k : ℕ) → 0 < k → 2 ^ k ≡ 2 ^ (k - 1) + 2 ^ (k - 1)
+halves k h =
+    let e : k - 1 + 1 ≡ k = omega arith in
+    ap (λ (n : ℕ). 2 ^ n) (sym e) ∙ pow-add 2 (k - 1) 1 ∙ omega arith
+
+-- a number below the sign bit is itself
+pub sext-low-half : (k x : ℕ) → x < 2 ^ (k - 1) → x < 2 ^ 64 → sext k x ≡ x
+unfolding sext
+sext-low-half k x h l = rw (lt-ltb x (2 ^ (k - 1)) h) (mod-eq-of-lt l)
+
+-- one with the sign bit gets all the bits above it
+pub sext-high-half : (k x : ℕ) → k ≤ 64 → 2 ^ (k - 1) ≤ x → x < 2 ^ k → sext k x ≡ x + (2 ^ 64 - 2 ^ k)
+unfolding sext
+sext-high-half k x h l u =
+    let p : 2 ^ k ≤ 2 ^ 64 = pow-mono h in
+    let q : 2 ^ k - suc x < 2 ^ 64 = omega arith in
+    rw (le-ltb x (2 ^ (k - 1)) l) (rw (mod-eq-of-lt q) (omega arith))
+
+-- the low bits of what is extended are the number
+pub sext-field : (k x : ℕ) → k ≤ 64 → x < 2 ^ k → field (sext k x) 0 k ≡ x
+sext-field k x h l = go (ltb x (2 ^ (k - 1))) refl
+  where
+    go : (b : Bool) → ltb x (2 ^ (k - 1)) ≡ b → field (sext k x) 0 k ≡ x
+    go true t = rw (sext-low-half k x (ltb-true _ _ t) (lt-of-lt-of-le l (pow-mono h)), div-one) (mod-eq-of-lt l)
+    go false t =
+        let e : 2 ^ 64 - 2 ^ k ≡ (2 ^ (64 - k) - 1) * 2 ^ k =
+        ap (λ (n : ℕ). 2 ^ n - 2 ^ k) (sym (sub-add-cancel h)) ∙ high-ones (64 - k) k in
+        rw (sext-high-half k x h (ltb-false _ _ t) l, e, div-one, add-mul-mod-self-right) (mod-eq-of-lt l)
+
+-- flipping a sign bit s that is clear sets it
+flip-low : (j x r : ℕ) → j < 63 → x < 2 ^ j → r < 2 ^ 64 → (r + 2 ^ j) % 2 ^ 64 ≡ bitXor x (2 ^ j) → r ≡ x
+flip-low j x r h l f e =
+    let p : 2 ^ j < 2 ^ 63 = pow-lt h in
+    let q : bitXor x (2 ^ j) ≡ 2 ^ j + x = xor-comm x (2 ^ j) ∙ ap (λ (n : ℕ). bitXor n x) (sym (one-mul (2 ^ j))) ∙ xor-shifted 1 j x l ∙ ap (λ (n : ℕ). n + x) (one-mul (2 ^ j)) in
+    omega arith
+
+-- flipping one that is set clears it
+flip-high : (j x r : ℕ) → j < 63 → 2 ^ j ≤ x → x < 2 ^ j + 2 ^ j → r < 2 ^ 64 → (r + 2 ^ j) % 2 ^ 64 ≡ bitXor x (2 ^ j)
+    → r ≡ x + (2 ^ 64 - (2 ^ j + 2 ^ j))
+flip-high j x r h l u f e =
+    let p : 2 ^ j < 2 ^ 63 = pow-lt h in
+    let y : x - 2 ^ j < 2 ^ j = omega arith in
+    let a : x ≡ 1 * 2 ^ j + (x - 2 ^ j) = omega arith in
+    let b : 2 ^ j ≡ 1 * 2 ^ j + 0 = omega arith in
+    let q : bitXor x (2 ^ j) ≡ 0 * 2 ^ j + (x - 2 ^ j) =
+    ap₂ bitXor a b ∙ xor-block j 1 1 (x - 2 ^ j) 0 y (pow-pos j) ∙ ap (λ (n : ℕ). 0 * 2 ^ j + n) (xor-zero-r (x - 2 ^ j)) in
+    omega arith
+
+-- `(x ^ sign) - sign` of k bits, wrapping
+pub flip-law : (k x r : ℕ) → 0 < k → k < 64 → x < 2 ^ k → r < 2 ^ 64
+    → (r + 1 * 2 ^ (k - 1) % 2 ^ 64) % 2 ^ 64 ≡ bitXor x (1 * 2 ^ (k - 1) % 2 ^ 64) → r ≡ sext k x
+flip-law k x r h u l f e =
+    let j : k - 1 < 63 = omega arith in
+    go (ltb x (2 ^ (k - 1))) refl j (rw (one-shl (k - 1) (omega arith)) at e)
+  where
+    go : (b : Bool) → ltb x (2 ^ (k - 1)) ≡ b → k - 1 < 63 → (r + 2 ^ (k - 1)) % 2 ^ 64 ≡ bitXor x (2 ^ (k - 1)) → r ≡ sext k x
+    go true t j e =
+        let s = ltb-true x (2 ^ (k - 1)) t in
+        flip-low (k - 1) x r j s f e ∙ sym (sext-low-half k x s (lt-of-lt-of-le l (pow-mono (le-of-lt u))))
+    go false t j e =
+        let s = ltb-false x (2 ^ (k - 1)) t in
+        let w = halves k h in
+        flip-high (k - 1) x r j s (omega arith) f e ∙ ap (λ (n : ℕ). x + (2 ^ 64 - n)) (sym w)
+        ∙ sym (sext-high-half k x (omega arith) s l)

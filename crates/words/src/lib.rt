@@ -1,0 +1,37 @@
+// Bits of 64-bit words. Every other crate takes words apart and puts them together by these functions.
+ghost use mathlib.Core.Path.{_≡_};
+ghost use Prim.Native.Nat.{_+_, _*_, _^_, _<_};
+ghost use Rattle.words.specs.Word.{field, sext, fitsSigned};
+
+// The `width` bits of `x` from bit `at`.
+pub fn bits(x: u64, at: u64, width: u64) -> u64
+    requires { ⌜ (at < 64) × (width < 64) ⌝ }
+    ensures { λ r. ⌜ r ≡ field x at width ⌝ }
+{
+    (x >> at) & ((1u64 << width) - 1)
+}
+
+// `high` put above the `at` bits of `low`.
+pub fn put(low: u64, high: u64, at: u64) -> u64
+    requires { ⌜ (at < 64) × (low < 2 ^ at) × (high * 2 ^ at < 2 ^ 64) ⌝ }
+    ensures { λ r. ⌜ r ≡ high * 2 ^ at + low ⌝ }
+{
+    low | (high << at)
+}
+
+// The `width` bits `x` as 64 bits of the same signed number: flipping the sign bit and taking it off again copies it upwards.
+pub fn sign_extend(x: u64, width: u64) -> u64
+    requires { ⌜ (0 < width) × (width < 64) × (x < 2 ^ width) ⌝ }
+    ensures { λ r. ⌜ r ≡ sext width x ⌝ }
+{
+    let sign = 1u64 << (width - 1);
+    std::num::wrapping_sub_u64(x ^ sign, sign)
+}
+
+// Can a signed field of `width` bits express `x`?
+pub fn fits_signed(x: u64, width: u64) -> bool
+    requires { ⌜ (0 < width) × (width < 64) ⌝ }
+    ensures { λ r. ⌜ r ≡ fitsSigned width x ⌝ }
+{
+    sign_extend(bits(x, 0, width), width) == x
+}
