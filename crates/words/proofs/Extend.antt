@@ -42,18 +42,14 @@ sext-field k x h l = go (ltb x (2 ^ (k - 1))) refl
         ap (λ (n : ℕ). 2 ^ n - 2 ^ k) (sym (sub-add-cancel h)) ∙ high-ones (64 - k) k in
         rw (sext-high-half k x h (ltb-false _ _ t) l, e, div-one, add-mul-mod-self-right) (mod-eq-of-lt l)
 
--- flipping a sign bit s that is clear sets it
-flip-low : (j x r : ℕ) → j < 63 → x < 2 ^ j → r < 2 ^ 64 → (r + 2 ^ j) % 2 ^ 64 ≡ bitXor x (2 ^ j) → r ≡ x
-flip-low j x r h l f e =
-    let p : 2 ^ j < 2 ^ 63 = pow-lt h in
-    let q : bitXor x (2 ^ j) ≡ 2 ^ j + x = xor-comm x (2 ^ j) ∙ ap (λ (n : ℕ). bitXor n x) (sym (one-mul (2 ^ j))) ∙ xor-shifted 1 j x l ∙ ap (λ (n : ℕ). n + x) (one-mul (2 ^ j)) in
-    omega arith
+-- flipping bit j of a number below 2^j sets it
+pub xor-clear : (j x : ℕ) → x < 2 ^ j → bitXor x (2 ^ j) ≡ 2 ^ j + x
+xor-clear j x l =
+    xor-comm x (2 ^ j) ∙ ap (λ (n : ℕ). bitXor n x) (sym (one-mul (2 ^ j))) ∙ xor-shifted 1 j x l ∙ ap (λ (n : ℕ). n + x) (one-mul (2 ^ j))
 
--- flipping one that is set clears it
-flip-high : (j x r : ℕ) → j < 63 → 2 ^ j ≤ x → x < 2 ^ j + 2 ^ j → r < 2 ^ 64 → (r + 2 ^ j) % 2 ^ 64 ≡ bitXor x (2 ^ j)
-    → r ≡ x + (2 ^ 64 - (2 ^ j + 2 ^ j))
-flip-high j x r h l u f e =
-    let p : 2 ^ j < 2 ^ 63 = pow-lt h in
+-- flipping the highest bit of one that has it clears it
+pub xor-set : (j x : ℕ) → 2 ^ j ≤ x → x < 2 ^ j + 2 ^ j → bitXor x (2 ^ j) ≡ x - 2 ^ j
+xor-set j x l u =
     let y : x - 2 ^ j < 2 ^ j = omega arith in
     let a : x ≡ 1 * 2 ^ j + (x - 2 ^ j) = omega arith in
     let b : 2 ^ j ≡ 1 * 2 ^ j + 0 = omega arith in
@@ -71,9 +67,14 @@ flip-law k x r h u l f e =
     go : (b : Bool) → ltb x (2 ^ (k - 1)) ≡ b → k - 1 < 63 → (r + 2 ^ (k - 1)) % 2 ^ 64 ≡ bitXor x (2 ^ (k - 1)) → r ≡ sext k x
     go true t j e =
         let s = ltb-true x (2 ^ (k - 1)) t in
-        flip-low (k - 1) x r j s f e ∙ sym (sext-low-half k x s (lt-of-lt-of-le l (pow-mono (le-of-lt u))))
+        let p : 2 ^ (k - 1) < 2 ^ 63 = pow-lt j in
+        let q = xor-clear (k - 1) x s in
+        let d : r ≡ x = omega arith in
+        d ∙ sym (sext-low-half k x s (lt-of-lt-of-le l (pow-mono (le-of-lt u))))
     go false t j e =
         let s = ltb-false x (2 ^ (k - 1)) t in
         let w = halves k h in
-        flip-high (k - 1) x r j s (omega arith) f e ∙ ap (λ (n : ℕ). x + (2 ^ 64 - n)) (sym w)
-        ∙ sym (sext-high-half k x (omega arith) s l)
+        let p : 2 ^ (k - 1) < 2 ^ 63 = pow-lt j in
+        let q = xor-set (k - 1) x s (omega arith) in
+        let d : r ≡ x + (2 ^ 64 - 2 ^ k) = omega arith in
+        d ∙ sym (sext-high-half k x (le-of-lt u) s l)

@@ -1,3 +1,4 @@
 pub mod Shifts
 pub mod Extend
 pub mod Fields
+pub mod Signed

@@ -1,7 +1,8 @@
 // Bits of 64-bit words. Every other crate takes words apart and puts them together by these functions.
 ghost use mathlib.Core.Path.{_≡_};
-ghost use Prim.Native.Nat.{_+_, _*_, _^_, _<_};
-ghost use Rattle.words.specs.Word.{field, sext, fitsSigned};
+ghost use Prim.Native.Nat.{_+_, _*_, _^_, _<_, _≤_};
+ghost use lib.Signed.{ltZ, shrZ};
+ghost use Rattle.words.specs.Word.{field, signed, word, sext, fitsSigned};
 
 // The `width` bits of `x` from bit `at`.
 pub fn bits(x: u64, at: u64, width: u64) -> u64
@@ -34,4 +35,24 @@ pub fn fits_signed(x: u64, width: u64) -> bool
     ensures { λ r. ⌜ r ≡ fitsSigned width x ⌝ }
 {
     sign_extend(bits(x, 0, width), width) == x
+}
+
+// Is `a` less than `b`, both read as signed numbers? Flipping the sign bits turns that order into the order of numbers.
+pub fn signed_less(a: u64, b: u64) -> bool
+    ensures { λ r. ⌜ r ≡ ltZ (signed 64 a) (signed 64 b) ⌝ }
+{
+    (a ^ 0x8000_0000_0000_0000) < (b ^ 0x8000_0000_0000_0000)
+}
+
+// The `width` bits `x`, read as a signed number, shifted right by `n`. Of a negative number the complement is shifted.
+pub fn shift_right_signed(x: u64, width: u64, n: u64) -> u64
+    requires { ⌜ (0 < width) × (width ≤ 64) × (n < width) × (x < 2 ^ width) ⌝ }
+    ensures { λ r. ⌜ r ≡ word width (shrZ (signed width x) (2 ^ n)) ⌝ }
+{
+    let ones = 0xffff_ffff_ffff_ffff >> (64 - width);
+    if x <= (ones >> 1) {
+        x >> n
+    } else {
+        ones - ((ones - x) >> n)
+    }
 }
