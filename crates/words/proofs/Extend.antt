@@ -8,7 +8,7 @@ use native.Mathlib.Omega.{arith}
 use lib.Dec.{ltb}
 use lib.Pow.{pow-pos, pow-mono, pow-add, pow-lt, high-ones}
 use lib.Bits.{bitXor, xor-comm, xor-shifted, xor-block, xor-zero-r}
-use borrow.Author.Tests.{ltb-true, ltb-false, lt-ltb, le-ltb}
+use borrow.Author.Tests.{ltb-true, ltb-false, lt-ltb, le-ltb, eqb-true, eq-eqb}
 use Rattle.words.specs.Word.{field, sext, fitsSigned}
 use Rattle.words.proofs.Shifts.{one-shl}
 
@@ -41,6 +41,14 @@ sext-field k x h l = go (ltb x (2 ^ (k - 1))) refl
         let e : 2 ^ 64 - 2 ^ k ≡ (2 ^ (64 - k) - 1) * 2 ^ k =
         ap (λ (n : ℕ). 2 ^ n - 2 ^ k) (sym (sub-add-cancel h)) ∙ high-ones (64 - k) k in
         rw (sext-high-half k x h (ltb-false _ _ t) l, e, div-one, add-mul-mod-self-right) (mod-eq-of-lt l)
+
+-- what is extended can be expressed
+pub sext-fits : (k x : ℕ) → k ≤ 64 → x < 2 ^ k → fitsSigned k (sext k x) ≡ true
+sext-fits k x h l = eq-eqb _ _ (ap (sext k) (sext-field k x h l))
+
+-- what can be expressed is the extension of its low bits
+pub fits-sext : (k x : ℕ) {n : ℕ} → n ≡ field x 0 k → fitsSigned k x ≡ true → sext k n ≡ x
+fits-sext k x e h = ap (sext k) e ∙ eqb-true _ x h
 
 -- flipping bit j of a number below 2^j sets it
 pub xor-clear : (j x : ℕ) → x < 2 ^ j → bitXor x (2 ^ j) ≡ 2 ^ j + x

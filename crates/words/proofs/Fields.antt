@@ -32,6 +32,21 @@ pub field-parts : (x k low high : ℕ) {p q : ℕ} → q < 2 ^ low → field x k
     → (field x (k + low) high ≡ p) × (field x k low ≡ q)
 field-parts x k low high h e = parts-unique low (field-lt x k low) h (field-cut x k low high ∙ e)
 
+-- two fields put side by side are read out again
+pub field-put : (low high : ℕ) {p q : ℕ} → p < 2 ^ high → q < 2 ^ low
+    → (field (p * 2 ^ low + q) low high ≡ p) × (field (p * 2 ^ low + q) 0 low ≡ q)
+field-put low high {p} {q} h l =
+    let x = p * 2 ^ low + q in
+    let b : x < 2 ^ (high + low) = rw (pow-add 2 high low) (digits-lt h l) in
+    let r = field-parts x 0 low high l (field-all x (high + low) b) in
+    (ap (λ (k : ℕ). field x k high) (sym (zero-add low)) ∙ r .0, r .1)
+
+-- two fields of a number, put side by side, are the number
+pub field-join : (x low high : ℕ) {p q : ℕ} → x < 2 ^ (high + low) → p ≡ field x low high → q ≡ field x 0 low → p * 2 ^ low + q ≡ x
+field-join x low high h e f =
+    ap₂ (λ (u v : ℕ). u * 2 ^ low + v) (e ∙ ap (λ (k : ℕ). field x k high) (sym (zero-add low))) f
+    ∙ field-cut x 0 low high ∙ field-all x (high + low) h
+
 -- each piece fits its width
 abbrev pub Fit : List (ℕ × ℕ) → Type 0
 Fit [] = Unit {0}
