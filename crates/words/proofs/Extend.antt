@@ -2,8 +2,8 @@
 -- Assumes nothing.
 use mathlib.Core.Path.{_≡_, refl, sym, ap, ap₂, _∙_}
 use mathlib.Core.Bool.{Bool, true, false}
-use Prim.Native.Nat.{ℕ, suc, _+_, _-_, _*_, _/_, _%_, _^_, _<_, _≤_}
-use native.Mathlib.Nat.{mod-eq-of-lt, one-mul, zero-mul, add-mul-mod-self-right, sub-add-cancel, div-one, lt-of-lt-of-le, le-of-lt}
+use Prim.Native.Nat.{ℕ, suc, _+_, _-_, _*_, _%_, _^_, _<_, _≤_}
+use native.Mathlib.Nat.{mod-eq-of-lt, one-mul, add-mul-mod-self-right, sub-add-cancel, div-one, lt-of-lt-of-le, le-of-lt}
 use native.Mathlib.Omega.{arith}
 use lib.Dec.{ltb}
 use lib.Pow.{pow-pos, pow-mono, pow-add, pow-lt, high-ones}

@@ -1,0 +1,9 @@
+pub mod Tests
+pub mod Tables
+pub mod Named
+pub mod Words
+pub mod Formats
+pub mod DecodeEncode
+pub mod EncodeDecode
+pub mod RoundTrip
+pub mod Cases
