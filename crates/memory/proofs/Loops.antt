@@ -1,0 +1,77 @@
+-- What the loops over the bytes of an access find is what the definitions ask.
+-- Assumes nothing.
+use mathlib.Core.Path.{_≡_, refl, sym, ap, _∙_}
+use mathlib.Core.Bool.{Bool, true, false, cond, _&&_, _||_}
+use mathlib.Core.List.{List, [], _∷_}
+use Prim.Native.Nat.{ℕ, _<_, _≤_, _^_}
+use native.Mathlib.Omega.{arith}
+use lib.Dec.{eqb, ltb}
+use lib.Bits.{bitAnd}
+use lib.IntN.{pos, _+ℤ_}
+use borrow.Author.Tests.{ne-eqb, lt-ltb, le-ltb}
+use Rattle.words.specs.Word.{signed}
+use Rattle.model.specs.Machine.{region}
+use Rattle.model.specs.Regions.{permits, implicitRule, matches, firstMatch, granting, implicitGrants, below, explicitRule, explicitGrants}
+use Rattle.model.specs.Bytes.{byteOf}
+use Rattle.model.specs.Access.{Access, implicitAccess, firstRefused, verdict}
+use Rattle.model.specs.declared.Region.{Region}
+use Rattle.model.specs.declared.Verdict.{Verdict}
+use Rattle.model.specs.declared.Verdict.the-variants.{Refused}
+use Rattle.model.proofs.Scan.{scan-same}
+use Rattle.model.proofs.Offset.{below-word}
+use Rattle.model.proofs.Intervals.{explicit-ends}
+use Rattle.memory.specs.Loops.{implicitRefused, presenceOf}
+use Rattle.memory.proofs.Truth.{implicit-once, explicit-once}
+
+-- the test of the loop over an implicit region
+pub implicit-asked : (mode : ℕ) (r : Region) (permission a i : ℕ) {rule permitted : Bool} {at : ℕ}
+    → rule ≡ implicitRule r → permitted ≡ permits permission r → at ≡ byteOf a i
+    → (eqb mode 0 || ((rule && permitted) && eqb (bitAnd at (r .bound)) (r .base)))
+    ≡ cond (eqb mode 0) true (matches r (byteOf a i) && permits permission r)
+unfolding matches
+implicit-asked mode r permission a i p q e =
+    rw (p, q, e) (implicit-once (eqb mode 0) (implicitRule r) (permits permission r) (eqb (bitAnd (byteOf a i) (r .bound)) (r .base)))
+
+-- the test of the loop over an explicit region
+pub explicit-asked : (mode : ℕ) (r : Region) (permission offset i : ℕ) {rule permitted : Bool} {at : ℕ}
+    → rule ≡ explicitRule r → permitted ≡ permits permission r → at ≡ byteOf offset i → offset < 2 ^ 64 → i < 8
+    → (eqb mode 0 || ((rule && permitted) && ltb at (r .bound)))
+    ≡ cond (eqb mode 0) true (explicitGrants r permission (signed 64 offset) i)
+unfolding explicitGrants
+explicit-asked mode r permission offset i p q e h l =
+    rw (p, q, e)
+    (explicit-once (eqb mode 0) (explicitRule r) (permits permission r) (ltb (byteOf offset i) (r .bound)) (below (signed 64 offset +ℤ pos i) (r .bound))
+    (λ t. sym (below-word offset i (r .bound) h (omega arith) (omega (arith, explicit-ends r t .1)))))
+
+-- where one implicit region decides, it matches the byte and permits it
+one-grants : (rs : List Region) (n b a : ℕ) → 0 < n → implicitGrants rs (n ∷ []) b a ≡ (matches (region rs n) a && permits b (region rs n))
+unfolding implicitGrants firstMatch
+one-grants rs n b a h = go (matches (region rs n) a)
+  where
+    go : (m : Bool) → granting rs b (cond m n 0) ≡ (m && permits b (region rs n))
+    go true = rw (ne-eqb n 0 (λ e. omega arith)) refl
+    go false = refl
+
+pub one-refused : (mode : ℕ) (rs : List Region) (n permission a count : ℕ) {i : ℕ} → 0 < n → i ≡ implicitRefused mode (region rs n) permission a count
+    → i ≡ firstRefused mode (implicitAccess rs (n ∷ []) permission a count)
+unfolding firstRefused
+one-refused mode rs n permission a count h e =
+    e ∙ scan-same _ _ count 0 (λ j p q. ap (cond (eqb mode 0) true) (sym (one-grants rs n permission (byteOf a j) h)))
+
+-- and it is the fault region of a byte that it matches
+pub one-blamed : (rs : List Region) (n a : ℕ) {at : ℕ} {matched t : Bool} → matched ≡ matches (region rs n) at → at ≡ a → matched ≡ t
+    → cond t n 0 ≡ firstMatch rs (n ∷ []) a
+unfolding firstMatch
+one-blamed rs n a e p q = ap (λ (b : Bool). cond b n 0) (sym q ∙ e ∙ ap (matches (region rs n)) p)
+
+-- ---- the verdict, from what the loops find
+
+pub refused-verdict : (mode length : ℕ) (a : Access) {i at blamed : ℕ} → i ≡ firstRefused mode a → i < a .count
+    → at ≡ byteOf (a .first) i → blamed ≡ a .blames i → Refused at blamed ≡ verdict mode length a
+unfolding verdict
+refused-verdict mode length a {i} e p q b = rw (← e) (rw (lt-ltb i (a .count) p, q, b) refl)
+
+pub granted-verdict : (mode length : ℕ) (a : Access) {i : ℕ} {v : Verdict} → i ≡ firstRefused mode a → a .count ≤ i
+    → v ≡ presenceOf length (a .first) (a .count) → v ≡ verdict mode length a
+unfolding verdict
+granted-verdict mode length a {i} e p q = rw (← e) (rw (le-ltb i (a .count) p) q)

@@ -1,0 +1,30 @@
+-- Laws of the code's tests as Bools.
+-- Assumes nothing.
+use mathlib.Core.Path.{_≡_, refl, sym, _∙_}
+use mathlib.Core.Bool.{Bool, true, false, cond, _&&_, _||_, and-true, and-false}
+use Prim.Native.Nat.{ℕ, _≤_}
+use lib.Dec.{leb}
+use borrow.Author.Tests.{leb-true, le-leb}
+
+-- two orders that say the same
+pub same-order : (m n p q : ℕ) → (m ≤ n → p ≤ q) → (p ≤ q → m ≤ n) → leb m n ≡ leb p q
+same-order m n p q f g = go (leb m n) (leb p q) refl refl
+  where
+    go : (a b : Bool) → leb m n ≡ a → leb p q ≡ b → leb m n ≡ leb p q
+    go true b e d = e ∙ sym (le-leb p q (f (leb-true m n e)))
+    go false true e d = le-leb m n (g (leb-true p q d)) ∙ sym d
+    go false false e d = e ∙ sym d
+
+-- the rule and the permission are asked once, before the loop over the bytes
+pub implicit-once : (m rule permitted here : Bool) → (m || ((rule && permitted) && here)) ≡ cond m true ((rule && here) && permitted)
+implicit-once true rule permitted here = refl
+implicit-once false false permitted here = refl
+implicit-once false true true here = sym (and-true here)
+implicit-once false true false here = sym (and-false here)
+
+pub explicit-once : (m rule permitted here inside : Bool) → (rule ≡ true → here ≡ inside)
+    → (m || ((rule && permitted) && here)) ≡ cond m true (rule && (permitted && inside))
+explicit-once true rule permitted here inside h = refl
+explicit-once false false permitted here inside h = refl
+explicit-once false true true here inside h = h refl
+explicit-once false true false here inside h = refl

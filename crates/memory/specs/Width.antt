@@ -1,0 +1,10 @@
+-- The widths of an access in bytes.
+-- Assumes nothing.
+use mathlib.Core.Path.{_≡_}
+use mathlib.Core.Bool.{true}
+use mathlib.Core.List.{[], _∷_}
+use Prim.Native.Nat.{ℕ}
+use Rattle.model.specs.Regions.{among}
+
+abbrev pub IsWidth : ℕ → Type 0
+IsWidth n = among n (1 ∷ 2 ∷ 4 ∷ 8 ∷ []) ≡ true

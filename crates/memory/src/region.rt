@@ -1,0 +1,97 @@
+// One region: its rule, its permissions and the bytes that it matches.
+ghost use mathlib.Core.Path.{_≡_};
+ghost use Prim.Native.Nat.{_+_, _^_, _<_};
+ghost use lib.Dec.{leb};
+ghost use Rattle.model.specs.Regions.{kindOf, permissionBits, permits as isPermitted, permissionFits, maskZeros, implicitRule, smallRule, largeRule, explicitRule, matches as isMatched};
+use model::Region;
+
+// Does region `r` have permission bit `b`?
+pub fn permits(b: u64, r: Region) -> bool
+    requires { ⌜ b < 64 ⌝ }
+    ensures { λ q. ⌜ q ≡ isPermitted b r ⌝ }
+{
+    words::bits(r.permission, b, 1) == 1
+}
+
+// The permission bits that region `n` has.
+fn permission_bits(n: u64) -> u64
+    ensures { λ q. ⌜ q ≡ permissionBits (kindOf n) ⌝ }
+{
+    match n {
+        1 => 0b1011,
+        2 => 0b0011,
+        _ => 0b0100,
+    }
+}
+
+// Has `p` no permission bit that region `n` lacks?
+pub fn permission_fits(n: u64, p: u64) -> bool
+    ensures { λ q. ⌜ q ≡ permissionFits n p ⌝ }
+{
+    (p & permission_bits(n)) == p
+}
+
+// The count of the mask's trailing zero bits.
+fn mask_zeros(mask: u64) -> u64
+    ensures { λ q. ⌜ q ≡ maskZeros mask ⌝ }
+{
+    u64::trailing_zeros(mask) as u64
+}
+
+// Does an implicit region keep its rule?
+pub fn implicit_rule(r: Region) -> bool
+    ensures { λ q. ⌜ q ≡ implicitRule r ⌝ }
+{
+    let k = mask_zeros(r.bound);
+    if 48 < k {
+        return false;
+    }
+    let low = (1u64 << k) - 1;
+    (r.bound == !low) & (((r.base & low) == 0) & (r.base <= 0x1_0000_0000_0000 - (low + 1)))
+}
+
+// The first and last byte of an explicit region lie below 2^48.
+fn ends_low(r: Region) -> bool
+    ensures { λ q. ⌜ q ≡ leb (r .base + r .bound) (2 ^ 48) ⌝ }
+{
+    if r.bound <= 0x1_0000_0000_0000 {
+        r.base <= 0x1_0000_0000_0000 - r.bound
+    } else {
+        false
+    }
+}
+
+fn small_rule(r: Region) -> bool
+    ensures { λ q. ⌜ q ≡ smallRule r ⌝ }
+{
+    if (1 <= r.bound) & ((r.bound <= 0x1_0000_0000) & ends_low(r)) {
+        (r.base >> 32) == ((r.base + (r.bound - 1)) >> 32)
+    } else {
+        false
+    }
+}
+
+fn large_rule(r: Region) -> bool
+    ensures { λ q. ⌜ q ≡ largeRule r ⌝ }
+{
+    (words::bits(r.base, 0, 16) == 0)
+        & ((words::bits(r.bound, 0, 16) == 0) & ((r.bound != 0) & ends_low(r)))
+}
+
+// Does an explicit region keep its rule?
+pub fn explicit_rule(r: Region) -> bool
+    ensures { λ q. ⌜ q ≡ explicitRule r ⌝ }
+{
+    if permits(3, r) {
+        large_rule(r)
+    } else {
+        small_rule(r)
+    }
+}
+
+// Does the implicit region match the byte at `a`?
+pub fn matches(r: Region, a: u64) -> bool
+    ensures { λ q. ⌜ q ≡ isMatched r a ⌝ }
+{
+    implicit_rule(r) & ((a & r.bound) == r.base)
+}

@@ -1,0 +1,10 @@
+pub mod Scan
+pub mod Cleared
+pub mod Bytes
+pub mod Offset
+pub mod Intervals
+pub mod Cases
+pub mod Isolation
+pub mod Reach
+pub mod Runs
+pub mod WellKept

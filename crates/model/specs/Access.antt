@@ -1,0 +1,116 @@
+-- One access: its bytes, what the regions say to each, and the questions that all of them are asked before any is touched.
+-- Assumes nothing.
+use mathlib.Core.Bool.{Bool, true, cond}
+use mathlib.Core.List.{List}
+use Prim.Native.Nat.{ℕ, zero, suc, _+_, _%_, _^_}
+use lib.Dec.{eqb, ltb}
+use lib.IntN.{ℤ, pos, _+ℤ_}
+use Rattle.words.specs.Word.{signed, word}
+use Rattle.instructions.specs.declared.kind.LoadKind.{LoadKind}
+use Rattle.instructions.specs.declared.kind.LoadKind.the-variants.{Lb, Lh, Lw, Ld, Lbu, Lhu, Lwu}
+use Rattle.instructions.specs.declared.kind.StoreKind.{StoreKind}
+use Rattle.instructions.specs.declared.kind.StoreKind.the-variants.{Sb, Sh, Sw, Sd}
+use Rattle.model.specs.Machine.{sum, reg, region}
+use Rattle.model.specs.Regions.{read, write, execute, dataRegions, codeRegions, firstMatch, implicitGrants, explicitGrants}
+use Rattle.model.specs.Bytes.{byteOf}
+use Rattle.model.specs.declared.Region.{Region}
+use Rattle.model.specs.declared.Verdict.{Verdict}
+use Rattle.model.specs.declared.Verdict.the-variants.{Passed, Refused, Absent}
+
+pub record Access : Type 0 where
+  -- the address of byte 0, and the count of bytes
+  pub first : ℕ
+  pub count : ℕ
+  -- byte i passes its region, in HFI mode; and the fault region where it does not
+  pub grants : ℕ → Bool
+  pub blames : ℕ → ℕ
+
+-- ---- the accesses that there are
+
+-- n bytes from a on, which the implicit regions numbered ns decide
+abbrev pub implicitAccess : List Region → List ℕ → ℕ → ℕ → ℕ → Access
+implicitAccess rs ns permission a n =
+    record {
+      first = a;
+      count = n;
+      grants = λ i. implicitGrants rs ns permission (byteOf a i);
+      blames = λ i. firstMatch rs ns (byteOf a i);
+    }
+
+-- "A fetch asks region 3"
+abbrev pub fetchAccess : List Region → ℕ → Access
+fetchAccess rs pc = implicitAccess rs codeRegions execute pc 4
+
+-- "an ordinary load or store region 2"
+abbrev pub dataAccess : List Region → ℕ → ℕ → ℕ → Access
+dataAccess rs permission a n = implicitAccess rs dataRegions permission a n
+
+-- "an h-load or h-store region 1 only .. The address is base + offset + i, modulo 2^64. .. Its fault region is 1 for explicit"
+abbrev pub explicitAccess : List Region → ℕ → ℕ → ℤ → ℕ → Access
+explicitAccess rs n permission offset count =
+    record {
+      first = word 64 (pos (region rs n .base) +ℤ offset);
+      count = count;
+      grants = explicitGrants (region rs n) permission offset;
+      blames = λ i. n;
+    }
+
+-- ---- the accesses of the instructions
+
+abbrev pub loadWidth : LoadKind → ℕ
+loadWidth Lb = 1
+loadWidth Lh = 2
+loadWidth Lw = 4
+loadWidth Ld = 8
+loadWidth Lbu = 1
+loadWidth Lhu = 2
+loadWidth Lwu = 4
+
+abbrev pub storeWidth : StoreKind → ℕ
+storeWidth Sb = 1
+storeWidth Sh = 2
+storeWidth Sw = 4
+storeWidth Sd = 8
+
+-- the effective address of an ordinary load or store
+abbrev pub address : List ℕ → ℕ → ℕ → ℕ
+address x rs1 imm = sum (reg x rs1) imm
+
+-- "rs1 is ignored, though the instruction carries the field: the offset is the signed 12-bit immediate"
+abbrev pub offset : List ℕ → ℕ → ℕ → ℤ
+offset x rs1 imm = signed 64 imm
+
+abbrev pub loadAccess : List Region → List ℕ → LoadKind → ℕ → ℕ → Access
+loadAccess rs x k rs1 imm = dataAccess rs read (address x rs1 imm) (loadWidth k)
+
+abbrev pub storeAccess : List Region → List ℕ → StoreKind → ℕ → ℕ → Access
+storeAccess rs x k rs1 imm = dataAccess rs write (address x rs1 imm) (storeWidth k)
+
+abbrev pub hloadAccess : List Region → List ℕ → LoadKind → ℕ → ℕ → Access
+hloadAccess rs x k rs1 imm = explicitAccess rs 1 read (offset x rs1 imm) (loadWidth k)
+
+abbrev pub hstoreAccess : List Region → List ℕ → StoreKind → ℕ → ℕ → Access
+hstoreAccess rs x k rs1 imm = explicitAccess rs 1 write (offset x rs1 imm) (storeWidth k)
+
+-- ---- the questions
+
+-- the first of the k places from i on at which the test fails, or the place after them
+unfoldable pub scan : (ℕ → Bool) → ℕ → ℕ → ℕ
+scan ok i zero = i
+scan ok i (suc k) = cond (ok i) (scan ok (suc i) k) i
+
+-- "Outside HFI mode regions are not consulted. In HFI mode each byte is judged singly."
+unfoldable pub firstRefused : ℕ → Access → ℕ
+firstRefused mode a = scan (λ i. cond (eqb mode 0) true (a .grants i)) 0 (a .count)
+
+-- the memory has `length` bytes
+unfoldable pub firstAbsent : ℕ → ℕ → ℕ → ℕ
+firstAbsent length first count = scan (λ i. ltb (byteOf first i) length) 0 count
+
+-- every byte is granted, and then every byte is in memory
+unfoldable pub verdict : ℕ → ℕ → Access → Verdict
+verdict mode length a =
+    let i = firstRefused mode a in
+    let j = firstAbsent length (a .first) (a .count) in
+    cond (ltb i (a .count)) (Refused (byteOf (a .first) i) (a .blames i))
+    (cond (ltb j (a .count)) (Absent (byteOf (a .first) j)) Passed)

@@ -1,0 +1,39 @@
+-- Demand 3, as one claim about whole runs: the run call that demand 2 defines, refused runs and the leaving step included.
+-- Quotations here are of the demand, and of document 01, "What demand 3 compares".
+-- Assumes nothing.
+use mathlib.Core.Path.{_≡_}
+use mathlib.Core.List.{List}
+use Prim.Native.Nat.{ℕ}
+use lib.ListN.{length, getD}
+use Rattle.words.specs.Word.{field}
+use Rattle.model.specs.Reach.{Readable, Writable, Executable}
+use Rattle.model.specs.Run.{runCall}
+use Rattle.model.specs.declared.HfiState.{HfiState}
+use Rattle.model.specs.declared.Machine.{Machine}
+
+-- "any machine in HFI mode with regions locked": "Regions are locked when option bit 0 is set."
+pub record Locked (m : Machine) : Type 0 where
+  pub mode : m .hfi .mode ≡ 1
+  pub lock : field (m .hfi .options) 0 1 ≡ 1
+
+-- "any two memories of one length that agree wherever the recipe may read or execute", "judged by the regions of the
+-- machine its run starts from"
+pub record Agree (m : Machine) (s t : List ℕ) : Type 0 where
+  pub long : length s ≡ length t
+  pub readable : (a : ℕ) → Readable (m .hfi .regions) a → getD s a 0 ≡ getD t a 0
+  pub executable : (a : ℕ) → Executable (m .hfi .regions) a → getD s a 0 ≡ getD t a 0
+
+pub record Isolated (m : Machine) (s t : List ℕ) (budget : ℕ) : Type 0 where
+  -- "both runs give the same stop, count, address and final machine (fault record included)"
+  pub answers : runCall m s budget .result ≡ runCall m t budget .result
+  -- "Each run has its own memory, compared at every address in it": neither memory changes its length
+  pub long : (length (runCall m s budget .memory) ≡ length s) × (length (runCall m t budget .memory) ≡ length t)
+  -- "every byte that agreed at the start agrees at the end"
+  pub agreeing : (a : ℕ) → getD s a 0 ≡ getD t a 0 → getD (runCall m s budget .memory) a 0 ≡ getD (runCall m t budget .memory) a 0
+  -- "no byte that the recipe may not write has changed", in either run
+  pub unwritten : (a : ℕ) → (Writable (m .hfi .regions) a → ⊥)
+      → (getD (runCall m s budget .memory) a 0 ≡ getD s a 0) × (getD (runCall m t budget .memory) a 0 ≡ getD t a 0)
+
+-- "for every budget and every stop"
+abbrev pub Isolation : Type 0
+Isolation = (m : Machine) (s t : List ℕ) (budget : ℕ) → Locked m → Agree m s t → Isolated m s t budget

@@ -1,0 +1,12 @@
+pub mod Machine
+pub mod Regions
+pub mod WellFormed
+pub mod Bytes
+pub mod Access
+pub mod Reach
+pub mod Arithmetic
+pub mod Outcome
+pub mod Hfi
+pub mod Step
+pub mod Run
+pub mod Isolation

@@ -1,0 +1,141 @@
+-- Reading and changing the parts of the machine.
+-- Assumes nothing.
+use mathlib.Core.Bool.{Bool, false, cond}
+use mathlib.Core.List.{List, [], _∷_}
+use Prim.Native.Nat.{ℕ, _+_, _-_, _%_, _^_}
+use lib.Dec.{eqb}
+use lib.ListN.{getD, set}
+use Rattle.words.specs.Word.{field}
+use Rattle.model.specs.declared.Region.{Region}
+use Rattle.model.specs.declared.Fault.{Fault}
+use Rattle.model.specs.declared.HfiState.{HfiState}
+use Rattle.model.specs.declared.Machine.{Machine}
+
+-- "Sums of addresses and registers are taken modulo 2^64."
+abbrev pub sum : ℕ → ℕ → ℕ
+sum a b = (a + b) % 2 ^ 64
+
+-- register i
+abbrev pub reg : List ℕ → ℕ → ℕ
+reg x i = getD x i 0
+
+-- the registers with v in register i; x0 stays 0
+abbrev pub setReg : List ℕ → ℕ → ℕ → List ℕ
+setReg x i v = cond (eqb i 0) x (set x i v)
+
+-- bit n of a number that holds bits
+abbrev pub bit : ℕ → ℕ → Bool
+bit n x = eqb (field x n 1) 1
+
+-- ---- options and mode
+
+-- in HFI mode
+abbrev pub inside : HfiState → Bool
+inside h = eqb (h .mode) 1
+
+-- "Options: bit 0 lock regions, bit 1 redirect system calls, bit 2 redirect exits"; bit 3 has no effect. Locking and the
+-- redirection of calls are asked only in HFI mode, so the mode is part of both; an exit is in HFI mode anyway.
+abbrev pub locked : HfiState → Bool
+locked h = cond (inside h) (bit 0 (h .options)) false
+
+abbrev pub redirectsCalls : HfiState → Bool
+redirectsCalls h = cond (inside h) (bit 1 (h .options)) false
+
+abbrev pub redirectsExits : HfiState → Bool
+redirectsExits h = bit 2 (h .options)
+
+-- ---- regions by number, from 1 on; question 8 sees to it that no instruction asks for number 0
+
+abbrev pub noRegion : Region
+noRegion = record { base = 0; bound = 0; permission = 0 }
+
+abbrev pub region : List Region → ℕ → Region
+region rs n = getD rs (n - 1) noRegion
+
+abbrev pub setRegion : List Region → ℕ → Region → List Region
+setRegion rs n r = set rs (n - 1) r
+
+abbrev pub withBase : Region → ℕ → Region
+withBase r v = record { base = v; bound = r .bound; permission = r .permission }
+
+abbrev pub withBound : Region → ℕ → Region
+withBound r v = record { base = r .base; bound = v; permission = r .permission }
+
+abbrev pub withPermission : Region → ℕ → Region
+withPermission r v = record { base = r .base; bound = r .bound; permission = v }
+
+-- "Reset zeroes regions": all of them
+abbrev pub zeroRegions : List Region
+zeroRegions = noRegion ∷ noRegion ∷ noRegion ∷ []
+
+-- ---- the HFI state, changed in some fields
+
+-- "Enter: mode 1, options stored, occurred cleared."
+abbrev pub entered : HfiState → ℕ → HfiState
+entered h options =
+    record {
+      mode = 1;
+      reason = h .reason;
+      epc = h .epc;
+      options = options;
+      handler = h .handler;
+      selector = h .selector;
+      regions = h .regions;
+      fault = record { occurred = 0; region = h .fault .region; op = h .fault .op; address = h .fault .address };
+    }
+
+-- "mode 0, reason .., exit pc is this pc"
+abbrev pub left : HfiState → ℕ → ℕ → HfiState
+left h reason pc =
+    record {
+      mode = 0;
+      reason = reason;
+      epc = pc;
+      options = h .options;
+      handler = h .handler;
+      selector = h .selector;
+      regions = h .regions;
+      fault = h .fault;
+    }
+
+abbrev pub withHandler : HfiState → ℕ → HfiState
+withHandler h v =
+    record {
+      mode = h .mode;
+      reason = h .reason;
+      epc = h .epc;
+      options = h .options;
+      handler = v;
+      selector = h .selector;
+      regions = h .regions;
+      fault = h .fault;
+    }
+
+abbrev pub withRegions : HfiState → ℕ → List Region → HfiState
+withRegions h selector rs =
+    record {
+      mode = h .mode;
+      reason = h .reason;
+      epc = h .epc;
+      options = h .options;
+      handler = h .handler;
+      selector = selector;
+      regions = rs;
+      fault = h .fault;
+    }
+
+abbrev pub withFault : HfiState → Fault → HfiState
+withFault h f =
+    record {
+      mode = h .mode;
+      reason = h .reason;
+      epc = h .epc;
+      options = h .options;
+      handler = h .handler;
+      selector = h .selector;
+      regions = h .regions;
+      fault = f;
+    }
+
+abbrev pub machine : List ℕ → ℕ → HfiState → Machine
+machine x pc h = record { x = x; pc = pc; hfi = h }

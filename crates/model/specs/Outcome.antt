@@ -1,0 +1,55 @@
+-- What a step answers, and the memory that it leaves.
+-- Assumes nothing.
+use mathlib.Core.Bool.{cond}
+use mathlib.Core.List.{List}
+use Prim.Native.Nat.{ℕ, _%_}
+use lib.Dec.{eqb}
+use Rattle.model.specs.Machine.{setReg, withFault, machine}
+use Rattle.model.specs.declared.Machine.{Machine}
+use Rattle.model.specs.declared.Verdict.{Verdict}
+use Rattle.model.specs.declared.Verdict.the-variants.{Passed, Refused, Absent}
+use Rattle.model.specs.declared.Stepped.{Stepped}
+
+pub record Outcome : Type 0 where
+  pub result : Stepped
+  pub memory : List ℕ
+
+abbrev pub outcome : ℕ → ℕ → Machine → List ℕ → Outcome
+outcome stop address m mem = record { result = record { stop = stop; address = address; machine = m }; memory = mem }
+
+-- "A completed step answers 0"
+abbrev pub completed : Machine → List ℕ → Outcome
+completed m mem = outcome 0 0 m mem
+
+-- "For 10 to 19 the stopping step .. changes nothing"; 12 and 17 alone give an address
+abbrev pub stopped : ℕ → Machine → List ℕ → Outcome
+stopped stop m mem = outcome stop 0 m mem
+
+-- the machine with v in rd, and pc after the instruction
+abbrev pub assigned : Machine → ℕ → ℕ → ℕ → Machine
+assigned m next rd v = machine (setReg (m .x) rd v) next (m .hfi)
+
+-- the machine as it was, but for pc
+abbrev pub moved : Machine → ℕ → Machine
+moved m next = machine (m .x) next (m .hfi)
+
+-- ---- questions that lead to a stop, or to what `next` says
+
+-- question 8, by its number: 0 where HFI allows the instruction
+unfoldable pub allowed : Machine → List ℕ → ℕ → Outcome → Outcome
+allowed m mem forbidden next = cond (eqb forbidden 0) next (stopped forbidden m mem)
+
+-- question 9: "Is the target .. a multiple of 4? No: 15."
+unfoldable pub aligned : Machine → List ℕ → ℕ → Outcome → Outcome
+aligned m mem target next = cond (eqb (target % 4) 0) next (stopped 15 m mem)
+
+-- "11 and 16 write the fault record"
+abbrev pub faulted : Machine → ℕ → ℕ → ℕ → Machine
+faulted m op at region =
+    machine (m .x) (m .pc) (withFault (m .hfi) (record { occurred = 1; region = region; op = op; address = at }))
+
+-- questions 5 and 6, or 10 and 11, by the verdict on the access: the number `refused`, or the number `absent` with its address
+unfoldable pub settle : Machine → List ℕ → ℕ → ℕ → ℕ → Verdict → Outcome → Outcome
+settle m mem op refused absent (Refused at region) next = stopped refused (faulted m op at region) mem
+settle m mem op refused absent (Absent at) next = outcome absent at m mem
+settle m mem op refused absent Passed next = next

@@ -1,0 +1,125 @@
+-- Document 01, "Regions": each kind's rule, which bytes a region matches, and which region decides.
+-- Assumes nothing.
+use mathlib.Core.Bool.{Bool, true, false, cond, not, _&&_}
+use mathlib.Core.List.{List, [], _∷_}
+use Prim.Native.Nat.{ℕ, _+_, _-_, _/_, _%_, _^_}
+use lib.Dec.{eqb, leb, ltb}
+use lib.Bits.{bitAnd}
+use lib.Count.{trailingZeros}
+use lib.IntN.{ℤ, pos, _+ℤ_}
+use lib.Signed.{leZ, ltZ}
+use Rattle.model.specs.Machine.{bit, region}
+use Rattle.model.specs.declared.Region.{Region}
+
+-- ---- kinds by number: "Region 1 is explicit data .. Region 2 is implicit data .. Region 3 is implicit code .."
+
+pub data Kind : Type 0 where
+  explicit : Kind
+  implicitData : Kind
+  implicitCode : Kind
+
+abbrev pub explicitRegions : List ℕ
+explicitRegions = 1 ∷ []
+
+abbrev pub dataRegions : List ℕ
+dataRegions = 2 ∷ []
+
+abbrev pub codeRegions : List ℕ
+codeRegions = 3 ∷ []
+
+-- the highest number of a region
+abbrev pub lastRegion : ℕ
+lastRegion = 3
+
+abbrev pub among : ℕ → List ℕ → Bool
+among n [] = false
+among n (k ∷ ks) = cond (eqb n k) true (among n ks)
+
+abbrev pub kindOf : ℕ → Kind
+kindOf n = cond (among n explicitRegions) explicit (cond (among n dataRegions) implicitData implicitCode)
+
+-- ---- permissions: bit numbers, and the bits that a kind has
+
+abbrev pub read : ℕ
+read = 0
+
+abbrev pub write : ℕ
+write = 1
+
+abbrev pub execute : ℕ
+execute = 2
+
+abbrev pub large : ℕ
+large = 3
+
+abbrev pub permits : ℕ → Region → Bool
+permits b r = bit b (r .permission)
+
+-- "explicit data (bits 0, 1, 3) .. implicit data (bits 0, 1) .. implicit code (bit 2)"
+abbrev pub permissionBits : Kind → ℕ
+permissionBits explicit = 0b1011
+permissionBits implicitData = 0b0011
+permissionBits implicitCode = 0b0100
+
+-- a permission with no bit that region n lacks
+abbrev pub permissionFits : ℕ → ℕ → Bool
+permissionFits n p = eqb (bitAnd p (permissionBits (kindOf n))) p
+
+-- ---- the rules; sums are whole numbers, which do not wrap
+
+-- "the count k of the mask's trailing zero bits is 0 to 48, the bits above them are all ones, base is a multiple of 2^k,
+-- and base + 2^k is at most 2^48"
+abbrev pub implicitRuleAt : ℕ → ℕ → ℕ → Bool
+implicitRuleAt k base mask =
+    leb k 48 && (eqb mask (2 ^ 64 - 2 ^ k) && (eqb (base % 2 ^ k) 0 && leb (base + 2 ^ k) (2 ^ 48)))
+
+abbrev pub maskZeros : ℕ → ℕ
+maskZeros mask = trailingZeros 64 mask
+
+abbrev pub implicitRule : Region → Bool
+implicitRule r = implicitRuleAt (maskZeros (r .bound)) (r .base) (r .bound)
+
+-- "bound is 1 to 2^32, first and last byte share the same multiple of 2^32, base + bound is at most 2^48"
+abbrev pub smallRule : Region → Bool
+smallRule r =
+    leb 1 (r .bound) && (leb (r .bound) (2 ^ 32)
+    && (eqb (r .base / 2 ^ 32) ((r .base + r .bound - 1) / 2 ^ 32) && leb (r .base + r .bound) (2 ^ 48)))
+
+-- "base and bound are multiples of 65,536, bound is not 0, base + bound is at most 2^48"
+abbrev pub largeRule : Region → Bool
+largeRule r =
+    eqb (r .base % 65536) 0 && (eqb (r .bound % 65536) 0
+    && (not (eqb (r .bound) 0) && leb (r .base + r .bound) (2 ^ 48)))
+
+unfoldable pub explicitRule : Region → Bool
+explicitRule r = cond (permits large r) (largeRule r) (smallRule r)
+
+-- ---- implicit regions
+
+-- "A byte matches when its address, and-ed with the mask, equals base"; "a region that breaks its rule .. matches nothing"
+unfoldable pub matches : Region → ℕ → Bool
+matches r a = implicitRule r && eqb (bitAnd a (r .bound)) (r .base)
+
+-- the lowest-numbered region of the list that matches the byte at a, or 0. It is also the fault region of a refused byte:
+-- "the region that matched without permission, or 0 if none matched"
+unfoldable pub firstMatch : List Region → List ℕ → ℕ → ℕ
+firstMatch rs [] a = 0
+firstMatch rs (n ∷ ns) a = cond (matches (region rs n) a) n (firstMatch rs ns a)
+
+-- whether the region that decides permits it
+abbrev pub granting : List Region → ℕ → ℕ → Bool
+granting rs b n = not (eqb n 0) && permits b (region rs n)
+
+unfoldable pub implicitGrants : List Region → List ℕ → ℕ → ℕ → Bool
+implicitGrants rs ns b a = granting rs b (firstMatch rs ns a)
+
+-- ---- explicit regions
+
+-- "at least 0 and below the bound"
+abbrev pub below : ℤ → ℕ → Bool
+below z bound = leZ (pos 0) z && ltZ z (pos bound)
+
+-- "byte i passes when region 1 keeps its rule, has the read or write permission wanted, and offset + i is at least 0 and
+-- below the bound"
+unfoldable pub explicitGrants : Region → ℕ → ℤ → ℕ → Bool
+explicitGrants r b offset i = explicitRule r && (permits b r && below (offset +ℤ pos i) (r .bound))

@@ -1,0 +1,42 @@
+-- A run: steps until one of document 01's questions stops it.
+-- Assumes nothing.
+use mathlib.Core.Bool.{Bool, true, false, cond, not, _&&_}
+use mathlib.Core.List.{List}
+use Prim.Native.Nat.{ℕ, zero, suc}
+use lib.Dec.{eqb, ltb}
+use lib.ListN.{length}
+use Rattle.model.specs.Machine.{inside}
+use Rattle.model.specs.WellFormed.{wellFormed}
+use Rattle.model.specs.Step.{advance, longest}
+use Rattle.model.specs.declared.Machine.{Machine}
+use Rattle.model.specs.declared.Ran.{Ran}
+
+-- what a run answers, and the memory that it leaves
+pub record Ended : Type 0 where
+  pub result : Ran
+  pub memory : List ℕ
+
+abbrev pub ended : ℕ → ℕ → ℕ → Machine → List ℕ → Ended
+ended stop count address m mem =
+    record { result = record { stop = stop; count = count; address = address; machine = m }; memory = mem }
+
+-- with a budget of `left` steps still, after `count` completed steps of a run that began in HFI mode or not
+unfoldable pub run : Bool → ℕ → ℕ → Machine → List ℕ → Ended
+run began zero count m mem = ended 21 count 0 m mem
+run began (suc left) count m mem =
+    let o = advance m mem in
+    let goes-on = run began left (suc count) (o .result .machine) (o .memory) in
+    cond (eqb (o .result .stop) 0)
+    (cond (began && not (inside (o .result .machine .hfi))) (ended 20 (suc count) 0 (o .result .machine) (o .memory)) goes-on)
+    (ended (o .result .stop) count (o .result .address) (o .result .machine) (o .memory))
+
+-- "Is the budget at most 1,000,000?"
+abbrev pub largestBudget : ℕ
+largestBudget = 1000000
+
+-- questions 1, 2 and 3, then the run; "For 1 to 3 nothing changes and the count is 0."
+unfoldable pub runCall : Machine → List ℕ → ℕ → Ended
+runCall m mem budget =
+    cond (ltb longest (length mem)) (ended 1 0 0 m mem)
+    (cond (ltb largestBudget budget) (ended 2 0 0 m mem)
+    (cond (wellFormed m) (run (inside (m .hfi)) budget 0 m mem) (ended 3 0 0 m mem)))

@@ -1,0 +1,66 @@
+// The machine of document 01, as one record, and what the calls on it answer. Everything that document 01 says of the
+// machine is a definition in specs/; the theorems about these definitions are in proofs/. The code is in the crates above.
+//
+// Every number is 64 bits wide, so that a caller can hand in any wrong value and have it refused.
+
+// "A region has a 64-bit base, a 64-bit bound or mask, and permissions: bit 0 read, bit 1 write, bit 2 execute, bit 3 large".
+#[repr(C)]
+pub struct Region {
+    pub base: u64,
+    pub bound: u64,
+    pub permission: u64,
+}
+
+// "Fault record: occurred (0 or 1), region, op (0 none, 1 load, 2 store, 3 fetch), and the address".
+#[repr(C)]
+pub struct Fault {
+    pub occurred: u64,
+    pub region: u64,
+    pub op: u64,
+    pub address: u64,
+}
+
+// "HFI state: mode (0 or 1), exit reason (0 none, 1 hfiexit, 2 system call), exit pc, options (4 bits), exit handler,
+// selector, three regions, fault record". `epc` is the exit pc; region n stands at n - 1.
+#[repr(C)]
+pub struct HfiState {
+    pub mode: u64,
+    pub reason: u64,
+    pub epc: u64,
+    pub options: u64,
+    pub handler: u64,
+    pub selector: u64,
+    pub regions: [Region; 3],
+    pub fault: Fault,
+}
+
+// "Registers x0 to x31 and pc, 64 bits each."
+#[repr(C)]
+pub struct Machine {
+    pub x: [u64; 32],
+    pub pc: u64,
+    pub hfi: HfiState,
+}
+
+// What the regions and the memory's end say to the bytes of one access: all pass; one is refused, with its address and
+// its fault region; or all are granted and one is absent, with its address.
+pub enum Verdict {
+    Passed,
+    Refused(u64, u64),
+    Absent(u64),
+}
+
+// The answer of a step: document 01's number (0 for a completed step), the absent address of 12 and 17, and the machine.
+pub struct Stepped {
+    pub stop: u64,
+    pub address: u64,
+    pub machine: Machine,
+}
+
+// The answer of a run, with the count of completed steps.
+pub struct Ran {
+    pub stop: u64,
+    pub count: u64,
+    pub address: u64,
+    pub machine: Machine,
+}
