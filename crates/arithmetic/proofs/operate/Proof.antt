@@ -1,0 +1,126 @@
+use Rattle.model.specs.Arithmetic.{operate as operateAt}
+use native.Mathlib.Omega.{arith}
+use Prim.Native.Nat.{ℕ, _+_, _-_, _%_, _^_}
+use mathlib.Core.Path.{_≡_, sym, ap, _∙_}
+use borrow.Author.Needs.{needs}
+use Rattle.arithmetic.proofs.operate.Statement.{statement}
+use Rattle.arithmetic.proofs.operate.Tie as tie
+
+enum-told : tie.Need-enum-told
+enum-told c = search needs
+
+wrapping-add-u64-requires : tie.Need-wrapping-add-u64-requires
+wrapping-add-u64-requires c κs = search needs
+
+enum-told-2 : tie.Need-enum-told-2
+enum-told-2 c = search needs
+
+wrapping-sub-u64-requires : tie.Need-wrapping-sub-u64-requires
+wrapping-sub-u64-requires c κs = search needs
+
+enum-told-3 : tie.Need-enum-told-3
+enum-told-3 c = search needs
+
+shift-left-requires : tie.Need-shift-left-requires
+shift-left-requires c κs = search needs
+
+enum-told-4 : tie.Need-enum-told-4
+enum-told-4 c = search needs
+
+signed-less-requires : tie.Need-signed-less-requires
+signed-less-requires c κs = search needs
+
+flag-requires : tie.Need-flag-requires
+flag-requires c κs = search needs
+
+enum-told-5 : tie.Need-enum-told-5
+enum-told-5 c = search needs
+
+flag-requires-2 : tie.Need-flag-requires-2
+flag-requires-2 c κs = search needs
+
+enum-told-6 : tie.Need-enum-told-6
+enum-told-6 c = search needs
+
+enum-told-7 : tie.Need-enum-told-7
+enum-told-7 c = search needs
+
+shift-right-requires : tie.Need-shift-right-requires
+shift-right-requires c κs = search needs
+
+enum-told-8 : tie.Need-enum-told-8
+enum-told-8 c = search needs
+
+shift-right-sign-requires : tie.Need-shift-right-sign-requires
+shift-right-sign-requires c κs = search needs
+
+enum-told-9 : tie.Need-enum-told-9
+enum-told-9 c = search needs
+
+enum-told-10 : tie.Need-enum-told-10
+enum-told-10 c = search needs
+
+returns : tie.Need-returns
+returns c = cc
+
+returns-2 : tie.Need-returns-2
+returns-2 c = let a = c .before .before .before .args in
+    let e : c .wrapping-sub-u64 .result ≡ (a .a + (2 ^ 64 - a .b)) % 2 ^ 64 = omega arith in
+    e ∙ ap (λ k. operateAt 64 k (a .a) (a .b)) (sym (c .before .enum-told2 .given .1))
+
+returns-3 : tie.Need-returns-3
+returns-3 c = cc
+
+returns-4 : tie.Need-returns-4
+returns-4 c = cc
+
+returns-5 : tie.Need-returns-5
+returns-5 c = cc
+
+returns-6 : tie.Need-returns-6
+returns-6 c = cc
+
+returns-7 : tie.Need-returns-7
+returns-7 c = cc
+
+returns-8 : tie.Need-returns-8
+returns-8 c = cc
+
+returns-9 : tie.Need-returns-9
+returns-9 c = cc
+
+returns-10 : tie.Need-returns-10
+returns-10 c = cc
+
+pub operate-spec : {M : Type 1} → statement M
+operate-spec =
+    tie.close
+    (tie.spec
+    enum-told
+    wrapping-add-u64-requires
+    enum-told-2
+    wrapping-sub-u64-requires
+    enum-told-3
+    shift-left-requires
+    enum-told-4
+    signed-less-requires
+    flag-requires
+    enum-told-5
+    flag-requires-2
+    enum-told-6
+    enum-told-7
+    shift-right-requires
+    enum-told-8
+    shift-right-sign-requires
+    enum-told-9
+    enum-told-10
+    returns
+    returns-2
+    returns-3
+    returns-4
+    returns-5
+    returns-6
+    returns-7
+    returns-8
+    returns-9
+    returns-10)

@@ -1,0 +1,29 @@
+use Rattle.arithmetic.proofs.Word.{low-of-wrapped}
+use Rattle.words.specs.Word.{sext}
+use mathlib.Core.Path.{_≡_, ap, _∙_}
+use borrow.Author.Needs.{needs}
+use Rattle.arithmetic.proofs.shift_left_word.Statement.{statement}
+use Rattle.arithmetic.proofs.shift_left_word.Tie as tie
+
+bits-requires : tie.Need-bits-requires
+bits-requires c κs = search needs
+
+bits-requires-2 : tie.Need-bits-requires-2
+bits-requires-2 c κs = search needs
+
+shl-bits : tie.Need-shl-bits
+shl-bits c = search needs
+
+bits-requires-3 : tie.Need-bits-requires-3
+bits-requires-3 c κs = search needs
+
+sign-extend-requires : tie.Need-sign-extend-requires
+sign-extend-requires c κs = search needs
+
+returns : tie.Need-returns
+returns c = c .sign-extend .ensures ∙ ap (sext 32) (c .before .bits3 .ensures ∙ rw (c .before .before .before .bits .ensures, c .before .before .bits2 .ensures) (low-of-wrapped _))
+
+pub shift-left-word-spec : {M : Type 1} → statement M
+shift-left-word-spec =
+    tie.close
+    (tie.spec bits-requires bits-requires-2 shl-bits bits-requires-3 sign-extend-requires returns)

@@ -1,0 +1,228 @@
+use Rattle.model.specs.Hfi.{hfiPerform}
+use Rattle.model.specs.Machine.{machine}
+use mathlib.Core.Path.{sym, ap, _∙_}
+use borrow.Author.Needs.{needs}
+use Rattle.hfi.proofs.word.perform.Statement.{statement}
+use Rattle.hfi.proofs.word.perform.Tie as tie
+
+register-requires : tie.Need-register-requires
+register-requires c κs = search needs
+
+enum-told : tie.Need-enum-told
+enum-told c = search needs
+
+entered-requires : tie.Need-entered-requires
+entered-requires c κs = search needs
+
+completed-requires : tie.Need-completed-requires
+completed-requires c κs = search needs
+
+enum-told-2 : tie.Need-enum-told-2
+enum-told-2 c = search needs
+
+register-requires-2 : tie.Need-register-requires-2
+register-requires-2 c κs = search needs
+
+enter-jump-requires : tie.Need-enter-jump-requires
+enter-jump-requires c κs = search needs
+
+enum-told-3 : tie.Need-enum-told-3
+enum-told-3 c = search needs
+
+exit-requires : tie.Need-exit-requires
+exit-requires c κs = search needs
+
+enum-told-4 : tie.Need-enum-told-4
+enum-told-4 c = search needs
+
+with-selector-requires : tie.Need-with-selector-requires
+with-selector-requires c κs = search needs
+
+completed-requires-2 : tie.Need-completed-requires-2
+completed-requires-2 c κs = search needs
+
+enum-told-5 : tie.Need-enum-told-5
+enum-told-5 c = search needs
+
+with-base-requires : tie.Need-with-base-requires
+with-base-requires c κs = search needs
+
+completed-requires-3 : tie.Need-completed-requires-3
+completed-requires-3 c κs = search needs
+
+enum-told-6 : tie.Need-enum-told-6
+enum-told-6 c = search needs
+
+selected-requires : tie.Need-selected-requires
+selected-requires c κs = search needs
+
+answer-requires : tie.Need-answer-requires
+answer-requires c κs = search needs
+
+enum-told-7 : tie.Need-enum-told-7
+enum-told-7 c = search needs
+
+with-bound-requires : tie.Need-with-bound-requires
+with-bound-requires c κs = search needs
+
+completed-requires-4 : tie.Need-completed-requires-4
+completed-requires-4 c κs = search needs
+
+enum-told-8 : tie.Need-enum-told-8
+enum-told-8 c = search needs
+
+selected-requires-2 : tie.Need-selected-requires-2
+selected-requires-2 c κs = search needs
+
+answer-requires-2 : tie.Need-answer-requires-2
+answer-requires-2 c κs = search needs
+
+enum-told-9 : tie.Need-enum-told-9
+enum-told-9 c = search needs
+
+with-permission-requires : tie.Need-with-permission-requires
+with-permission-requires c κs = search needs
+
+completed-requires-5 : tie.Need-completed-requires-5
+completed-requires-5 c κs = search needs
+
+enum-told-10 : tie.Need-enum-told-10
+enum-told-10 c = search needs
+
+selected-requires-3 : tie.Need-selected-requires-3
+selected-requires-3 c κs = search needs
+
+answer-requires-3 : tie.Need-answer-requires-3
+answer-requires-3 c κs = search needs
+
+enum-told-11 : tie.Need-enum-told-11
+enum-told-11 c = search needs
+
+with-handler-requires : tie.Need-with-handler-requires
+with-handler-requires c κs = search needs
+
+completed-requires-6 : tie.Need-completed-requires-6
+completed-requires-6 c κs = search needs
+
+enum-told-12 : tie.Need-enum-told-12
+enum-told-12 c = search needs
+
+answer-requires-4 : tie.Need-answer-requires-4
+answer-requires-4 c κs = search needs
+
+enum-told-13 : tie.Need-enum-told-13
+enum-told-13 c = search needs
+
+reset-requires : tie.Need-reset-requires
+reset-requires c κs = search needs
+
+completed-requires-7 : tie.Need-completed-requires-7
+completed-requires-7 c κs = search needs
+
+returns : tie.Need-returns
+unfolding hfiPerform
+returns c = λ mem. rw (c .completed .ensures, c .before .entered .ensures, c .before .before .before .before .register .ensures) (ap (λ k. hfiPerform (machine (c .before .before .before .before .before .before .args .x .now) (c .before .before .before .before .before .before .args .pc) (c .before .before .before .before .before .before .args .h)) mem (c .before .before .before .before .before .before .args .next) k (c .before .before .before .before .before .before .args .rd) (c .before .before .before .before .before .before .args .rs1) (c .before .before .before .before .before .before .args .rs2)) (sym (c .before .before .enum-told .given .1)))
+
+returns-2 : tie.Need-returns-2
+unfolding hfiPerform
+returns-2 c = λ mem. c .enter-jump .ensures (c .before .before .before .before .before .before .before .args .x .now) mem ∙ rw (c .before .before .before .before .before .register .ensures, c .before .register2 .ensures) (ap (λ k. hfiPerform (machine (c .before .before .before .before .before .before .before .args .x .now) (c .before .before .before .before .before .before .before .args .pc) (c .before .before .before .before .before .before .before .args .h)) mem (c .before .before .before .before .before .before .before .args .next) k (c .before .before .before .before .before .before .before .args .rd) (c .before .before .before .before .before .before .before .args .rs1) (c .before .before .before .before .before .before .before .args .rs2)) (sym (c .before .before .before .enum-told2 .given .1)))
+
+returns-3 : tie.Need-returns-3
+unfolding hfiPerform
+returns-3 c = λ mem. c .exit .ensures (c .before .before .before .before .before .args .x .now) mem ∙ ap (λ k. hfiPerform (machine (c .before .before .before .before .before .args .x .now) (c .before .before .before .before .before .args .pc) (c .before .before .before .before .before .args .h)) mem (c .before .before .before .before .before .args .next) k (c .before .before .before .before .before .args .rd) (c .before .before .before .before .before .args .rs1) (c .before .before .before .before .before .args .rs2)) (sym (c .before .enum-told3 .given .1))
+
+returns-4 : tie.Need-returns-4
+unfolding hfiPerform
+returns-4 c = λ mem. rw (c .completed2 .ensures, c .before .with-selector .ensures, c .before .before .before .before .register .ensures) (ap (λ k. hfiPerform (machine (c .before .before .before .before .before .before .args .x .now) (c .before .before .before .before .before .before .args .pc) (c .before .before .before .before .before .before .args .h)) mem (c .before .before .before .before .before .before .args .next) k (c .before .before .before .before .before .before .args .rd) (c .before .before .before .before .before .before .args .rs1) (c .before .before .before .before .before .before .args .rs2)) (sym (c .before .before .enum-told4 .given .1)))
+
+returns-5 : tie.Need-returns-5
+unfolding hfiPerform
+returns-5 c = λ mem. rw (c .completed3 .ensures, c .before .with-base .ensures, c .before .before .before .before .register .ensures) (ap (λ k. hfiPerform (machine (c .before .before .before .before .before .before .args .x .now) (c .before .before .before .before .before .before .args .pc) (c .before .before .before .before .before .before .args .h)) mem (c .before .before .before .before .before .before .args .next) k (c .before .before .before .before .before .before .args .rd) (c .before .before .before .before .before .before .args .rs1) (c .before .before .before .before .before .before .args .rs2)) (sym (c .before .before .enum-told5 .given .1)))
+
+returns-6 : tie.Need-returns-6
+unfolding hfiPerform
+returns-6 c = λ mem. c .answer .ensures (c .before .before .before .before .before .before .before .args .pc) mem ∙ rw (c .before .selected .ensures) (ap (λ k. hfiPerform (machine (c .before .before .before .before .before .before .before .args .x .now) (c .before .before .before .before .before .before .before .args .pc) (c .before .before .before .before .before .before .before .args .h)) mem (c .before .before .before .before .before .before .before .args .next) k (c .before .before .before .before .before .before .before .args .rd) (c .before .before .before .before .before .before .before .args .rs1) (c .before .before .before .before .before .before .before .args .rs2)) (sym (c .before .before .before .enum-told6 .given .1)))
+
+returns-7 : tie.Need-returns-7
+unfolding hfiPerform
+returns-7 c = λ mem. rw (c .completed4 .ensures, c .before .with-bound .ensures, c .before .before .before .before .register .ensures) (ap (λ k. hfiPerform (machine (c .before .before .before .before .before .before .args .x .now) (c .before .before .before .before .before .before .args .pc) (c .before .before .before .before .before .before .args .h)) mem (c .before .before .before .before .before .before .args .next) k (c .before .before .before .before .before .before .args .rd) (c .before .before .before .before .before .before .args .rs1) (c .before .before .before .before .before .before .args .rs2)) (sym (c .before .before .enum-told7 .given .1)))
+
+returns-8 : tie.Need-returns-8
+unfolding hfiPerform
+returns-8 c = λ mem. c .answer2 .ensures (c .before .before .before .before .before .before .before .args .pc) mem ∙ rw (c .before .selected2 .ensures) (ap (λ k. hfiPerform (machine (c .before .before .before .before .before .before .before .args .x .now) (c .before .before .before .before .before .before .before .args .pc) (c .before .before .before .before .before .before .before .args .h)) mem (c .before .before .before .before .before .before .before .args .next) k (c .before .before .before .before .before .before .before .args .rd) (c .before .before .before .before .before .before .before .args .rs1) (c .before .before .before .before .before .before .before .args .rs2)) (sym (c .before .before .before .enum-told8 .given .1)))
+
+returns-9 : tie.Need-returns-9
+unfolding hfiPerform
+returns-9 c = λ mem. rw (c .completed5 .ensures, c .before .with-permission .ensures, c .before .before .before .before .register .ensures) (ap (λ k. hfiPerform (machine (c .before .before .before .before .before .before .args .x .now) (c .before .before .before .before .before .before .args .pc) (c .before .before .before .before .before .before .args .h)) mem (c .before .before .before .before .before .before .args .next) k (c .before .before .before .before .before .before .args .rd) (c .before .before .before .before .before .before .args .rs1) (c .before .before .before .before .before .before .args .rs2)) (sym (c .before .before .enum-told9 .given .1)))
+
+returns-10 : tie.Need-returns-10
+unfolding hfiPerform
+returns-10 c = λ mem. c .answer3 .ensures (c .before .before .before .before .before .before .before .args .pc) mem ∙ rw (c .before .selected3 .ensures) (ap (λ k. hfiPerform (machine (c .before .before .before .before .before .before .before .args .x .now) (c .before .before .before .before .before .before .before .args .pc) (c .before .before .before .before .before .before .before .args .h)) mem (c .before .before .before .before .before .before .before .args .next) k (c .before .before .before .before .before .before .before .args .rd) (c .before .before .before .before .before .before .before .args .rs1) (c .before .before .before .before .before .before .before .args .rs2)) (sym (c .before .before .before .enum-told10 .given .1)))
+
+returns-11 : tie.Need-returns-11
+unfolding hfiPerform
+returns-11 c = λ mem. rw (c .completed6 .ensures, c .before .with-handler .ensures, c .before .before .before .before .register .ensures) (ap (λ k. hfiPerform (machine (c .before .before .before .before .before .before .args .x .now) (c .before .before .before .before .before .before .args .pc) (c .before .before .before .before .before .before .args .h)) mem (c .before .before .before .before .before .before .args .next) k (c .before .before .before .before .before .before .args .rd) (c .before .before .before .before .before .before .args .rs1) (c .before .before .before .before .before .before .args .rs2)) (sym (c .before .before .enum-told11 .given .1)))
+
+returns-12 : tie.Need-returns-12
+unfolding hfiPerform
+returns-12 c = λ mem. c .answer4 .ensures (c .before .before .before .before .before .before .args .pc) mem ∙ ap (λ k. hfiPerform (machine (c .before .before .before .before .before .before .args .x .now) (c .before .before .before .before .before .before .args .pc) (c .before .before .before .before .before .before .args .h)) mem (c .before .before .before .before .before .before .args .next) k (c .before .before .before .before .before .before .args .rd) (c .before .before .before .before .before .before .args .rs1) (c .before .before .before .before .before .before .args .rs2)) (sym (c .before .before .enum-told12 .given .1))
+
+returns-13 : tie.Need-returns-13
+unfolding hfiPerform
+returns-13 c = λ mem. rw (c .completed7 .ensures, c .before .reset .ensures) (ap (λ k. hfiPerform (machine (c .before .before .before .before .before .before .args .x .now) (c .before .before .before .before .before .before .args .pc) (c .before .before .before .before .before .before .args .h)) mem (c .before .before .before .before .before .before .args .next) k (c .before .before .before .before .before .before .args .rd) (c .before .before .before .before .before .before .args .rs1) (c .before .before .before .before .before .before .args .rs2)) (sym (c .before .before .enum-told13 .given .1)))
+
+pub perform-spec : {M : Type 1} → statement M
+perform-spec =
+    tie.close
+    (tie.spec
+    register-requires
+    enum-told
+    entered-requires
+    completed-requires
+    enum-told-2
+    register-requires-2
+    enter-jump-requires
+    enum-told-3
+    exit-requires
+    enum-told-4
+    with-selector-requires
+    completed-requires-2
+    enum-told-5
+    with-base-requires
+    completed-requires-3
+    enum-told-6
+    selected-requires
+    answer-requires
+    enum-told-7
+    with-bound-requires
+    completed-requires-4
+    enum-told-8
+    selected-requires-2
+    answer-requires-2
+    enum-told-9
+    with-permission-requires
+    completed-requires-5
+    enum-told-10
+    selected-requires-3
+    answer-requires-3
+    enum-told-11
+    with-handler-requires
+    completed-requires-6
+    enum-told-12
+    answer-requires-4
+    enum-told-13
+    reset-requires
+    completed-requires-7
+    returns
+    returns-2
+    returns-3
+    returns-4
+    returns-5
+    returns-6
+    returns-7
+    returns-8
+    returns-9
+    returns-10
+    returns-11
+    returns-12
+    returns-13)

@@ -1,0 +1,20 @@
+use lib.Dec.{eqb}
+use mathlib.Core.Path.{sym, ap, _∙_}
+use borrow.Author.Needs.{needs}
+use Rattle.hfi.proofs.word.redirects_calls.Statement.{statement}
+use Rattle.hfi.proofs.word.redirects_calls.Tie as tie
+
+inside-requires : tie.Need-inside-requires
+inside-requires c κs = search needs
+
+bits-requires : tie.Need-bits-requires
+bits-requires c κs = search needs
+
+returns : tie.Need-returns
+returns c = rw (sym (c .before .before .inside .ensures) ∙ c .before .if1 .taken) (ap (λ b. eqb b 1) (c .bits .ensures))
+
+returns-2 : tie.Need-returns-2
+returns-2 c = rw (sym (c .before .inside .ensures) ∙ c .if1 .left)
+
+pub redirects-calls-spec : {M : Type 1} → statement M
+redirects-calls-spec = tie.close (tie.spec inside-requires bits-requires returns returns-2)

@@ -1,0 +1,26 @@
+use Rattle.model.specs.Machine.{noRegion}
+use lib.ListN.{length, List·getD-eq-default}
+use native.Mathlib.Omega.{arith}
+use mathlib.Core.Path.{_≡_, sym}
+use borrow.Author.Needs.{needs}
+use Rattle.hfi.proofs.word.region_at.Statement.{statement}
+use Rattle.hfi.proofs.word.region_at.Tie as tie
+
+place-requires : tie.Need-place-requires
+place-requires c κs = search needs
+
+mul-result : tie.Need-mul-result
+mul-result c = search needs
+
+array-copy-out-result : tie.Need-array-copy-out-result
+array-copy-out-result c = search needs
+
+returns : tie.Need-returns
+returns c = rw (c .before .before .place .ensures)
+
+returns-2 : tie.Need-returns-2
+returns-2 c = let long : length (c .before .before .args .t1) ≡ 3 = search needs in sym (List·getD-eq-default (c .before .before .args .t1) noRegion (omega arith))
+
+pub region-at-spec : {M : Type 1} → statement M
+region-at-spec =
+    tie.close (tie.spec place-requires mul-result array-copy-out-result returns returns-2)

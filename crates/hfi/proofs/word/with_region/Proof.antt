@@ -1,0 +1,26 @@
+use lib.Seq.{set-out}
+use lib.ListN.{length}
+use native.Mathlib.Omega.{arith}
+use Prim.Native.Nat.{_-_}
+use mathlib.Core.Path.{_≡_, sym}
+use borrow.Author.Needs.{needs}
+use Rattle.hfi.proofs.word.with_region.Statement.{statement}
+use Rattle.hfi.proofs.word.with_region.Tie as tie
+
+place-requires : tie.Need-place-requires
+place-requires c κs = search needs
+
+mul-new : tie.Need-mul-new
+mul-new c = search needs
+
+array-set-from-new : tie.Need-array-set-from-new
+array-set-from-new c = search needs
+
+returns : tie.Need-returns
+returns c = rw (c .before .place .ensures)
+
+returns-2 : tie.Need-returns-2
+returns-2 c = let long : length (c .before .before .args .rs) ≡ 3 = search needs in sym (set-out (c .before .before .args .rs) (c .before .before .args .n - 1) (c .before .before .args .to) (omega arith))
+
+pub with-region-spec : {M : Type 1} → statement M
+with-region-spec = tie.close (tie.spec place-requires mul-new array-set-from-new returns returns-2)
