@@ -85,7 +85,7 @@ abbrev pub Apart : {K : Type 0} → Type 0 → (K → ℕ) → List K → ℕ �
 Apart A code [] n = A
 Apart A code (k ∷ ks) n = Apart (A × (n ≡ code k → ⊥)) code ks n
 
-pub code-apart : {K X : Type 0} (A : Type 0) (code : K → ℕ) (make : K → X) (none : X) (ks : List K) (n : ℕ)
+code-apart : {K X : Type 0} (A : Type 0) (code : K → ℕ) (make : K → X) (none : X) (ks : List K) (n : ℕ)
     → Apart A code ks n → (ofCode code make none ks n ≡ none) × A
 code-apart A code make none [] n h = (refl, h)
 code-apart A code make none (k ∷ ks) n h =

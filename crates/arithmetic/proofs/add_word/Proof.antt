@@ -1,6 +1,6 @@
-use Rattle.arithmetic.proofs.Word.{low}
+use mathlib.Core.Path.{ap, _∙_}
 use Rattle.words.specs.Word.{sext}
-use mathlib.Core.Path.{_≡_, ap, _∙_}
+use Rattle.arithmetic.proofs.Word.{low}
 use borrow.Author.Needs.{needs}
 use Rattle.arithmetic.proofs.add_word.Statement.{statement}
 use Rattle.arithmetic.proofs.add_word.Tie as tie

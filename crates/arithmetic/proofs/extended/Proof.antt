@@ -1,8 +1,4 @@
-use Rattle.model.specs.Arithmetic.{extended as extendedOf}
-use Rattle.model.specs.Access.{loadWidth}
 use lib.Dec.{lit<}
-use Prim.Native.Nat.{_*_, _^_, _<_}
-use mathlib.Core.Path.{_≡_, sym, ap, _∙_, subst}
 use borrow.Author.Needs.{needs}
 use Rattle.arithmetic.proofs.extended.Statement.{statement}
 use Rattle.arithmetic.proofs.extended.Tie as tie
@@ -11,19 +7,19 @@ enum-told : tie.Need-enum-told
 enum-told c = search needs
 
 sign-extend-requires : tie.Need-sign-extend-requires
-sign-extend-requires c κs = (lit< tt, lit< tt, subst (λ k. c .before .before .args .v < 2 ^ (8 * loadWidth k)) (c .enum-told .given .1) (c .before .before .pre))
+sign-extend-requires c κs = (lit< tt, lit< tt, rw (c .enum-told .given .1) at (c .before .before .pre))
 
 enum-told-2 : tie.Need-enum-told-2
 enum-told-2 c = search needs
 
 sign-extend-requires-2 : tie.Need-sign-extend-requires-2
-sign-extend-requires-2 c κs = (lit< tt, lit< tt, subst (λ k. c .before .before .args .v < 2 ^ (8 * loadWidth k)) (c .enum-told2 .given .1) (c .before .before .pre))
+sign-extend-requires-2 c κs = (lit< tt, lit< tt, rw (c .enum-told2 .given .1) at (c .before .before .pre))
 
 enum-told-3 : tie.Need-enum-told-3
 enum-told-3 c = search needs
 
 sign-extend-requires-3 : tie.Need-sign-extend-requires-3
-sign-extend-requires-3 c κs = (lit< tt, lit< tt, subst (λ k. c .before .before .args .v < 2 ^ (8 * loadWidth k)) (c .enum-told3 .given .1) (c .before .before .pre))
+sign-extend-requires-3 c κs = (lit< tt, lit< tt, rw (c .enum-told3 .given .1) at (c .before .before .pre))
 
 enum-told-4 : tie.Need-enum-told-4
 enum-told-4 c = search needs
@@ -38,13 +34,13 @@ enum-told-7 : tie.Need-enum-told-7
 enum-told-7 c = search needs
 
 returns : tie.Need-returns
-returns c = c .sign-extend .ensures ∙ ap (λ k. extendedOf k (c .before .before .before .args .v)) (sym (c .before .enum-told .given .1))
+returns c = rw (c .before .enum-told .given .1, c .sign-extend .ensures)
 
 returns-2 : tie.Need-returns-2
-returns-2 c = c .sign-extend2 .ensures ∙ ap (λ k. extendedOf k (c .before .before .before .args .v)) (sym (c .before .enum-told2 .given .1))
+returns-2 c = rw (c .before .enum-told2 .given .1, c .sign-extend2 .ensures)
 
 returns-3 : tie.Need-returns-3
-returns-3 c = c .sign-extend3 .ensures ∙ ap (λ k. extendedOf k (c .before .before .before .args .v)) (sym (c .before .enum-told3 .given .1))
+returns-3 c = rw (c .before .enum-told3 .given .1, c .sign-extend3 .ensures)
 
 returns-4 : tie.Need-returns-4
 returns-4 c = search needs

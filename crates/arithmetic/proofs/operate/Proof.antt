@@ -1,7 +1,6 @@
-use Rattle.model.specs.Arithmetic.{operate as operateAt}
+use mathlib.Core.Path.{_≡_}
+use Prim.Native.Nat.{_+_, _-_, _%_, _^_}
 use native.Mathlib.Omega.{arith}
-use Prim.Native.Nat.{ℕ, _+_, _-_, _%_, _^_}
-use mathlib.Core.Path.{_≡_, sym, ap, _∙_}
 use borrow.Author.Needs.{needs}
 use Rattle.arithmetic.proofs.operate.Statement.{statement}
 use Rattle.arithmetic.proofs.operate.Tie as tie
@@ -61,36 +60,37 @@ enum-told-10 : tie.Need-enum-told-10
 enum-told-10 c = search needs
 
 returns : tie.Need-returns
-returns c = cc
+returns c = rw (c .before .enum-told .given .1, c .wrapping-add-u64 .ensures)
 
 returns-2 : tie.Need-returns-2
-returns-2 c = let a = c .before .before .before .args in
+returns-2 c =
+    let a = c .before .before .before .args in
     let e : c .wrapping-sub-u64 .result ≡ (a .a + (2 ^ 64 - a .b)) % 2 ^ 64 = omega arith in
-    e ∙ ap (λ k. operateAt 64 k (a .a) (a .b)) (sym (c .before .enum-told2 .given .1))
+    rw (c .before .enum-told2 .given .1, e)
 
 returns-3 : tie.Need-returns-3
-returns-3 c = cc
+returns-3 c = rw (c .before .enum-told3 .given .1, c .shift-left .ensures)
 
 returns-4 : tie.Need-returns-4
-returns-4 c = cc
+returns-4 c = rw (c .before .before .enum-told4 .given .1, c .flag .ensures, c .before .signed-less .ensures)
 
 returns-5 : tie.Need-returns-5
-returns-5 c = cc
+returns-5 c = rw (c .before .enum-told5 .given .1, c .flag2 .ensures)
 
 returns-6 : tie.Need-returns-6
-returns-6 c = cc
+returns-6 c = rw (c .enum-told6 .given .1)
 
 returns-7 : tie.Need-returns-7
-returns-7 c = cc
+returns-7 c = rw (c .before .enum-told7 .given .1, c .shift-right .ensures)
 
 returns-8 : tie.Need-returns-8
-returns-8 c = cc
+returns-8 c = rw (c .before .enum-told8 .given .1, c .shift-right-sign .ensures)
 
 returns-9 : tie.Need-returns-9
-returns-9 c = cc
+returns-9 c = rw (c .enum-told9 .given .1)
 
 returns-10 : tie.Need-returns-10
-returns-10 c = cc
+returns-10 c = rw (c .enum-told10 .given .1)
 
 pub operate-spec : {M : Type 1} → statement M
 operate-spec =

@@ -21,13 +21,13 @@ shift-right-sign-requires : tie.Need-shift-right-sign-requires
 shift-right-sign-requires c κs = search needs
 
 returns : tie.Need-returns
-returns c = cc
+returns c = rw (c .before .enum-told .given .1, c .shift-left .ensures)
 
 returns-2 : tie.Need-returns-2
-returns-2 c = cc
+returns-2 c = rw (c .before .enum-told2 .given .1, c .shift-right .ensures)
 
 returns-3 : tie.Need-returns-3
-returns-3 c = cc
+returns-3 c = rw (c .before .enum-told3 .given .1, c .shift-right-sign .ensures)
 
 pub operate-shift-spec : {M : Type 1} → statement M
 operate-shift-spec =

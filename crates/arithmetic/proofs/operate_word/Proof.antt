@@ -1,5 +1,3 @@
-use Rattle.model.specs.Arithmetic.{operateWord, ofRegisterWord}
-use mathlib.Core.Path.{sym, ap, _∙_}
 use borrow.Author.Needs.{needs}
 use Rattle.arithmetic.proofs.operate_word.Statement.{statement}
 use Rattle.arithmetic.proofs.operate_word.Tie as tie
@@ -35,19 +33,19 @@ shift-right-sign-word-requires : tie.Need-shift-right-sign-word-requires
 shift-right-sign-word-requires c κs = search needs
 
 returns : tie.Need-returns
-returns c = c .add-word .ensures ∙ ap (λ k. operateWord (ofRegisterWord k) (c .before .before .before .args .a) (c .before .before .before .args .b)) (sym (c .before .enum-told .given .1))
+returns c = rw (c .before .enum-told .given .1, c .add-word .ensures)
 
 returns-2 : tie.Need-returns-2
-returns-2 c = c .sub-word .ensures ∙ ap (λ k. operateWord (ofRegisterWord k) (c .before .before .before .args .a) (c .before .before .before .args .b)) (sym (c .before .enum-told2 .given .1))
+returns-2 c = rw (c .before .enum-told2 .given .1, c .sub-word .ensures)
 
 returns-3 : tie.Need-returns-3
-returns-3 c = c .shift-left-word .ensures ∙ ap (λ k. operateWord (ofRegisterWord k) (c .before .before .before .args .a) (c .before .before .before .args .b)) (sym (c .before .enum-told3 .given .1))
+returns-3 c = rw (c .before .enum-told3 .given .1, c .shift-left-word .ensures)
 
 returns-4 : tie.Need-returns-4
-returns-4 c = c .shift-right-word .ensures ∙ ap (λ k. operateWord (ofRegisterWord k) (c .before .before .before .args .a) (c .before .before .before .args .b)) (sym (c .before .enum-told4 .given .1))
+returns-4 c = rw (c .before .enum-told4 .given .1, c .shift-right-word .ensures)
 
 returns-5 : tie.Need-returns-5
-returns-5 c = c .shift-right-sign-word .ensures ∙ ap (λ k. operateWord (ofRegisterWord k) (c .before .before .before .args .a) (c .before .before .before .args .b)) (sym (c .before .enum-told5 .given .1))
+returns-5 c = rw (c .before .enum-told5 .given .1, c .shift-right-sign-word .ensures)
 
 pub operate-word-spec : {M : Type 1} → statement M
 operate-word-spec =

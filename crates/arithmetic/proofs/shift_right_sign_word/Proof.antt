@@ -1,9 +1,9 @@
-use lib.Signed.{shrZ}
+use mathlib.Core.Path.{ap, _∙_}
 use Prim.Native.Nat.{_%_, _^_}
+use lib.Signed.{shrZ}
+use lib.Dec.{lit<}
 use Rattle.words.specs.Word.{sext, signed}
 use Rattle.arithmetic.proofs.Word.{word-lt}
-use lib.Dec.{lit<}
-use mathlib.Core.Path.{_≡_, ap, _∙_}
 use borrow.Author.Needs.{needs}
 use Rattle.arithmetic.proofs.shift_right_sign_word.Statement.{statement}
 use Rattle.arithmetic.proofs.shift_right_sign_word.Tie as tie

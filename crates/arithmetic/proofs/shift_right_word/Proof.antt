@@ -1,8 +1,8 @@
-use Rattle.arithmetic.proofs.Word.{shift-lt}
+use mathlib.Core.Path.{ap, _∙_}
+use lib.Dec.{lit<}
 use Rattle.words.proofs.Fields.{field-lt}
 use Rattle.words.specs.Word.{sext}
-use lib.Dec.{lit<}
-use mathlib.Core.Path.{_≡_, ap, _∙_}
+use Rattle.arithmetic.proofs.Word.{shift-lt}
 use borrow.Author.Needs.{needs}
 use Rattle.arithmetic.proofs.shift_right_word.Statement.{statement}
 use Rattle.arithmetic.proofs.shift_right_word.Tie as tie

@@ -1,6 +1,6 @@
-use Rattle.model.specs.Outcome.{aligned}
 use Prim.Native.Nat.{_%_}
 use borrow.Author.Tests.{eq-eqb, ne-eqb}
+use Rattle.model.specs.Outcome.{aligned}
 use borrow.Author.Needs.{needs}
 use Rattle.hfi.proofs.word.enter_jump.Statement.{statement}
 use Rattle.hfi.proofs.word.enter_jump.Tie as tie

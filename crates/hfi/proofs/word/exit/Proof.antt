@@ -1,7 +1,7 @@
-use Rattle.model.specs.Machine.{redirectsExits}
-use borrow.Author.Tests.{eq-eqb, ne-eqb}
 use mathlib.Core.Bool.{true, false}
 use mathlib.Core.Path.{_≡_, sym, _∙_}
+use borrow.Author.Tests.{eq-eqb, ne-eqb}
+use Rattle.model.specs.Machine.{redirectsExits}
 use borrow.Author.Needs.{needs}
 use Rattle.hfi.proofs.word.exit.Statement.{statement}
 use Rattle.hfi.proofs.word.exit.Tie as tie

@@ -1,5 +1,5 @@
-use Rattle.model.specs.Hfi.{hfiForbids}
 use mathlib.Core.Path.{sym, _∙_}
+use Rattle.model.specs.Hfi.{hfiForbids}
 use borrow.Author.Needs.{needs}
 use Rattle.hfi.proofs.word.forbids.Statement.{statement}
 use Rattle.hfi.proofs.word.forbids.Tie as tie

@@ -1,5 +1,5 @@
-use lib.Dec.{eqb}
 use mathlib.Core.Path.{sym, ap, _∙_}
+use lib.Dec.{eqb}
 use borrow.Author.Needs.{needs}
 use Rattle.hfi.proofs.word.locked.Statement.{statement}
 use Rattle.hfi.proofs.word.locked.Tie as tie

@@ -1,6 +1,3 @@
-use Rattle.model.specs.Hfi.{modeForbids}
-use mathlib.Core.Bool.{not}
-use mathlib.Core.Path.{sym, ap, _∙_}
 use borrow.Author.Needs.{needs}
 use Rattle.hfi.proofs.word.mode_forbids.Statement.{statement}
 use Rattle.hfi.proofs.word.mode_forbids.Tie as tie
@@ -84,43 +81,43 @@ locked-requires-9 : tie.Need-locked-requires-9
 locked-requires-9 c κs = search needs
 
 returns : tie.Need-returns
-returns c = c .inside .ensures ∙ ap (modeForbids (c .before .before .before .args .h)) (sym (c .before .enum-told .given .1))
+returns c = rw (c .before .enum-told .given .1, c .inside .ensures)
 
 returns-2 : tie.Need-returns-2
-returns-2 c = c .inside2 .ensures ∙ ap (modeForbids (c .before .before .before .args .h)) (sym (c .before .enum-told2 .given .1))
+returns-2 c = rw (c .before .enum-told2 .given .1, c .inside2 .ensures)
 
 returns-3 : tie.Need-returns-3
-returns-3 c = ap not (c .inside3 .ensures) ∙ ap (modeForbids (c .before .before .before .args .h)) (sym (c .before .enum-told3 .given .1))
+returns-3 c = rw (c .before .enum-told3 .given .1, c .inside3 .ensures)
 
 returns-4 : tie.Need-returns-4
-returns-4 c = c .locked .ensures ∙ ap (modeForbids (c .before .before .before .args .h)) (sym (c .before .enum-told4 .given .1))
+returns-4 c = rw (c .before .enum-told4 .given .1, c .locked .ensures)
 
 returns-5 : tie.Need-returns-5
-returns-5 c = c .locked2 .ensures ∙ ap (modeForbids (c .before .before .before .args .h)) (sym (c .before .enum-told5 .given .1))
+returns-5 c = rw (c .before .enum-told5 .given .1, c .locked2 .ensures)
 
 returns-6 : tie.Need-returns-6
-returns-6 c = c .locked3 .ensures ∙ ap (modeForbids (c .before .before .before .args .h)) (sym (c .before .enum-told6 .given .1))
+returns-6 c = rw (c .before .enum-told6 .given .1, c .locked3 .ensures)
 
 returns-7 : tie.Need-returns-7
-returns-7 c = c .locked4 .ensures ∙ ap (modeForbids (c .before .before .before .args .h)) (sym (c .before .enum-told7 .given .1))
+returns-7 c = rw (c .before .enum-told7 .given .1, c .locked4 .ensures)
 
 returns-8 : tie.Need-returns-8
-returns-8 c = c .locked5 .ensures ∙ ap (modeForbids (c .before .before .before .args .h)) (sym (c .before .enum-told8 .given .1))
+returns-8 c = rw (c .before .enum-told8 .given .1, c .locked5 .ensures)
 
 returns-9 : tie.Need-returns-9
-returns-9 c = c .locked6 .ensures ∙ ap (modeForbids (c .before .before .before .args .h)) (sym (c .before .enum-told9 .given .1))
+returns-9 c = rw (c .before .enum-told9 .given .1, c .locked6 .ensures)
 
 returns-10 : tie.Need-returns-10
-returns-10 c = c .locked7 .ensures ∙ ap (modeForbids (c .before .before .before .args .h)) (sym (c .before .enum-told10 .given .1))
+returns-10 c = rw (c .before .enum-told10 .given .1, c .locked7 .ensures)
 
 returns-11 : tie.Need-returns-11
-returns-11 c = c .inside4 .ensures ∙ ap (modeForbids (c .before .before .before .args .h)) (sym (c .before .enum-told11 .given .1))
+returns-11 c = rw (c .before .enum-told11 .given .1, c .inside4 .ensures)
 
 returns-12 : tie.Need-returns-12
-returns-12 c = c .locked8 .ensures ∙ ap (modeForbids (c .before .before .before .args .h)) (sym (c .before .enum-told12 .given .1))
+returns-12 c = rw (c .before .enum-told12 .given .1, c .locked8 .ensures)
 
 returns-13 : tie.Need-returns-13
-returns-13 c = c .locked9 .ensures ∙ ap (modeForbids (c .before .before .before .args .h)) (sym (c .before .enum-told13 .given .1))
+returns-13 c = rw (c .before .enum-told13 .given .1, c .locked9 .ensures)
 
 pub mode-forbids-spec : {M : Type 1} → statement M
 mode-forbids-spec =

@@ -1,7 +1,3 @@
-use Rattle.model.specs.Hfi.{operandForbids}
-use lib.Dec.{eqb}
-use mathlib.Core.Bool.{not, _||_}
-use mathlib.Core.Path.{sym, ap, _∙_}
 use borrow.Author.Needs.{needs}
 use Rattle.hfi.proofs.word.operand_forbids.Statement.{statement}
 use Rattle.hfi.proofs.word.operand_forbids.Tie as tie
@@ -49,43 +45,43 @@ enum-told-13 : tie.Need-enum-told-13
 enum-told-13 c = search needs
 
 returns : tie.Need-returns
-returns c = ap (λ k. operandForbids (c .before .before .args .h) k (c .before .before .args .a)) (sym (c .enum-told .given .1))
+returns c = rw (c .enum-told .given .1)
 
 returns-2 : tie.Need-returns-2
-returns-2 c = ap (λ k. operandForbids (c .before .before .args .h) k (c .before .before .args .a)) (sym (c .enum-told2 .given .1))
+returns-2 c = rw (c .enum-told2 .given .1)
 
 returns-3 : tie.Need-returns-3
-returns-3 c = ap (λ k. operandForbids (c .before .before .args .h) k (c .before .before .args .a)) (sym (c .enum-told3 .given .1))
+returns-3 c = rw (c .enum-told3 .given .1)
 
 returns-4 : tie.Need-returns-4
-returns-4 c = ap (λ k. operandForbids (c .before .before .args .h) k (c .before .before .args .a)) (sym (c .enum-told4 .given .1))
+returns-4 c = rw (c .enum-told4 .given .1)
 
 returns-5 : tie.Need-returns-5
-returns-5 c = ap (λ k. operandForbids (c .before .before .before .args .h) k (c .before .before .before .args .a)) (sym (c .before .enum-told5 .given .1))
+returns-5 c = rw (c .before .enum-told5 .given .1)
 
 returns-6 : tie.Need-returns-6
-returns-6 c = ap (λ k. operandForbids (c .before .before .before .args .h) k (c .before .before .before .args .a)) (sym (c .before .enum-told6 .given .1))
+returns-6 c = rw (c .before .enum-told6 .given .1)
 
 returns-7 : tie.Need-returns-7
-returns-7 c = ap (λ k. operandForbids (c .before .before .before .args .h) k (c .before .before .before .args .a)) (sym (c .before .enum-told7 .given .1))
+returns-7 c = rw (c .before .enum-told7 .given .1)
 
 returns-8 : tie.Need-returns-8
-returns-8 c = ap (λ k. operandForbids (c .before .before .before .args .h) k (c .before .before .before .args .a)) (sym (c .before .enum-told8 .given .1))
+returns-8 c = rw (c .before .enum-told8 .given .1)
 
 returns-9 : tie.Need-returns-9
-returns-9 c = ap (λ b. eqb (c .before .before .before .before .args .h .selector) 0 || not b) (c .permission-fits .ensures) ∙ ap (λ k. operandForbids (c .before .before .before .before .args .h) k (c .before .before .before .before .args .a)) (sym (c .before .before .enum-told9 .given .1))
+returns-9 c = rw (c .before .before .enum-told9 .given .1, c .permission-fits .ensures)
 
 returns-10 : tie.Need-returns-10
-returns-10 c = ap (λ k. operandForbids (c .before .before .before .args .h) k (c .before .before .before .args .a)) (sym (c .before .enum-told10 .given .1))
+returns-10 c = rw (c .before .enum-told10 .given .1)
 
 returns-11 : tie.Need-returns-11
-returns-11 c = ap (λ k. operandForbids (c .before .before .args .h) k (c .before .before .args .a)) (sym (c .enum-told11 .given .1))
+returns-11 c = rw (c .enum-told11 .given .1)
 
 returns-12 : tie.Need-returns-12
-returns-12 c = ap (λ k. operandForbids (c .before .before .args .h) k (c .before .before .args .a)) (sym (c .enum-told12 .given .1))
+returns-12 c = rw (c .enum-told12 .given .1)
 
 returns-13 : tie.Need-returns-13
-returns-13 c = ap (λ k. operandForbids (c .before .before .args .h) k (c .before .before .args .a)) (sym (c .enum-told13 .given .1))
+returns-13 c = rw (c .enum-told13 .given .1)
 
 pub operand-forbids-spec : {M : Type 1} → statement M
 operand-forbids-spec =

@@ -1,7 +1,7 @@
-use Rattle.model.specs.Machine.{noRegion}
-use lib.ListN.{length, List·getD-eq-default}
-use native.Mathlib.Omega.{arith}
 use mathlib.Core.Path.{_≡_, sym}
+use native.Mathlib.Omega.{arith}
+use lib.ListN.{length, List·getD-eq-default}
+use Rattle.model.specs.Machine.{noRegion}
 use borrow.Author.Needs.{needs}
 use Rattle.hfi.proofs.word.region_at.Statement.{statement}
 use Rattle.hfi.proofs.word.region_at.Tie as tie

@@ -1,8 +1,8 @@
+use mathlib.Core.Path.{_≡_, sym}
+use Prim.Native.Nat.{_-_}
+use native.Mathlib.Omega.{arith}
 use lib.Seq.{set-out}
 use lib.ListN.{length}
-use native.Mathlib.Omega.{arith}
-use Prim.Native.Nat.{_-_}
-use mathlib.Core.Path.{_≡_, sym}
 use borrow.Author.Needs.{needs}
 use Rattle.hfi.proofs.word.with_region.Statement.{statement}
 use Rattle.hfi.proofs.word.with_region.Tie as tie

@@ -1,0 +1,80 @@
+// A run: steps of one machine until one of document 01's questions stops it.
+ghost use mathlib.Core.Path.{_≡_};
+ghost use Rattle.model.specs.Machine.{inside as isInside, machine};
+ghost use Rattle.model.specs.Run.{run as runOf, runCall};
+ghost use Rattle.run.specs.Answer.{answer};
+use hfi::word::inside;
+use memory::well_formed::well_formed;
+use model::HfiState;
+use model::Machine;
+use model::Ran;
+use step::execute::advance;
+
+// A run that is refused: nothing has changed.
+fn refused(stop: u64, m: Machine) -> Ran
+    ensures { λ r. ⌜ r ≡ record { stop = stop; count = 0; address = 0; machine = m } ⌝ }
+{
+    Ran {
+        stop: stop,
+        count: 0,
+        address: 0,
+        machine: m,
+    }
+}
+
+// The answer of a run that ended with this stop, with the machine put together again.
+fn ended(stop: u64, count: u64, address: u64, x: [u64; 32], pc: u64, hfi: HfiState) -> Ran
+    ensures { λ r. ⌜ r ≡ record { stop = stop; count = count; address = address; machine = machine x pc hfi } ⌝ }
+{
+    let m = Machine {
+        x: x,
+        pc: pc,
+        hfi: hfi,
+    };
+    Ran {
+        stop: stop,
+        count: count,
+        address: address,
+        machine: m,
+    }
+}
+
+// The steps. The registers are worked on in place.
+fn run_steps(m: Machine, mem: &mut [u8], budget: u64) -> Ran
+    ensures { λ r. ⌜ answer r (now (mem .exit)) ≡ runOf (isInside (m .hfi)) budget 0 m (now (mem .entry)) ⌝ }
+{
+    let mut x = m.x;
+    let mut pc = m.pc;
+    let mut hfi = m.hfi;
+    let began = inside(hfi);
+    let mut count: u64 = 0;
+    while count < budget {
+        let d = advance(&mut x, pc, hfi, mem);
+        pc = d.pc;
+        hfi = d.hfi;
+        if d.stop != 0 {
+            return ended(d.stop, count, d.address, x, pc, hfi);
+        }
+        count += 1;
+        if began & !inside(hfi) {
+            return ended(20, count, 0, x, pc, hfi);
+        }
+    }
+    ended(21, count, 0, x, pc, hfi)
+}
+
+// A run of any machine over any memory, with any budget.
+pub fn run(m: Machine, mem: &mut [u8], budget: u64) -> Ran
+    ensures { λ r. ⌜ answer r (now (mem .exit)) ≡ runCall m (now (mem .entry)) budget ⌝ }
+{
+    if 16777216 < mem.len() {
+        return refused(1, m);
+    }
+    if 1000000 < budget {
+        return refused(2, m);
+    }
+    if !well_formed(m) {
+        return refused(3, m);
+    }
+    run_steps(m, mem, budget)
+}

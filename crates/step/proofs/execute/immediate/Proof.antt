@@ -1,0 +1,30 @@
+use Rattle.model.specs.Step.{perform}
+use borrow.Author.Needs.{needs}
+use Rattle.step.proofs.execute.immediate.Statement.{statement}
+use Rattle.step.proofs.execute.immediate.Tie as tie
+
+register-requires : tie.Need-register-requires
+register-requires c κs = search needs
+
+operate-immediate-requires : tie.Need-operate-immediate-requires
+operate-immediate-requires c κs = search needs
+
+assign-requires : tie.Need-assign-requires
+assign-requires c κs = search needs
+
+completed-requires : tie.Need-completed-requires
+completed-requires c κs = search needs
+
+returns : tie.Need-returns
+unfolding perform
+returns c = λ pc mem. rw (c .completed .ensures, c .before .assign .ensures, c .before .before .before .operate-immediate .ensures, c .before .before .before .before .register .ensures)
+
+pub immediate-spec : {M : Type 1} → statement M
+immediate-spec =
+    tie.close
+    (tie.spec
+    register-requires
+    operate-immediate-requires
+    assign-requires
+    completed-requires
+    returns)

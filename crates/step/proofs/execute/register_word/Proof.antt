@@ -1,0 +1,34 @@
+use Rattle.model.specs.Step.{perform}
+use borrow.Author.Needs.{needs}
+use Rattle.step.proofs.execute.register_word.Statement.{statement}
+use Rattle.step.proofs.execute.register_word.Tie as tie
+
+register-requires : tie.Need-register-requires
+register-requires c κs = search needs
+
+register-requires-2 : tie.Need-register-requires-2
+register-requires-2 c κs = search needs
+
+operate-word-requires : tie.Need-operate-word-requires
+operate-word-requires c κs = search needs
+
+assign-requires : tie.Need-assign-requires
+assign-requires c κs = search needs
+
+completed-requires : tie.Need-completed-requires
+completed-requires c κs = search needs
+
+returns : tie.Need-returns
+unfolding perform
+returns c = λ pc mem. rw (c .completed .ensures, c .before .assign .ensures, c .before .before .before .operate-word .ensures, c .before .before .before .before .before .before .register .ensures, c .before .before .before .before .register2 .ensures)
+
+pub register-word-spec : {M : Type 1} → statement M
+register-word-spec =
+    tie.close
+    (tie.spec
+    register-requires
+    register-requires-2
+    operate-word-requires
+    assign-requires
+    completed-requires
+    returns)
