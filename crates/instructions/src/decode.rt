@@ -7,7 +7,7 @@ ghost use Rattle.instructions.specs.declared.instruction.Decoded.the-var
 ghost use Rattle.instructions.specs.Decode.{decodeUpper, decodeJal, decodeJalr, decodeBranch, loadOf, decodeLoad, storeOf, decodeStore, decodeShift, decodeImmediate, decodeShiftWord, decodeImmediateWord, decodeRegister, decodeRegisterWord, decodeFence, decodeSystem, hfiOf, decodeHfi, decodeFields, decodeWord};
 use crate::fields::Fields;
 use crate::fields::split;
-use crate::hfi::fields_named;
+use crate::hfi_table::fields_named;
 use crate::instruction::Decoded;
 use crate::instruction::Instruction;
 use crate::kind::BranchKind;

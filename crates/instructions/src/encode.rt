@@ -6,7 +6,7 @@ ghost use Rattle.instructions.specs.Kinds.{upperCode, branchCode, loadCo
 ghost use Rattle.instructions.specs.Encode.{rFields, iFields, sFields, bFields, uFields, jFields, shiftFields, fenceFields, encodeFields, two, multiple as isMultiple, inRange, encodeWord};
 use crate::fields::Fields;
 use crate::fields::join;
-use crate::hfi::fields_named;
+use crate::hfi_table::fields_named;
 use crate::instruction::Encoded;
 use crate::instruction::Instruction;
 use crate::kind::BranchKind;

@@ -2,6 +2,6 @@
 pub mod decode;
 pub mod encode;
 pub mod fields;
-pub mod hfi;
+pub mod hfi_table;
 pub mod instruction;
 pub mod kind;

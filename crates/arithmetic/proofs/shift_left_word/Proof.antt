@@ -1,4 +1,4 @@
-use mathlib.Core.Path.{ap, _∙_}
+use mathlib.Core.Path.{ap}
 use Rattle.words.specs.Word.{sext}
 use Rattle.arithmetic.proofs.Word.{low-of-wrapped}
 use borrow.Author.Needs.{needs}
@@ -21,7 +21,14 @@ sign-extend-requires : tie.Need-sign-extend-requires
 sign-extend-requires c κs = search needs
 
 returns : tie.Need-returns
-returns c = c .sign-extend .ensures ∙ ap (sext 32) (c .before .bits3 .ensures ∙ rw (c .before .before .before .bits .ensures, c .before .before .bits2 .ensures) (low-of-wrapped _))
+returns c =
+    rw (
+      c .sign-extend .ensures,
+      c .before .bits3 .ensures,
+      c .before .before .before .bits .ensures,
+      c .before .before .bits2 .ensures,
+    )
+    (ap (sext 32) (low-of-wrapped _))
 
 pub shift-left-word-spec : {M : Type 1} → statement M
 shift-left-word-spec =

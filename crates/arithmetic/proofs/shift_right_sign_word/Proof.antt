@@ -1,8 +1,7 @@
-use mathlib.Core.Path.{ap, _∙_}
 use Prim.Native.Nat.{_%_, _^_}
 use lib.Signed.{shrZ}
 use lib.Dec.{lit<}
-use Rattle.words.specs.Word.{sext, signed}
+use Rattle.words.specs.Word.{signed}
 use Rattle.arithmetic.proofs.Word.{word-lt}
 use borrow.Author.Needs.{needs}
 use Rattle.arithmetic.proofs.shift_right_sign_word.Statement.{statement}
@@ -18,10 +17,12 @@ shift-right-signed-requires : tie.Need-shift-right-signed-requires
 shift-right-signed-requires c κs = search needs
 
 sign-extend-requires : tie.Need-sign-extend-requires
-sign-extend-requires c κs = (lit< tt, lit< tt, rw (c .shift-right-signed .ensures) (word-lt 32 (shrZ (signed 32 (c .before .before .bits .result)) (2 ^ (c .before .bits2 .result % 32)))))
+sign-extend-requires c κs =
+    let s = shrZ (signed 32 (c .before .before .bits .result)) (2 ^ (c .before .bits2 .result % 32)) in
+    (lit< tt, lit< tt, rw (c .shift-right-signed .ensures) (word-lt 32 s))
 
 returns : tie.Need-returns
-returns c = c .sign-extend .ensures ∙ ap (sext 32) (c .before .shift-right-signed .ensures ∙ rw (c .before .before .before .bits .ensures, c .before .before .bits2 .ensures))
+returns c = rw (c .sign-extend .ensures, c .before .shift-right-signed .ensures, c .before .before .before .bits .ensures, c .before .before .bits2 .ensures)
 
 pub shift-right-sign-word-spec : {M : Type 1} → statement M
 shift-right-sign-word-spec =

@@ -1,7 +1,5 @@
-use mathlib.Core.Path.{ap, _∙_}
 use lib.Dec.{lit<}
 use Rattle.words.proofs.Fields.{field-lt}
-use Rattle.words.specs.Word.{sext}
 use Rattle.arithmetic.proofs.Word.{shift-lt}
 use borrow.Author.Needs.{needs}
 use Rattle.arithmetic.proofs.shift_right_word.Statement.{statement}
@@ -20,7 +18,7 @@ sign-extend-requires : tie.Need-sign-extend-requires
 sign-extend-requires c κs = (lit< tt, lit< tt, rw (c .before .bits .ensures) (shift-lt _ _ 32 (field-lt (c .before .before .args .a) 0 32)))
 
 returns : tie.Need-returns
-returns c = c .sign-extend .ensures ∙ ap (sext 32) (rw (c .before .before .bits .ensures, c .before .bits2 .ensures))
+returns c = rw (c .sign-extend .ensures, c .before .before .bits .ensures, c .before .bits2 .ensures)
 
 pub shift-right-word-spec : {M : Type 1} → statement M
 shift-right-word-spec =

@@ -20,7 +20,12 @@ completed-requires c κs = search needs
 
 returns-2 : tie.Need-returns-2
 unfolding aligned
-returns-2 c = λ x mem. rw (c .completed .ensures, c .before .entered .ensures, eq-eqb (c .before .before .before .args .target % 4) 0 (c .before .before .if1 .left))
+returns-2 c = λ x mem.
+    rw (
+      c .completed .ensures,
+      c .before .entered .ensures,
+      eq-eqb (c .before .before .before .args .target % 4) 0 (c .before .before .if1 .left),
+    )
 
 pub enter-jump-spec : {M : Type 1} → statement M
 enter-jump-spec =

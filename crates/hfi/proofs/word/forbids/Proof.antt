@@ -16,11 +16,19 @@ operand-forbids-requires c κs = search needs
 
 returns-2 : tie.Need-returns-2
 unfolding hfiForbids
-returns-2 c = rw (sym (c .before .before .before .mode-forbids .ensures) ∙ c .before .before .if1 .left, sym (c .before .operand-forbids .ensures) ∙ c .if2 .taken)
+returns-2 c =
+    rw (
+      sym (c .before .before .before .mode-forbids .ensures) ∙ c .before .before .if1 .left,
+      sym (c .before .operand-forbids .ensures) ∙ c .if2 .taken,
+    )
 
 returns-3 : tie.Need-returns-3
 unfolding hfiForbids
-returns-3 c = rw (sym (c .before .before .before .mode-forbids .ensures) ∙ c .before .before .if1 .left, sym (c .before .operand-forbids .ensures) ∙ c .if2 .left)
+returns-3 c =
+    rw (
+      sym (c .before .before .before .mode-forbids .ensures) ∙ c .before .before .if1 .left,
+      sym (c .before .operand-forbids .ensures) ∙ c .if2 .left,
+    )
 
 pub forbids-spec : {M : Type 1} → statement M
 forbids-spec =

@@ -120,11 +120,22 @@ completed-requires-7 c κs = search needs
 
 returns : tie.Need-returns
 unfolding hfiPerform
-returns c = λ mem. rw (c .before .before .enum-told .given .1, c .completed .ensures, c .before .entered .ensures, c .before .before .before .before .register .ensures)
+returns c = λ mem.
+    rw (
+      c .before .before .enum-told .given .1,
+      c .completed .ensures,
+      c .before .entered .ensures,
+      c .before .before .before .before .register .ensures,
+    )
 
 returns-2 : tie.Need-returns-2
 unfolding hfiPerform
-returns-2 c = λ mem. c .enter-jump .ensures _ mem ∙ rw (c .before .before .before .enum-told2 .given .1, c .before .before .before .before .before .register .ensures, c .before .register2 .ensures)
+returns-2 c = λ mem.
+    c .enter-jump .ensures _ mem ∙ rw (
+      c .before .before .before .enum-told2 .given .1,
+      c .before .before .before .before .before .register .ensures,
+      c .before .register2 .ensures,
+    )
 
 returns-3 : tie.Need-returns-3
 unfolding hfiPerform
@@ -132,35 +143,77 @@ returns-3 c = λ mem. c .exit .ensures _ mem ∙ rw (c .before .enum-told3 .give
 
 returns-4 : tie.Need-returns-4
 unfolding hfiPerform
-returns-4 c = λ mem. rw (c .before .before .enum-told4 .given .1, c .completed2 .ensures, c .before .with-selector .ensures, c .before .before .before .before .register .ensures)
+returns-4 c = λ mem.
+    rw (
+      c .before .before .enum-told4 .given .1,
+      c .completed2 .ensures,
+      c .before .with-selector .ensures,
+      c .before .before .before .before .register .ensures,
+    )
 
 returns-5 : tie.Need-returns-5
 unfolding hfiPerform
-returns-5 c = λ mem. rw (c .before .before .enum-told5 .given .1, c .completed3 .ensures, c .before .with-base .ensures, c .before .before .before .before .register .ensures)
+returns-5 c = λ mem.
+    rw (
+      c .before .before .enum-told5 .given .1,
+      c .completed3 .ensures,
+      c .before .with-base .ensures,
+      c .before .before .before .before .register .ensures,
+    )
 
 returns-6 : tie.Need-returns-6
 unfolding hfiPerform
-returns-6 c = λ mem. c .answer .ensures (c .before .before .before .before .before .before .before .args .pc) mem ∙ rw (c .before .before .before .enum-told6 .given .1, c .before .selected .ensures)
+returns-6 c = λ mem.
+    c .answer .ensures (c .before .before .before .before .before .before .before .args .pc) mem ∙ rw (
+      c .before .before .before .enum-told6 .given .1,
+      c .before .selected .ensures,
+    )
 
 returns-7 : tie.Need-returns-7
 unfolding hfiPerform
-returns-7 c = λ mem. rw (c .before .before .enum-told7 .given .1, c .completed4 .ensures, c .before .with-bound .ensures, c .before .before .before .before .register .ensures)
+returns-7 c = λ mem.
+    rw (
+      c .before .before .enum-told7 .given .1,
+      c .completed4 .ensures,
+      c .before .with-bound .ensures,
+      c .before .before .before .before .register .ensures,
+    )
 
 returns-8 : tie.Need-returns-8
 unfolding hfiPerform
-returns-8 c = λ mem. c .answer2 .ensures (c .before .before .before .before .before .before .before .args .pc) mem ∙ rw (c .before .before .before .enum-told8 .given .1, c .before .selected2 .ensures)
+returns-8 c = λ mem.
+    c .answer2 .ensures (c .before .before .before .before .before .before .before .args .pc) mem ∙ rw (
+      c .before .before .before .enum-told8 .given .1,
+      c .before .selected2 .ensures,
+    )
 
 returns-9 : tie.Need-returns-9
 unfolding hfiPerform
-returns-9 c = λ mem. rw (c .before .before .enum-told9 .given .1, c .completed5 .ensures, c .before .with-permission .ensures, c .before .before .before .before .register .ensures)
+returns-9 c = λ mem.
+    rw (
+      c .before .before .enum-told9 .given .1,
+      c .completed5 .ensures,
+      c .before .with-permission .ensures,
+      c .before .before .before .before .register .ensures,
+    )
 
 returns-10 : tie.Need-returns-10
 unfolding hfiPerform
-returns-10 c = λ mem. c .answer3 .ensures (c .before .before .before .before .before .before .before .args .pc) mem ∙ rw (c .before .before .before .enum-told10 .given .1, c .before .selected3 .ensures)
+returns-10 c = λ mem.
+    c .answer3 .ensures (c .before .before .before .before .before .before .before .args .pc) mem ∙ rw (
+      c .before .before .before .enum-told10 .given .1,
+      c .before .selected3 .ensures,
+    )
 
 returns-11 : tie.Need-returns-11
 unfolding hfiPerform
-returns-11 c = λ mem. rw (c .before .before .enum-told11 .given .1, c .completed6 .ensures, c .before .with-handler .ensures, c .before .before .before .before .register .ensures)
+returns-11 c = λ mem.
+    rw (
+      c .before .before .enum-told11 .given .1,
+      c .completed6 .ensures,
+      c .before .with-handler .ensures,
+      c .before .before .before .before .register .ensures,
+    )
 
 returns-12 : tie.Need-returns-12
 unfolding hfiPerform

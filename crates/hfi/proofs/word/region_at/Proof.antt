@@ -19,7 +19,10 @@ returns : tie.Need-returns
 returns c = rw (c .before .before .place .ensures)
 
 returns-2 : tie.Need-returns-2
-returns-2 c = let long : length (c .before .before .args .t1) ≡ 3 = search needs in sym (List·getD-eq-default (c .before .before .args .t1) noRegion (omega arith))
+returns-2 c =
+    let a = c .before .before .args in
+    let long : length (a .t1) ≡ 3 = search needs in
+    sym (List·getD-eq-default (a .t1) noRegion (omega arith))
 
 pub region-at-spec : {M : Type 1} → statement M
 region-at-spec =

@@ -20,7 +20,10 @@ returns : tie.Need-returns
 returns c = rw (c .before .place .ensures)
 
 returns-2 : tie.Need-returns-2
-returns-2 c = let long : length (c .before .before .args .rs) ≡ 3 = search needs in sym (set-out (c .before .before .args .rs) (c .before .before .args .n - 1) (c .before .before .args .to) (omega arith))
+returns-2 c =
+    let a = c .before .before .args in
+    let long : length (a .rs) ≡ 3 = search needs in
+    sym (set-out (a .rs) (a .n - 1) (a .to) (omega arith))
 
 pub with-region-spec : {M : Type 1} → statement M
 with-region-spec = tie.close (tie.spec place-requires mul-new array-set-from-new returns returns-2)

@@ -15,7 +15,11 @@ well-formed-requires c κs = search needs
 
 returns-2 : tie.Need-returns-2
 unfolding step
-returns-2 c = rw (le-ltb longest (length (c .before .before .before .before .args .mem .now)) (c .before .before .if1 .left), sym (c .before .well-formed .ensures) ∙ not-true _ (c .if2 .taken))
+returns-2 c =
+    rw (
+      le-ltb longest (length (c .before .before .before .before .args .mem .now)) (c .before .before .if1 .left),
+      sym (c .before .well-formed .ensures) ∙ not-true _ (c .if2 .taken),
+    )
 
 advance-requires : tie.Need-advance-requires
 advance-requires c κs = search needs
@@ -25,7 +29,12 @@ same-length c = search needs
 
 returns-3 : tie.Need-returns-3
 unfolding step
-returns-3 c = c .before .before .before .advance .ensures ∙ rw (le-ltb longest (length (c .before .before .before .before .before .before .before .before .before .before .before .before .args .mem .now)) (c .before .before .before .before .before .before .before .before .before .before .if1 .left), sym (c .before .before .before .before .before .before .before .before .before .well-formed .ensures) ∙ not-false _ (c .before .before .before .before .before .before .before .before .if2 .left))
+returns-3 c =
+    let m = c .before .before .before .before .before .before .before .before in
+    c .before .before .before .advance .ensures ∙ rw (
+      le-ltb longest (length (m .before .before .before .before .args .mem .now)) (m .before .before .if1 .left),
+      sym (m .before .well-formed .ensures) ∙ not-false _ (m .if2 .left),
+    )
 
 pub step-spec : {M : Type 1} → statement M
 step-spec =

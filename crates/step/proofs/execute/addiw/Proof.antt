@@ -17,7 +17,13 @@ completed-requires c κs = search needs
 
 returns : tie.Need-returns
 unfolding perform
-returns c = λ pc mem. rw (c .completed .ensures, c .before .assign .ensures, c .before .before .before .add-word .ensures, c .before .before .before .before .register .ensures)
+returns c = λ pc mem.
+    rw (
+      c .completed .ensures,
+      c .before .assign .ensures,
+      c .before .before .before .add-word .ensures,
+      c .before .before .before .before .register .ensures,
+    )
 
 pub addiw-spec : {M : Type 1} → statement M
 addiw-spec =

@@ -51,15 +51,25 @@ same-length c = search needs
 
 returns-2 : tie.Need-returns-2
 unfolding advance settle
-returns-2 c = c .before .before .execute-word .ensures ∙ rw (eq-eqb (c .before .before .before .before .before .before .before .before .before .before .before .before .before .args .pc % 4) 0 (c .before .before .before .before .before .before .before .before .before .before .before .if1 .left), sym (c .before .before .before .before .before .before .before .before .before .check-fetch .ensures) ∙ c .before .before .before .before .before .before .before .enum-told .given .1, c .before .before .before .read .ensures .0)
+returns-2 c =
+    let m = c .before .before .before .before .before .before .before in
+    c .before .before .execute-word .ensures ∙ rw (
+      eq-eqb (m .before .before .before .before .before .before .args .pc % 4) 0 (m .before .before .before .before .if1 .left),
+      sym (m .before .before .check-fetch .ensures) ∙ m .enum-told .given .1,
+      c .before .before .before .read .ensures .0,
+    )
 
 returns-3 : tie.Need-returns-3
 unfolding advance settle
-returns-3 c = rw (c .faulted .ensures, eq-eqb (c .before .before .before .before .before .before .before .before .args .pc % 4) 0 (c .before .before .before .before .before .before .if1 .left), sym (c .before .before .before .before .check-fetch .ensures) ∙ c .before .before .v .given .1)
+returns-3 c =
+    let m = c .before .before .before in
+    rw (c .faulted .ensures, eq-eqb (m .before .before .before .before .before .args .pc % 4) 0 (m .before .before .before .if1 .left), sym (m .before .check-fetch .ensures) ∙ c .before .before .v .given .1)
 
 returns-4 : tie.Need-returns-4
 unfolding advance settle
-returns-4 c = rw (c .absent .ensures, eq-eqb (c .before .before .before .before .before .before .before .before .args .pc % 4) 0 (c .before .before .before .before .before .before .if1 .left), sym (c .before .before .before .before .check-fetch .ensures) ∙ c .before .before .v2 .given .1)
+returns-4 c =
+    let m = c .before .before .before in
+    rw (c .absent .ensures, eq-eqb (m .before .before .before .before .before .args .pc % 4) 0 (m .before .before .before .if1 .left), sym (m .before .check-fetch .ensures) ∙ c .before .before .v2 .given .1)
 
 pub advance-spec : {M : Type 1} → statement M
 advance-spec =

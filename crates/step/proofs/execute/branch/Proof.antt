@@ -22,7 +22,13 @@ completed-requires c κs = search needs
 returns : tie.Need-returns
 unfolding perform branch aligned
 returns c = λ mem.
-    rw (c .completed .ensures, ← c .before .before .before .before .register .ensures, ← c .before .before .before .register2 .ensures, ← c .before .before .taken .ensures, not-true (c .before .before .taken .result) (c .before .if1 .taken))
+    rw (
+      c .completed .ensures,
+      ← c .before .before .before .before .register .ensures,
+      ← c .before .before .before .register2 .ensures,
+      ← c .before .before .taken .ensures,
+      not-true (c .before .before .taken .result) (c .before .if1 .taken),
+    )
 
 wrapping-add-u64-requires : tie.Need-wrapping-add-u64-requires
 wrapping-add-u64-requires c κs = search needs
@@ -33,7 +39,15 @@ stopped-requires c κs = search needs
 returns-2 : tie.Need-returns-2
 unfolding perform branch aligned
 returns-2 c = λ mem.
-    rw (c .stopped .ensures, ← c .before .before .before .before .before .before .register .ensures, ← c .before .before .before .before .before .register2 .ensures, ← c .before .before .before .before .taken .ensures, not-false (c .before .before .before .before .taken .result) (c .before .before .before .if1 .left), ← c .before .before .wrapping-add-u64 .ensures, ne-eqb (c .before .before .wrapping-add-u64 .result % 4) 0 (c .before .if2 .taken))
+    rw (
+      c .stopped .ensures,
+      ← c .before .before .before .before .before .before .register .ensures,
+      ← c .before .before .before .before .before .register2 .ensures,
+      ← c .before .before .before .before .taken .ensures,
+      not-false (c .before .before .before .before .taken .result) (c .before .before .before .if1 .left),
+      ← c .before .before .wrapping-add-u64 .ensures,
+      ne-eqb (c .before .before .wrapping-add-u64 .result % 4) 0 (c .before .if2 .taken),
+    )
 
 completed-requires-2 : tie.Need-completed-requires-2
 completed-requires-2 c κs = search needs
@@ -41,7 +55,15 @@ completed-requires-2 c κs = search needs
 returns-3 : tie.Need-returns-3
 unfolding perform branch aligned
 returns-3 c = λ mem.
-    rw (c .completed2 .ensures, ← c .before .before .before .before .before .before .register .ensures, ← c .before .before .before .before .before .register2 .ensures, ← c .before .before .before .before .taken .ensures, not-false (c .before .before .before .before .taken .result) (c .before .before .before .if1 .left), ← c .before .before .wrapping-add-u64 .ensures, eq-eqb (c .before .before .wrapping-add-u64 .result % 4) 0 (c .before .if2 .left))
+    rw (
+      c .completed2 .ensures,
+      ← c .before .before .before .before .before .before .register .ensures,
+      ← c .before .before .before .before .before .register2 .ensures,
+      ← c .before .before .before .before .taken .ensures,
+      not-false (c .before .before .before .before .taken .result) (c .before .before .before .if1 .left),
+      ← c .before .before .wrapping-add-u64 .ensures,
+      eq-eqb (c .before .before .wrapping-add-u64 .result % 4) 0 (c .before .if2 .left),
+    )
 
 pub branch-spec : {M : Type 1} → statement M
 branch-spec =

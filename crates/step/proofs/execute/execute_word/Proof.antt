@@ -1,7 +1,6 @@
 use mathlib.Core.Path.{sym, ap, _∙_}
 use Rattle.instructions.proofs.RoundTrip.{decoded-range}
 use Rattle.model.specs.Step.{executeWord}
-use Rattle.model.specs.Machine.{machine}
 use borrow.Author.Needs.{needs}
 use Rattle.step.proofs.execute.execute_word.Statement.{statement}
 use Rattle.step.proofs.execute.execute_word.Tie as tie
@@ -19,7 +18,9 @@ wrapping-add-u64-requires : tie.Need-wrapping-add-u64-requires
 wrapping-add-u64-requires c κs = search needs
 
 execute-requires : tie.Need-execute-requires
-execute-requires c κs = decoded-range (c .before .before .before .before .before .before .before .before .args .w) _ (sym (c .before .before .before .before .before .before .decode .ensures) ∙ c .before .before .before .before .d .given .1)
+execute-requires c κs =
+    let m = c .before .before .before in
+    decoded-range (c .before .before .before .before .before .before .before .before .args .w) _ (sym (m .before .before .before .decode .ensures) ∙ m .before .d .given .1)
 
 enum-told : tie.Need-enum-told
 enum-told c = search needs
@@ -32,11 +33,13 @@ same-length c = search needs
 
 returns : tie.Need-returns
 unfolding executeWord
-returns c = c .before .before .execute .ensures ∙ rw (c .before .before .before .wrapping-add-u64 .ensures) (ap (executeWord (machine (c .before .before .before .before .before .before .before .before .before .before .before .args .x .now) (c .before .before .before .before .before .before .before .before .before .before .before .args .pc) (c .before .before .before .before .before .before .before .before .before .before .before .args .hfi)) (c .before .before .before .before .before .before .before .before .before .before .before .args .mem .now)) (sym (c .before .before .before .before .before .before .before .d .given .1) ∙ c .before .before .before .before .before .before .before .before .before .decode .ensures))
+returns c =
+    let m = c .before .before .before .before .before .before in
+    c .before .before .execute .ensures ∙ rw (c .before .before .before .wrapping-add-u64 .ensures) (ap (executeWord _ _) (sym (m .before .d .given .1) ∙ m .before .before .before .decode .ensures))
 
 returns-2 : tie.Need-returns-2
 unfolding executeWord
-returns-2 c = rw (c .stopped .ensures) (ap (executeWord (machine (c .before .before .before .before .before .args .x .now) (c .before .before .before .before .before .args .pc) (c .before .before .before .before .before .args .hfi)) (c .before .before .before .before .before .args .mem .now)) (sym (c .before .enum-told .given .1) ∙ c .before .before .before .decode .ensures))
+returns-2 c = rw (c .stopped .ensures) (ap (executeWord _ _) (sym (c .before .enum-told .given .1) ∙ c .before .before .before .decode .ensures))
 
 pub execute-word-spec : {M : Type 1} → statement M
 execute-word-spec =

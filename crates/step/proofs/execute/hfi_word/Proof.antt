@@ -17,14 +17,25 @@ stopped-requires c κs = search needs
 
 returns : tie.Need-returns
 unfolding perform allowed
-returns c = λ mem. rw (c .stopped .ensures, ← c .before .before .before .register .ensures, ← c .before .before .forbids .ensures, ne-eqb (c .before .before .forbids .result) 0 (c .before .if1 .taken))
+returns c = λ mem.
+    rw (
+      c .stopped .ensures,
+      ← c .before .before .before .register .ensures,
+      ← c .before .before .forbids .ensures,
+      ne-eqb (c .before .before .forbids .result) 0 (c .before .if1 .taken),
+    )
 
 perform-requires : tie.Need-perform-requires
 perform-requires c κs = search needs
 
 returns-2 : tie.Need-returns-2
 unfolding perform allowed
-returns-2 c = λ mem. c .perform .ensures mem ∙ rw (← c .before .before .before .before .register .ensures, ← c .before .before .before .forbids .ensures, eq-eqb (c .before .before .before .forbids .result) 0 (c .before .before .if1 .left))
+returns-2 c = λ mem.
+    c .perform .ensures mem ∙ rw (
+      ← c .before .before .before .before .register .ensures,
+      ← c .before .before .before .forbids .ensures,
+      eq-eqb (c .before .before .before .forbids .result) 0 (c .before .before .if1 .left),
+    )
 
 pub hfi-word-spec : {M : Type 1} → statement M
 hfi-word-spec =

@@ -16,14 +16,23 @@ stopped-requires c κs = search needs
 
 returns : tie.Need-returns
 unfolding perform allowed hWordForbids
-returns c = λ rs1. rw (c .stopped .ensures, ← c .before .before .inside .ensures, not-true (c .before .before .inside .result) (c .before .if1 .taken))
+returns c = λ rs1.
+    rw (
+      c .stopped .ensures,
+      ← c .before .before .inside .ensures,
+      not-true (c .before .before .inside .result) (c .before .if1 .taken),
+    )
 
 hload-requires : tie.Need-hload-requires
 hload-requires c κs = search needs
 
 returns-2 : tie.Need-returns-2
 unfolding perform allowed hWordForbids
-returns-2 c = λ rs1. c .hload .ensures ∙ rw (← c .before .before .before .inside .ensures, not-false (c .before .before .before .inside .result) (c .before .before .if1 .left))
+returns-2 c = λ rs1.
+    c .hload .ensures ∙ rw (
+      ← c .before .before .before .inside .ensures,
+      not-false (c .before .before .before .inside .result) (c .before .before .if1 .left),
+    )
 
 pub hload-spec : {M : Type 1} → statement M
 hload-spec = tie.close (tie.spec inside-requires stopped-requires returns hload-requires returns-2)

@@ -16,7 +16,12 @@ stopped-requires c κs = search needs
 
 returns : tie.Need-returns
 unfolding perform allowed hWordForbids
-returns c = λ rs1. rw (c .stopped .ensures, ← c .before .before .inside .ensures, not-true (c .before .before .inside .result) (c .before .if1 .taken))
+returns c = λ rs1.
+    rw (
+      c .stopped .ensures,
+      ← c .before .before .inside .ensures,
+      not-true (c .before .before .inside .result) (c .before .if1 .taken),
+    )
 
 register-requires : tie.Need-register-requires
 register-requires c κs = search needs
@@ -29,7 +34,12 @@ same-length c = search needs
 
 returns-2 : tie.Need-returns-2
 unfolding perform allowed hWordForbids
-returns-2 c = λ rs1. c .before .before .hstore .ensures (c .before .before .before .before .before .before .before .before .args .x .now) ∙ rw (← c .before .before .before .before .before .before .inside .ensures, not-false (c .before .before .before .before .before .before .inside .result) (c .before .before .before .before .before .if1 .left), c .before .before .before .register .ensures)
+returns-2 c = λ rs1.
+    c .before .before .hstore .ensures (c .before .before .before .before .before .before .before .before .args .x .now) ∙ rw (
+      ← c .before .before .before .before .before .before .inside .ensures,
+      not-false (c .before .before .before .before .before .before .inside .result) (c .before .before .before .before .before .if1 .left),
+      c .before .before .before .register .ensures,
+    )
 
 pub hstore-spec : {M : Type 1} → statement M
 hstore-spec =

@@ -21,7 +21,12 @@ completed-requires c κs = search needs
 
 returns-2 : tie.Need-returns-2
 unfolding jump aligned
-returns-2 c = λ mem. rw (c .completed .ensures, c .before .assign .ensures, eq-eqb (c .before .before .before .before .args .target % 4) 0 (c .before .before .before .if1 .left))
+returns-2 c = λ mem.
+    rw (
+      c .completed .ensures,
+      c .before .assign .ensures,
+      eq-eqb (c .before .before .before .before .args .target % 4) 0 (c .before .before .before .if1 .left),
+    )
 
 pub jump-spec : {M : Type 1} → statement M
 jump-spec =

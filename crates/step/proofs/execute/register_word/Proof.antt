@@ -20,7 +20,14 @@ completed-requires c κs = search needs
 
 returns : tie.Need-returns
 unfolding perform
-returns c = λ pc mem. rw (c .completed .ensures, c .before .assign .ensures, c .before .before .before .operate-word .ensures, c .before .before .before .before .before .before .register .ensures, c .before .before .before .before .register2 .ensures)
+returns c = λ pc mem.
+    rw (
+      c .completed .ensures,
+      c .before .assign .ensures,
+      c .before .before .before .operate-word .ensures,
+      c .before .before .before .before .before .before .register .ensures,
+      c .before .before .before .before .register2 .ensures,
+    )
 
 pub register-word-spec : {M : Type 1} → statement M
 register-word-spec =

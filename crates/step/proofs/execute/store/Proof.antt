@@ -21,7 +21,12 @@ same-length c = search needs
 
 returns : tie.Need-returns
 unfolding perform
-returns c = c .before .before .store .ensures (c .before .before .before .before .before .before .before .before .args .x .now) ∙ rw (c .before .before .before .before .before .wrapping-add-u64 .ensures, c .before .before .before .before .before .before .register .ensures, c .before .before .before .register2 .ensures)
+returns c =
+    c .before .before .store .ensures (c .before .before .before .before .before .before .before .before .args .x .now) ∙ rw (
+      c .before .before .before .before .before .wrapping-add-u64 .ensures,
+      c .before .before .before .before .before .before .register .ensures,
+      c .before .before .before .register2 .ensures,
+    )
 
 pub store-spec : {M : Type 1} → statement M
 store-spec =

@@ -27,11 +27,22 @@ stopped-requires-2 c κs = search needs
 
 returns : tie.Need-returns
 unfolding perform
-returns c = λ x mem next. rw (c .before .before .before .before .enum-told .given .1, c .completed .ensures, c .before .left .ensures, sym (c .before .before .before .redirects-calls .ensures) ∙ c .before .before .if1 .taken)
+returns c = λ x mem next.
+    rw (
+      c .before .before .before .before .enum-told .given .1,
+      c .completed .ensures,
+      c .before .left .ensures,
+      sym (c .before .before .before .redirects-calls .ensures) ∙ c .before .before .if1 .taken,
+    )
 
 returns-2 : tie.Need-returns-2
 unfolding perform
-returns-2 c = λ x mem next. rw (c .before .before .before .enum-told .given .1, c .stopped .ensures, sym (c .before .before .redirects-calls .ensures) ∙ c .before .if1 .left)
+returns-2 c = λ x mem next.
+    rw (
+      c .before .before .before .enum-told .given .1,
+      c .stopped .ensures,
+      sym (c .before .before .redirects-calls .ensures) ∙ c .before .if1 .left,
+    )
 
 returns-3 : tie.Need-returns-3
 unfolding perform

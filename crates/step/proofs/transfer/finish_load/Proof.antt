@@ -12,7 +12,9 @@ load-width-requires : tie.Need-load-width-requires
 load-width-requires c κs = search needs
 
 read-requires : tie.Need-read-requires
-read-requires c κs = rw (c .before .load-width .ensures) (load-is-width (c .before .before .before .before .before .args .k), c .before .before .before .before .before .pre .1 (c .before .before .enum-told .given .1))
+read-requires c κs =
+    let m = c .before .before in
+    rw (c .before .load-width .ensures) (load-is-width (m .before .before .before .args .k), m .before .before .before .pre .1 (m .enum-told .given .1))
 
 extended-requires : tie.Need-extended-requires
 extended-requires c κs = rw (sym (c .before .before .load-width .ensures)) (c .read .ensures .1)
@@ -37,7 +39,15 @@ absent-requires c κs = search needs
 
 returns : tie.Need-returns
 unfolding settle
-returns c = rw (c .before .before .before .before .before .before .enum-told .given .1, c .completed .ensures, c .before .assign .ensures, c .before .before .extended .ensures, c .before .before .before .read .ensures .0, c .before .before .before .before .before .load-width .ensures)
+returns c =
+    rw (
+      c .before .before .before .before .before .before .enum-told .given .1,
+      c .completed .ensures,
+      c .before .assign .ensures,
+      c .before .before .extended .ensures,
+      c .before .before .before .read .ensures .0,
+      c .before .before .before .before .before .load-width .ensures,
+    )
 
 returns-2 : tie.Need-returns-2
 unfolding settle

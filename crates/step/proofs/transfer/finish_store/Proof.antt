@@ -11,7 +11,9 @@ store-width-requires : tie.Need-store-width-requires
 store-width-requires c κs = search needs
 
 write-requires : tie.Need-write-requires
-write-requires c κs = rw (c .before .store-width .ensures) (store-is-width (c .before .before .before .before .before .args .k), c .before .before .before .before .before .pre (c .before .before .enum-told .given .1))
+write-requires c κs =
+    let m = c .before .before in
+    rw (c .before .store-width .ensures) (store-is-width (m .before .before .before .args .k), m .before .before .before .pre (m .enum-told .given .1))
 
 completed-requires : tie.Need-completed-requires
 completed-requires c κs = search needs
@@ -33,7 +35,13 @@ same-length c = search needs
 
 returns : tie.Need-returns
 unfolding settle
-returns c = λ x. rw (c .before .before .before .before .before .before .enum-told .given .1, c .completed .ensures, c .before .before .before .write .ensures, c .before .before .before .before .before .store-width .ensures)
+returns c = λ x.
+    rw (
+      c .before .before .before .before .before .before .enum-told .given .1,
+      c .completed .ensures,
+      c .before .before .before .write .ensures,
+      c .before .before .before .before .before .store-width .ensures,
+    )
 
 returns-2 : tie.Need-returns-2
 unfolding settle

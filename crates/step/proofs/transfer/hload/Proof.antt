@@ -35,7 +35,12 @@ finish-load-requires c κs =
 
 returns : tie.Need-returns
 unfolding load
-returns c = c .finish-load .ensures ∙ rw (c .before .before .before .check-explicit .ensures, c .before .before .before .before .load-width .ensures, c .before .before .explicit-address .ensures)
+returns c =
+    c .finish-load .ensures ∙ rw (
+      c .before .before .before .check-explicit .ensures,
+      c .before .before .before .before .load-width .ensures,
+      c .before .before .explicit-address .ensures,
+    )
 
 pub hload-spec : {M : Type 1} → statement M
 hload-spec =

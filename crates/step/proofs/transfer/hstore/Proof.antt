@@ -36,7 +36,12 @@ same-length c = search needs
 
 returns : tie.Need-returns
 unfolding store
-returns c = λ x. c .before .before .finish-store .ensures x ∙ rw (c .before .before .before .before .before .check-explicit .ensures, c .before .before .before .before .before .before .store-width .ensures, c .before .before .before .before .explicit-address .ensures)
+returns c = λ x.
+    c .before .before .finish-store .ensures x ∙ rw (
+      c .before .before .before .before .before .check-explicit .ensures,
+      c .before .before .before .before .before .before .store-width .ensures,
+      c .before .before .before .before .explicit-address .ensures,
+    )
 
 pub hstore-spec : {M : Type 1} → statement M
 hstore-spec =

@@ -26,7 +26,11 @@ same-length c = search needs
 
 returns : tie.Need-returns
 unfolding store
-returns c = λ x. c .before .before .finish-store .ensures x ∙ rw (c .before .before .before .before .check-data .ensures, c .before .before .before .before .before .store-width .ensures)
+returns c = λ x.
+    c .before .before .finish-store .ensures x ∙ rw (
+      c .before .before .before .before .check-data .ensures,
+      c .before .before .before .before .before .store-width .ensures,
+    )
 
 pub store-spec : {M : Type 1} → statement M
 store-spec =

@@ -3,8 +3,8 @@ use mathlib.Core.Path.{refl, sym}
 use Prim.Native.Nat.{ℕ}
 use Rattle.instructions.proofs.Named.{named-past, named-rule}
 use borrow.Author.Needs.{needs}
-use Rattle.instructions.proofs.hfi.fields_named.Statement.{statement}
-use Rattle.instructions.proofs.hfi.fields_named.Tie as tie
+use Rattle.instructions.proofs.hfi_table.fields_named.Statement.{statement}
+use Rattle.instructions.proofs.hfi_table.fields_named.Tie as tie
 
 -- the code's table
 abbrev rows : List ℕ

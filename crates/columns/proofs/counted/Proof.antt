@@ -1,0 +1,20 @@
+-- `counted` meets its contract.
+use borrow.Author.Needs.{needs}
+use Rattle.columns.proofs.counted.Statement.{statement}
+use Rattle.columns.proofs.counted.Tie as tie
+
+wrapping-add-u64-requires : tie.Need-wrapping-add-u64-requires
+wrapping-add-u64-requires c κs = search needs
+
+wrapping-add-u64-requires-2 : tie.Need-wrapping-add-u64-requires-2
+wrapping-add-u64-requires-2 c κs = search needs
+
+returns : tie.Need-returns
+returns c = cc
+
+returns-2 : tie.Need-returns-2
+returns-2 c = cc
+
+pub counted-spec : {M : Type 1} → statement M
+counted-spec =
+    tie.close (tie.spec wrapping-add-u64-requires wrapping-add-u64-requires-2 returns returns-2)

@@ -1,0 +1,16 @@
+-- `decimal_at` meets its contract.
+use borrow.Author.Needs.{needs}
+use Rattle.columns.proofs.decimal_at.Statement.{statement}
+use Rattle.columns.proofs.decimal_at.Tie as tie
+
+column-requires : tie.Need-column-requires
+column-requires c κs = search needs
+
+number-requires : tie.Need-number-requires
+number-requires c κs = search needs
+
+returns : tie.Need-returns
+returns c = cc
+
+pub decimal-at-spec : {M : Type 1} → statement M
+decimal-at-spec = tie.close (tie.spec column-requires number-requires returns)

@@ -1,0 +1,6 @@
+pub mod Scanning
+pub mod Splitting
+pub mod Numbers
+pub mod Writing
+pub mod RoundTrip
+pub mod Asking

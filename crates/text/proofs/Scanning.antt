@@ -1,0 +1,83 @@
+-- Scanning a text. A loop at place i speaks of what is left, `drop i s`: each definition has a law for the next byte and one for the end.
+use mathlib.Core.Path.{_≡_, refl}
+use mathlib.Core.Bool.{Bool, true, false, cond}
+use mathlib.Core.List.{List, [], _∷_, _++_}
+use Prim.Native.Nat.{ℕ, zero, suc, _+_, _-_, _<_, _≤_}
+use native.Mathlib.Numerals.{add-one}
+use native.Mathlib.Omega.{arith}
+use lib.Dec.{lit≤}
+use lib.ListN.{length, getD, drop, take, length-drop, drop-of-length-le}
+use lib.Seq.{drop-cons, take-all}
+use Rattle.text.specs.Scan.{firstThat, is, place, count}
+
+module _ (s : List ℕ) (i : ℕ) where
+  pub first-on : (test : ℕ → Bool) → i < length s
+      → firstThat test (drop i s) ≡ cond (test (getD s i 0)) 0 (suc (firstThat test (drop (i + 1) s)))
+  unfolding firstThat
+  first-on test h = rw (drop-cons s i 0 h, add-one i)
+
+  pub first-off : (test : ℕ → Bool) → length s ≤ i → firstThat test (drop i s) ≡ 0
+  unfolding firstThat
+  first-off test h = rw (drop-of-length-le s h)
+
+  pub count-on : (c : ℕ) → i < length s → count c (drop i s) ≡ cond (is c (getD s i 0)) 1 0 + count c (drop (i + 1) s)
+  unfolding count
+  count-on c h = rw (drop-cons s i 0 h, add-one i)
+
+  pub count-off : (c : ℕ) → length s ≤ i → count c (drop i s) ≡ 0
+  unfolding count
+  count-off c h = rw (drop-of-length-le s h)
+
+  -- a part that ends where the text ends
+  pub rest-whole : take (length s - i) (drop i s) ≡ drop i s
+  rest-whole = take-all (length s - i) (drop i s) (simp length-drop (omega arith))
+
+pub first-le : (test : ℕ → Bool) (s : List ℕ) → firstThat test s ≤ length s
+unfolding firstThat
+first-le test [] = lit≤ tt
+first-le test (b ∷ bs) = by (test b) (first-le test bs)
+  where
+    by : (t : Bool) → firstThat test bs ≤ length bs → cond t 0 (suc (firstThat test bs)) ≤ suc (length bs)
+    by true h = omega arith
+    by false h = omega arith
+
+-- where a byte passes, the first that passes stands no later
+pub first-before : (test : ℕ → Bool) (s : List ℕ) (i : ℕ) → i < length s → test (getD s i 0) ≡ true → firstThat test s ≤ i
+unfolding firstThat
+first-before test [] i h e = let z : ⊥ = omega arith in absurd z
+first-before test (b ∷ bs) zero h e = rw e (lit≤ tt)
+first-before test (b ∷ bs) (suc i) h e = by (test b) (first-before test bs i (omega arith) e)
+  where
+    by : (t : Bool) → firstThat test bs ≤ i → cond t 0 (suc (firstThat test bs)) ≤ suc i
+    by true g = omega arith
+    by false g = omega arith
+
+-- a byte counts for one at most
+one-le : (t : Bool) → cond t 1 0 ≤ 1
+one-le true = lit≤ tt
+one-le false = lit≤ tt
+
+pub count-le : (c : ℕ) (s : List ℕ) → count c s ≤ length s
+unfolding count
+count-le c [] = lit≤ tt
+count-le c (b ∷ bs) = omega (arith, one-le (is c b), count-le c bs)
+
+pub count-append : (c : ℕ) (s t : List ℕ) → count c (s ++ t) ≡ count c s + count c t
+unfolding count
+count-append c [] t = omega arith
+count-append c (b ∷ bs) t = omega (arith, count-append c bs t)
+
+-- up to the first c and with it there is one c
+pub count-first : (c : ℕ) (s : List ℕ) → place c s < length s → count c (take (place c s + 1) s) ≡ 1
+unfolding count firstThat
+count-first c [] h = omega arith
+count-first c (b ∷ bs) h = by (is c b) refl h (count-first c bs)
+  where
+    by : (t : Bool) → is c b ≡ t → cond t 0 (suc (place c bs)) < suc (length bs)
+        → (place c bs < length bs → count c (take (place c bs + 1) bs) ≡ 1)
+        → count c (take (cond t 0 (suc (place c bs)) + 1) (b ∷ bs)) ≡ 1
+    by true f g k = rw f
+    by false f g k =
+        let e : suc (place c bs) + 1 ≡ suc (place c bs + 1) = omega arith in
+        let n : place c bs < length bs = omega arith in
+        rw (e, f) (omega (arith, k n))

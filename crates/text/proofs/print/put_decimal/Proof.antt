@@ -1,0 +1,21 @@
+-- `print::put_decimal` meets its contract: there are at most 20 digits.
+use Prim.Native.Nat.{_-_}
+use native.Mathlib.Omega.{arith}
+use lib.ListN.{length}
+use borrow.Author.Needs.{needs}
+use Rattle.text.proofs.Numbers.{digits-le}
+use Rattle.text.proofs.print.put_decimal.Statement.{statement}
+use Rattle.text.proofs.print.put_decimal.Tie as tie
+
+put-digits-requires : tie.Need-put-digits-requires
+put-digits-requires c κs = search needs
+
+same-length : tie.Need-same-length
+same-length c = search needs
+
+returns : tie.Need-returns
+returns c = let e = c .before .before .put-digits .ensures in
+    (e, omega (arith, e .after, digits-le 10 20 (c .before .before .before .before .before .args .n)))
+
+pub put-decimal-spec : {M : Type 1} → statement M
+put-decimal-spec = tie.close (tie.spec put-digits-requires same-length returns)

@@ -1,0 +1,5 @@
+pub mod Scan
+pub mod Split
+pub mod Number
+pub mod Write
+pub mod Questions

@@ -1,0 +1,35 @@
+-- Where bytes stand in a text. A text is a list of bytes, and places count from 0.
+use mathlib.Core.Bool.{Bool, cond}
+use mathlib.Core.List.{List, [], _∷_}
+use Prim.Native.Nat.{ℕ, suc, _+_}
+use lib.Dec.{eqb}
+use lib.ListN.{take}
+
+-- the bytes that part a text: every line ends in 0a, fields are parted by commas (01, The run sheet)
+abbrev pub newline : ℕ
+newline = 10
+
+abbrev pub comma : ℕ
+comma = 44
+
+-- the place of the first byte that passes a test; the length where none does
+unfoldable pub firstThat : (ℕ → Bool) → List ℕ → ℕ
+firstThat test [] = 0
+firstThat test (b ∷ bs) = cond (test b) 0 (suc (firstThat test bs))
+
+-- is it the byte c?
+abbrev pub is : ℕ → ℕ → Bool
+is c b = eqb b c
+
+-- the place of the first c; the length where there is none
+abbrev pub place : ℕ → List ℕ → ℕ
+place c s = firstThat (is c) s
+
+-- how many c there are: one for each
+unfoldable pub count : ℕ → List ℕ → ℕ
+count c [] = 0
+count c (b ∷ bs) = cond (is c b) 1 0 + count c bs
+
+-- the number of the line that place `at` lies in: one more than the 0a bytes before it ("Lines count from 1", 01)
+abbrev pub lineNumber : List ℕ → ℕ → ℕ
+lineNumber s at = count newline (take at s) + 1

@@ -1,0 +1,12 @@
+-- What writing leaves in a buffer.
+use mathlib.Core.Path.{_≡_}
+use mathlib.Core.List.{List}
+use Prim.Native.Nat.{ℕ, _+_}
+use lib.ListN.{length}
+use lib.Seq.{sets}
+
+-- `old` became `new` by storing the bytes of `text` one after another (`sets`) from place `at` on, and `next` is the place after them.
+-- Every other byte is as before: proofs/Writing.antt says it as front, text and rest (wrote-parts).
+pub record Wrote (old : List ℕ) (at : ℕ) (text new : List ℕ) (next : ℕ) : Type 0 where
+  pub stored : new ≡ sets old at text
+  pub after : next ≡ at + length text

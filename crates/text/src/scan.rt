@@ -1,0 +1,68 @@
+// Places in a text, and the parts of it before and after a place.
+ghost use mathlib.Core.Path.{_≡_};
+ghost use Prim.Native.Nat.{_-_, _≤_};
+ghost use lib.ListN.{length, getD, take, drop};
+ghost use Rattle.text.specs.Scan.{place as Scan·place, count as Scan·count};
+
+// The place of the first c, or the length.
+pub fn place(s: &[u8], c: u8) -> usize
+    ensures { λ r. ⌜ (r ≡ Scan·place c (now (s .entry))) × (r ≤ length (now (s .entry))) ⌝ }
+{
+    let mut i = 0;
+    while i < s.len() {
+        if s[i] == c {
+            return i;
+        }
+        i += 1;
+    }
+    i
+}
+
+// How many c there are.
+pub fn count(s: &[u8], c: u8) -> usize
+    ensures { λ r. ⌜ (r ≡ Scan·count c (now (s .entry))) × (r ≤ length (now (s .entry))) ⌝ }
+{
+    let mut n = 0;
+    let mut i = 0;
+    while i < s.len() {
+        if s[i] == c {
+            n += 1;
+        }
+        i += 1;
+    }
+    n
+}
+
+// The byte at a place, 0 past the end.
+pub fn byte_at(s: &[u8], i: usize) -> u8
+    ensures { λ r. ⌜ r ≡ getD (now (s .entry)) i 0 ⌝ }
+{
+    if i < s.len() { s[i] } else { 0 }
+}
+
+// The last byte, 0 of an empty text.
+pub fn last_byte(s: &[u8]) -> u8
+    ensures { λ r. ⌜ r ≡ getD (now (s .entry)) (length (now (s .entry)) - 1) 0 ⌝ }
+{
+    if s.len() == 0 { 0 } else { s[s.len() - 1] }
+}
+
+// What stands from a place on, nothing past the end.
+pub fn rest(s: &[u8], at: usize) -> &[u8]
+    ensures { λ r. ⌜ (now r ≡ drop at (now (s .entry))) × (length (now r) ≡ length (now (s .entry)) - at) ⌝ }
+{
+    if at < s.len() {
+        return &s[at..];
+    }
+    &s[..0]
+}
+
+// What stands before a place, the whole past the end.
+pub fn front(s: &[u8], end: usize) -> &[u8]
+    ensures { λ r. ⌜ now r ≡ take end (now (s .entry)) ⌝ }
+{
+    if end < s.len() {
+        return &s[..end];
+    }
+    s
+}
