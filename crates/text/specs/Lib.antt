@@ -3,3 +3,4 @@ pub mod Split
 pub mod Number
 pub mod Write
 pub mod Questions
+pub mod Ascii

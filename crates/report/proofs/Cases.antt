@@ -1,0 +1,49 @@
+-- Document 01's whole example, from the bytes that are read to the bytes that are printed.
+use mathlib.Core.Path.{_≡_, refl}
+use mathlib.Core.List.{List, [], _∷_, _++_}
+use Prim.Native.Nat.{ℕ}
+use lib.Count.{trailingZeros}
+use Rattle.words.specs.Word.{sext}
+use Rattle.instructions.specs.Decode.{decodeWord}
+use Rattle.model.specs.Access.{scan, firstRefused, firstAbsent, verdict}
+use Rattle.model.specs.Bytes.{value, written}
+use Rattle.model.specs.Hfi.{hfiForbids, hWordForbids, hfiPerform}
+use Rattle.model.specs.Outcome.{allowed, aligned, settle}
+use Rattle.model.specs.Regions.{explicitRule, matches, firstMatch, implicitGrants, explicitGrants}
+use Rattle.model.specs.Run.{run, runCall}
+use Rattle.model.specs.Step.{load as Step·load, store, jump, branch, perform, executeWord, advance}
+use Rattle.model.specs.WellFormed.{stateFits, wellFormed}
+use Rattle.text.specs.Number.{spelled, digits}
+use Rattle.text.specs.Ascii.{ascii}
+use Rattle.text.specs.Scan.{firstThat, count}
+use Rattle.text.specs.Split.{split, allWide}
+use Rattle.sheet.specs.Questions.{fileNo, permissionsFit, setupNo, wordNo}
+use Rattle.sheet.specs.Read.{load, readLines, readSheet, blank}
+use Rattle.sheet.proofs.Cases.{lineOne, words}
+use Rattle.report.specs.Print.{registerRows}
+use Rattle.report.specs.Report.{reportOver, report}
+
+-- a sheet, and what is printed of it
+abbrev pub rows : List (List ℕ × List ℕ)
+rows =
+    -- the whole example of document 01
+    (lineOne ++ words, ascii "20,3,100,1,8,0,0,0,0\n10,5\n")
+    -- a budget of f4241 (A44, A48)
+    ∷ (ascii "4,5,100,200,10,3,0,0,0,0,fffffffffffffff0,4,f4241\n", ascii "2,0,4,0,0,0,0,0,0\n")
+    -- options 10 (A45, A48)
+    ∷ (ascii "0,10,100,200,10,3,0,0,0,0,fffffffffffffff0,4,a\n", ascii "3,0,0,0,0,0,0,0,0\n")
+    -- document 01's example of a refusal
+    ∷ (lineOne ++ ascii "0,\n", ascii "sheet,33,2\n")
+    ∷ []
+
+abbrev pub reported : List (List ℕ × List ℕ) → List (List ℕ)
+reported [] = []
+reported (r ∷ rs) = report (r .0) ∷ reported rs
+
+abbrev pub printed : List (List ℕ × List ℕ) → List (List ℕ)
+printed [] = []
+printed (r ∷ rs) = r .1 ∷ printed rs
+
+pub rows-hold : reported rows ≡ printed rows
+unfolding report reportOver registerRows readSheet readLines load blank fileNo permissionsFit setupNo wordNo split allWide firstThat count spelled digits runCall run advance executeWord perform branch jump store Step·load stateFits wellFormed explicitRule matches firstMatch implicitGrants explicitGrants allowed aligned settle hfiForbids hWordForbids hfiPerform value written scan firstRefused firstAbsent verdict decodeWord sext trailingZeros
+rows-hold = refl

@@ -1,0 +1,3 @@
+pub mod Laws
+pub mod Results
+pub mod Cases

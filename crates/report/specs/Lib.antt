@@ -1,0 +1,3 @@
+pub mod Start
+pub mod Print
+pub mod Report

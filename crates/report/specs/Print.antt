@@ -1,0 +1,37 @@
+-- What is printed of a run: rows of fields, each row on a line of its own (01, The run sheet).
+use mathlib.Core.Bool.{cond}
+use mathlib.Core.List.{List, [], _∷_, _++_}
+use Prim.Native.Nat.{ℕ, _+_}
+use lib.Dec.{eqb}
+use Rattle.text.specs.Number.{decimal, hexadecimal}
+use Rattle.text.specs.Split.{joinRows}
+use Rattle.model.specs.declared.Fault.{Fault}
+use Rattle.model.specs.declared.Ran.{Ran}
+
+-- "the fault record's occurred, region, op, address"
+abbrev pub faultFields : Fault → List (List ℕ)
+faultFields f = hexadecimal (f .occurred) ∷ hexadecimal (f .region) ∷ hexadecimal (f .op) ∷ hexadecimal (f .address) ∷ []
+
+-- "number (decimal), steps, pc, reason, exit pc, and the fault record's occurred, region, op, address"; "All else is hexadecimal
+-- without leading zeros."
+abbrev pub resultRow : Ran → List (List ℕ)
+resultRow r =
+    decimal (r .stop)
+    ∷ hexadecimal (r .count)
+    ∷ hexadecimal (r .machine .pc)
+    ∷ hexadecimal (r .machine .hfi .reason)
+    ∷ hexadecimal (r .machine .hfi .epc)
+    ∷ faultFields (r .machine .hfi .fault)
+
+-- "each non-zero register .. as number (decimal), value"
+abbrev pub registerRow : ℕ → ℕ → List (List (List ℕ))
+registerRow i v = cond (eqb v 0) [] ((decimal i ∷ hexadecimal v ∷ []) ∷ [])
+
+-- "rising": the registers from register i on
+unfoldable pub registerRows : ℕ → List ℕ → List (List (List ℕ))
+registerRows i [] = []
+registerRows i (v ∷ vs) = registerRow i v ++ registerRows (i + 1) vs
+
+-- "Otherwise it prints": the result, "then each non-zero register"
+abbrev pub resultText : Ran → List ℕ
+resultText r = joinRows (resultRow r ∷ registerRows 0 (r .machine .x))

@@ -1,0 +1,41 @@
+// A run sheet in, the printed lines out.
+ghost use mathlib.Core.Path.{_≡_};
+ghost use Prim.Native.Nat.{_≤_};
+ghost use lib.ListN.{length, take};
+ghost use Rattle.report.specs.Report.{report, reportOver};
+ghost use Rattle.respond.specs.Answered.{Answered};
+use report::print::put_answer;
+use report::start::machine_of;
+use run::run;
+use sheet::load::read_sheet;
+use sheet::print::refuse;
+use sheet::setup::setup_values;
+use text::field::line_at;
+
+// The most bytes that an answer takes: 157 for the first line, 38 for each of 32 registers.
+pub const MOST: usize = 1373;
+
+// Reads the sheet over a memory, runs it there and writes the answer, from the buffer's start on.
+fn respond_over(input: &[u8], output: &mut [u8], mem: &mut [u8; 65536]) -> usize
+    requires { ⌜ 1373 ≤ length (now output) ⌝ }
+    ensures { λ r. ⌜ Answered (now (output .entry)) (reportOver (now (mem .entry)) (now (input .entry))) (now (output .exit)) r ⌝ }
+    ensures { λ r. ⌜ (r ≤ length (now (output .exit))) × (r ≡ length (take r (now (output .exit)))) ⌝ }
+{
+    let v = read_sheet(input, mem);
+    let no = v.number;
+    if no != 0 {
+        return refuse(output, no, v.line);
+    }
+    let setup = setup_values(line_at(input, 0));
+    let r = run(machine_of(setup), mem, setup.budget);
+    put_answer(output, r)
+}
+
+// The answer to a sheet, over a memory of 65,536 zero bytes. The result is the number of bytes written.
+pub fn respond(input: &[u8], output: &mut [u8; MOST]) -> usize
+    ensures { λ r. ⌜ Answered (now (output .entry)) (report (now (input .entry))) (now (output .exit)) r ⌝ }
+    ensures { λ r. ⌜ (r ≤ length (now (output .exit))) × (r ≡ length (take r (now (output .exit)))) ⌝ }
+{
+    let mut memory = [0u8; 65536];
+    respond_over(input, output, &mut memory)
+}

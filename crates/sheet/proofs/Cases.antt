@@ -1,0 +1,113 @@
+-- Sheets at the edges of questions 30 to 35: rows of a table that one computed check covers.
+use mathlib.Core.Path.{_≡_, refl}
+use mathlib.Core.Bool.{Bool, true, _&&_}
+use mathlib.Core.List.{List, [], _∷_, _++_}
+use Prim.Native.Nat.{ℕ}
+use lib.Dec.{eqb}
+use lib.ListN.{take, replicate}
+use Rattle.text.specs.Ascii.{ascii}
+use Rattle.text.specs.Scan.{firstThat, count}
+use Rattle.text.specs.Split.{split, allWide, fields}
+use Rattle.text.specs.Number.{spelled, digits}
+use Rattle.sheet.specs.Setup.{setupValues}
+use Rattle.sheet.specs.Questions.{fileNo, permissionsFit, setupNo, wordNo, verdict}
+use Rattle.sheet.specs.Read.{load, readLines, readSheet}
+use Rattle.sheet.specs.Print.{refusal}
+
+-- a sheet, and the number and the line that it is refused with
+pub record Row : Type 0 where
+  pub sheet : List ℕ
+  pub number : ℕ
+  pub line : ℕ
+
+abbrev row : List ℕ → ℕ → ℕ → Row
+row s n l = record { sheet = s; number = n; line = l }
+
+-- line 1 of the worked example
+abbrev pub lineOne : List ℕ
+lineOne = ascii "0,5,100,200,10,3,0,0,0,0,fffffffffffffff0,4,a\n"
+
+abbrev pub rows : List Row
+rows =
+    -- an empty file
+    row [] 30 0
+    -- no 0a at the end; the foreign byte comes later
+    ∷ row (ascii "x") 30 0
+    -- a foreign byte in line 2, before the fields of line 1 are counted (A37)
+    ∷ row (ascii "0\n0,x\n") 31 2
+    -- capital letters are foreign
+    ∷ row (ascii "A\n") 31 1
+    -- one field; an empty line (A40)
+    ∷ row (ascii "\n") 32 1
+    -- an empty field that is not the budget (A42)
+    ∷ row (ascii ",5,100,200,10,3,0,0,0,0,0,4,\n") 33 1
+    -- 17 digits
+    ∷ row (ascii "00000000000000000,5,100,200,10,3,0,0,0,0,0,4,a\n") 33 1
+    -- options above ff
+    ∷ row (ascii "0,100,100,200,10,3,0,0,0,0,0,4,a\n") 34 1
+    -- a permission above ff
+    ∷ row (ascii "0,5,100,200,10,3,0,0,0,0,0,100,a\n") 34 1
+    -- a budget above ffffffff
+    ∷ row (ascii "0,5,100,200,10,3,0,0,0,0,0,4,100000000\n") 34 1
+    -- an empty budget, leading zeros (A41): accepted
+    ∷ row (ascii "0,00000000000000ff,100,200,10,3,0,0,0,0,0,4,\n") 0 0
+    -- the worked example's line 1 alone (A46): accepted
+    ∷ row lineOne 0 0
+    -- document 01's example sheet,33,2
+    ∷ row (lineOne ++ ascii "0,\n") 33 2
+    -- a blank last line (A40)
+    ∷ row (lineOne ++ ascii "0,1\n\n") 32 3
+    -- an address that is no multiple of 4
+    ∷ row (lineOne ++ ascii "2,1\n") 34 2
+    -- an address above fffc
+    ∷ row (lineOne ++ ascii "10000,1\n") 34 2
+    -- a word above ffffffff
+    ∷ row (lineOne ++ ascii "0,100000000\n") 34 2
+    -- the top address: accepted
+    ∷ row (lineOne ++ ascii "0,1\nfffc,ffffffff\n") 0 0
+    -- equal addresses
+    ∷ row (lineOne ++ ascii "4,1\n4,1\n") 35 3
+    -- falling addresses, before the fields of line 4 are counted (A39)
+    ∷ row (lineOne ++ ascii "8,1\n4,1\n0\n") 35 3
+    ∷ []
+
+-- the verdict does not depend on what memory holds
+abbrev holds : Row → Bool
+holds r = eqb (readSheet [] (r .sheet) .verdict .number) (r .number) && eqb (readSheet [] (r .sheet) .verdict .line) (r .line)
+
+abbrev pub all : List Row → Bool
+all [] = true
+all (r ∷ rs) = holds r && all rs
+
+pub rows-hold : all rows ≡ true
+unfolding readSheet readLines load fileNo setupNo wordNo permissionsFit firstThat count split allWide spelled
+rows-hold = refl
+
+-- ---- document 01's whole example: its words in memory, the values of its line 1
+abbrev pub words : List ℕ
+words = ascii "0,00500513\n4,00a001ab\n8,0400005b\n"
+
+pub example-words : take 13 (readSheet (replicate 16 0) (lineOne ++ words) .memory)
+    ≡ 0x13 ∷ 0x05 ∷ 0x50 ∷ 0x00 ∷ 0xab ∷ 0x01 ∷ 0xa0 ∷ 0x00 ∷ 0x5b ∷ 0x00 ∷ 0x00 ∷ 0x04 ∷ 0x00 ∷ []
+unfolding readSheet readLines load fileNo setupNo wordNo permissionsFit firstThat count split allWide spelled
+example-words = refl
+
+pub example-setup : setupValues (fields (ascii "0,5,100,200,10,3,0,0,0,0,fffffffffffffff0,4,a"))
+    ≡ record {
+      pc = 0;
+      options = 5;
+      handler = 0x100;
+      regions =
+          record { base = 0x200; bound = 0x10; permission = 3 }
+          ∷ record { base = 0; bound = 0; permission = 0 }
+          ∷ record { base = 0; bound = 0xfffffffffffffff0; permission = 4 }
+          ∷ [];
+      budget = 10;
+    }
+unfolding split spelled
+example-setup = refl
+
+-- document 01's example of a refusal
+pub example-refusal : refusal 33 2 ≡ ascii "sheet,33,2\n"
+unfolding digits
+example-refusal = refl

@@ -1,0 +1,4 @@
+pub mod Questions
+pub mod Setup
+pub mod Read
+pub mod Print

@@ -1,0 +1,14 @@
+-- What is printed of a sheet that is refused.
+use mathlib.Core.List.{List, [], _∷_, _++_}
+use Prim.Native.Nat.{ℕ}
+use Rattle.text.specs.Ascii.{ascii}
+use Rattle.text.specs.Scan.{newline, comma}
+use Rattle.text.specs.Number.{decimal}
+
+-- "beginning with the word itself"
+abbrev pub sheetWord : List ℕ
+sheetWord = ascii "sheet"
+
+-- "sheet, number, line number in decimal", for example `sheet,33,2`; "every printed line ends in 0a"
+abbrev pub refusal : ℕ → ℕ → List ℕ
+refusal n l = (sheetWord ++ (comma ∷ [])) ++ decimal n ++ (comma ∷ []) ++ decimal l ++ (newline ∷ [])
