@@ -89,7 +89,8 @@ pub fn print_tally(name: &[u8], t: Tally) {
     print(b" wrong\n");
 }
 
-// The bytes of a file, as many as there is room for; none where it cannot be read.
+// The bytes of a file, as many as there is room for; none where it cannot be read. Which bytes they are is left free: no
+// contract can speak of what a file holds.
 pub fn read_file(path: &[u8], room: &mut [u8]) -> usize
     ensures { λ r. ⌜ Counts r (now (room .exit)) ⌝ }
 {

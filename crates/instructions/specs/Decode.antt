@@ -37,7 +37,7 @@ decodeJalr f = provided (eqb (f .funct3) 0) (Legal (Jalr (f .rd) (f .rs1) (iImme
 abbrev pub decodeBranch : Fields → ℕ → Decoded
 decodeBranch f = ofCode branchCode (λ k. Legal (Branch k (f .rs1) (f .rs2) (bImmediate f))) Illegal branchKinds
 
--- "h-prefixed words have the field layout of ordinary loads and stores"
+-- "h-prefixed words .. have the field layout of ordinary loads and stores"
 abbrev pub loadOf : Bool → LoadKind → ℕ → ℕ → ℕ → Instruction
 loadOf false = Load
 loadOf true = HLoad

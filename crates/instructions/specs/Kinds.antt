@@ -1,4 +1,5 @@
--- The codes of each group's kinds: the RISC-V unprivileged specification's listing "RV64I Base Instruction Set", a row a line.
+-- The codes of each group's kinds: the RISC-V unprivileged specification's listings "RV32I Base
+-- Instruction Set" and "RV64I Base Instruction Set", a row a line.
 -- h-prefixed words have the codes of ordinary loads and stores (document 01, "Instructions").
 -- Assumes nothing.
 use mathlib.Core.Bool.{Bool, true, false, _&&_, _||_}

@@ -50,7 +50,7 @@ pub fn implicit_rule(r: Region) -> bool
     (r.bound == !low) & (((r.base & low) == 0) & (r.base <= 0x1_0000_0000_0000 - (low + 1)))
 }
 
-// The first and last byte of an explicit region lie below 2^48.
+// Does an explicit region end at 2^48 or before?
 fn ends_low(r: Region) -> bool
     ensures { λ q. ⌜ q ≡ leb (r .base + r .bound) (2 ^ 48) ⌝ }
 {

@@ -28,9 +28,9 @@ abbrev pub rows : List (List ℕ × List ℕ)
 rows =
     -- the whole example of document 01
     (lineOne ++ words, ascii "20,3,100,1,8,0,0,0,0\n10,5\n")
-    -- a budget of f4241 (A44, A48)
+    -- a budget of f4241
     ∷ (ascii "4,5,100,200,10,3,0,0,0,0,fffffffffffffff0,4,f4241\n", ascii "2,0,4,0,0,0,0,0,0\n")
-    -- options 10 (A45, A48)
+    -- options 10
     ∷ (ascii "0,10,100,200,10,3,0,0,0,0,fffffffffffffff0,4,a\n", ascii "3,0,0,0,0,0,0,0,0\n")
     -- document 01's example of a refusal
     ∷ (lineOne ++ ascii "0,\n", ascii "sheet,33,2\n")

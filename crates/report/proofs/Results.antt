@@ -1,4 +1,5 @@
--- Two different results never print the same bytes, and no result prints as a refusal.
+-- Results that print the same bytes agree in all that is printed (stop, count, pc, reason, exit pc, fault record, registers),
+-- and no result prints as a refusal.
 use mathlib.Core.Path.{_≡_, refl, ap, sym, _∙_}
 use mathlib.Core.Bool.{Bool, true, false, cond}
 use mathlib.Core.List.{List, [], _∷_, _++_, append-assoc}

@@ -12,7 +12,7 @@ use sheet::print::refuse;
 use sheet::setup::setup_values;
 use text::field::line_at;
 
-// The most bytes that an answer takes: 157 for the first line, 38 for each of 32 registers.
+// Room for every answer: 157 bytes for the first line, 38 for each of 32 registers.
 pub const MOST: usize = 1373;
 
 // Reads the sheet over a memory, runs it there and writes the answer, from the buffer's start on.
@@ -32,6 +32,7 @@ fn respond_over(input: &[u8], output: &mut [u8], mem: &mut [u8; 65536]) -> usize
 }
 
 // The answer to a sheet, over a memory of 65,536 zero bytes. The result is the number of bytes written.
+// The second clause follows from the first; it is said so that a program's `&output[..r]` needs no proof.
 pub fn respond(input: &[u8], output: &mut [u8; MOST]) -> usize
     ensures { λ r. ⌜ Answered (now (output .entry)) (report (now (input .entry))) (now (output .exit)) r ⌝ }
     ensures { λ r. ⌜ (r ≤ length (now (output .exit))) × (r ≡ length (take r (now (output .exit)))) ⌝ }

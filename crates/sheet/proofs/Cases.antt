@@ -33,13 +33,13 @@ rows =
     row [] 30 0
     -- no 0a at the end; the foreign byte comes later
     ∷ row (ascii "x") 30 0
-    -- a foreign byte in line 2, before the fields of line 1 are counted (A37)
+    -- a foreign byte in line 2, before the fields of line 1 are counted
     ∷ row (ascii "0\n0,x\n") 31 2
     -- capital letters are foreign
     ∷ row (ascii "A\n") 31 1
-    -- one field; an empty line (A40)
+    -- one field; an empty line
     ∷ row (ascii "\n") 32 1
-    -- an empty field that is not the budget (A42)
+    -- an empty field that is not the budget
     ∷ row (ascii ",5,100,200,10,3,0,0,0,0,0,4,\n") 33 1
     -- 17 digits
     ∷ row (ascii "00000000000000000,5,100,200,10,3,0,0,0,0,0,4,a\n") 33 1
@@ -49,13 +49,13 @@ rows =
     ∷ row (ascii "0,5,100,200,10,3,0,0,0,0,0,100,a\n") 34 1
     -- a budget above ffffffff
     ∷ row (ascii "0,5,100,200,10,3,0,0,0,0,0,4,100000000\n") 34 1
-    -- an empty budget, leading zeros (A41): accepted
+    -- an empty budget, leading zeros: accepted
     ∷ row (ascii "0,00000000000000ff,100,200,10,3,0,0,0,0,0,4,\n") 0 0
-    -- the worked example's line 1 alone (A46): accepted
+    -- the worked example's line 1 alone: accepted
     ∷ row lineOne 0 0
     -- document 01's example sheet,33,2
     ∷ row (lineOne ++ ascii "0,\n") 33 2
-    -- a blank last line (A40)
+    -- a blank last line
     ∷ row (lineOne ++ ascii "0,1\n\n") 32 3
     -- an address that is no multiple of 4
     ∷ row (lineOne ++ ascii "2,1\n") 34 2
@@ -67,7 +67,7 @@ rows =
     ∷ row (lineOne ++ ascii "0,1\nfffc,ffffffff\n") 0 0
     -- equal addresses
     ∷ row (lineOne ++ ascii "4,1\n4,1\n") 35 3
-    -- falling addresses, before the fields of line 4 are counted (A39)
+    -- falling addresses, before the fields of line 4 are counted
     ∷ row (lineOne ++ ascii "8,1\n4,1\n0\n") 35 3
     ∷ []
 

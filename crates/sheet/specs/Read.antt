@@ -34,7 +34,7 @@ loaded v mem = record { verdict = v; memory = mem }
 abbrev pub accepted : Verdict
 accepted = verdict 0 0
 
--- the word lines from the one with number n on: "all of 32, 33, 34, 35 for one line, then the next line" (A39)
+-- the word lines from line n on, "line by line": 32 to 35 of one line, then the next line
 unfoldable pub load : ℕ → ℕ → List ℕ → List (List ℕ) → Loaded
 load n least mem [] = loaded accepted mem
 load n least mem (l ∷ ls) =

@@ -1,4 +1,4 @@
-// Loads and stores: the doors to data.
+// Loads and stores, ordinary and h-prefixed.
 ghost use mathlib.Core.Path.{_≡_};
 ghost use mathlib.Core.List.{List};
 ghost use Prim.Native.Nat.{ℕ, _+_, _<_, _≤_};

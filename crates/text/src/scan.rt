@@ -33,13 +33,6 @@ pub fn count(s: &[u8], c: u8) -> usize
     n
 }
 
-// The byte at a place, 0 past the end.
-pub fn byte_at(s: &[u8], i: usize) -> u8
-    ensures { λ r. ⌜ r ≡ getD (now (s .entry)) i 0 ⌝ }
-{
-    if i < s.len() { s[i] } else { 0 }
-}
-
 // The last byte, 0 of an empty text.
 pub fn last_byte(s: &[u8]) -> u8
     ensures { λ r. ⌜ r ≡ getD (now (s .entry)) (length (now (s .entry)) - 1) 0 ⌝ }

@@ -44,7 +44,8 @@ pub fn machine(x: [u64; 32], pc: u64) -> Machine
     }
 }
 
-// The words of n columns of a record, which begin at `from`, one after another in memory from `a` on.
+// The words of n columns of a record, which begin at `from`, one after another in memory from `a` on. What memory then
+// holds is left free here; the stored cases show it.
 pub fn place_words(r: &[u8], from: usize, n: usize, mem: &mut [u8], a: u64)
     requires { ⌜ (from + 8 * n ≤ 4096) × (a + 4 * n ≤ length (now mem)) ⌝ }
     ensures { λ _. ⌜ length (now (mem .exit)) ≡ length (now (mem .entry)) ⌝ }

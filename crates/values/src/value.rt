@@ -94,6 +94,7 @@ fn cases(s: &[u8]) -> Tally {
     t
 }
 
+// What a file's cases come to, printed and answered. The counts are left free: a test program's result is what it prints.
 pub fn cases_of(path: &[u8]) -> Tally {
     let mut room = [0u8; 524288];
     let n = read_file(path, &mut room);

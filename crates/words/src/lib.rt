@@ -1,4 +1,4 @@
-// Bits of 64-bit words. Every other crate takes words apart and puts them together by these functions.
+// Bits of 64-bit words. The codec takes words apart and puts them together by these functions.
 ghost use mathlib.Core.Path.{_≡_};
 ghost use Prim.Native.Nat.{_+_, _*_, _^_, _<_, _≤_};
 ghost use lib.Signed.{ltZ, shrZ};

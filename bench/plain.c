@@ -1,0 +1,441 @@
+/* A plain switch interpreter of the machine of document 01: RV64I with HFI
+   checks on every fetch, load and store. It is the measure of speed; nothing
+   is decoded ahead or remembered from one step to the next. */
+#include "machine.h"
+
+#include <string.h>
+
+#define MEMORY_LIMIT 16777216u
+#define BUDGET_LIMIT 1000000u
+#define TOP ((uint64_t)1 << 48)
+
+enum { READ = 1, WRITE = 2, EXECUTE = 4, LARGE = 8 };
+enum { OP_LOAD = 1, OP_STORE = 2, OP_FETCH = 3 };
+
+static int well_formed(const struct machine *m)
+{
+    return m->x[0] == 0 && m->mode <= 1 && m->reason <= 2 && m->options <= 15 && !(m->handler & 0xc000000000000003u) &&
+           m->selector <= 3 && !(m->regions[0].permission & ~(uint64_t)(READ | WRITE | LARGE)) &&
+           !(m->regions[1].permission & ~(uint64_t)(READ | WRITE)) && !(m->regions[2].permission & ~(uint64_t)EXECUTE) &&
+           m->fault.occurred <= 1 && m->fault.region <= 3 && m->fault.op <= 3;
+}
+
+/* Does an implicit region keep its rule? With a good mask, low is 2^k - 1. */
+static inline int implicit_rule(const struct region *r)
+{
+    uint64_t low = ~r->bound;
+    return (low & (low + 1)) == 0 && low < TOP && (r->base & low) == 0 && r->base <= TOP - 1 - low;
+}
+
+/* The bytes a .. a + n - 1 of an ordinary access or a fetch. A good region is
+   one stretch below 2^48, so first and last byte decide; which byte was the
+   first refused is sought only after a no. */
+static inline int implicit_grant(struct machine *m, int number, uint64_t a, uint64_t n, uint64_t wanted, uint64_t op)
+{
+    const struct region *r = &m->regions[number - 1];
+    int rule = implicit_rule(r);
+    if (rule && (r->permission & wanted) && (a & r->bound) == r->base && ((a + n - 1) & r->bound) == r->base)
+        return 1;
+    uint64_t i = 0, region = 0;
+    for (; i < n; i++) {
+        int match = rule && ((a + i) & r->bound) == r->base;
+        if (!match)
+            break;
+        if (!(r->permission & wanted)) {
+            region = (uint64_t)number;
+            break;
+        }
+    }
+    m->fault = (struct fault){1, region, op, a + i};
+    return 0;
+}
+
+static inline int explicit_rule(const struct region *r)
+{
+    uint64_t base = r->base, bound = r->bound;
+    if (bound == 0 || bound > TOP || base > TOP - bound)
+        return 0;
+    if (r->permission & LARGE)
+        return ((base | bound) & 65535) == 0;
+    return base >> 32 == (base + bound - 1) >> 32;
+}
+
+/* The bytes of an h-prefixed access; the address of the first goes to *a. */
+static inline int explicit_grant(struct machine *m, int64_t offset, uint64_t n, uint64_t wanted, uint64_t op, uint64_t *a)
+{
+    const struct region *r = &m->regions[0];
+    *a = r->base + (uint64_t)offset;
+    int good = explicit_rule(r) && (r->permission & wanted);
+    if (good && offset >= 0 && (uint64_t)offset + n <= r->bound)
+        return 1;
+    uint64_t i = 0;
+    if (good)
+        while (offset + (int64_t)i >= 0 && (uint64_t)offset + i < r->bound)
+            i++;
+    m->fault = (struct fault){1, 1, op, *a + i};
+    return 0;
+}
+
+/* Are all bytes in memory? If not, the first absent address goes to *absent. */
+static inline int present(uint64_t a, uint64_t n, size_t length, uint64_t *absent)
+{
+    if (a < length && length - a >= n)
+        return 1;
+    *absent = a >= length ? a : (uint64_t)length;
+    return 0;
+}
+
+static inline uint64_t get(const uint8_t *p, unsigned n)
+{
+    uint64_t v = 0;
+    memcpy(&v, p, n); /* the host is little-endian */
+    return v;
+}
+
+static inline int64_t extend(uint64_t v, unsigned width)
+{
+    return (int64_t)(v << (64 - width)) >> (64 - width);
+}
+
+static inline uint64_t word_value(uint64_t v)
+{
+    return (uint64_t)(int64_t)(int32_t)v;
+}
+
+/* Which permission bits each region has. */
+static const uint64_t has[4] = {0, READ | WRITE | LARGE, READ | WRITE, EXECUTE};
+
+#define STOP(number)  \
+    do {              \
+        *address = 0; \
+        return number; \
+    } while (0)
+
+/* Questions 4 to 13 and the effect. Answers the stop; 0 if completed. */
+static inline uint64_t one_step(struct machine *m, uint8_t *memory, size_t length, uint64_t *address)
+{
+    uint64_t *x = m->x;
+    uint64_t pc = m->pc;
+
+    if (pc & 3)
+        STOP(10);
+    if (m->mode && !implicit_grant(m, 3, pc, 4, EXECUTE, OP_FETCH))
+        STOP(11);
+    if (!present(pc, 4, length, address))
+        return 12;
+    uint32_t w = (uint32_t)get(memory + pc, 4);
+
+    unsigned rd = w >> 7 & 31, rs1 = w >> 15 & 31, rs2 = w >> 20 & 31, funct3 = w >> 12 & 7, funct7 = w >> 25;
+    int64_t i_value = (int32_t)w >> 20;
+    int64_t s_value = (int64_t)((int32_t)w >> 25) * 32 + rd;
+    uint64_t next = pc + 4, v = 0, a;
+
+    switch (w & 127) {
+    case 0x37: /* LUI */
+        v = (uint64_t)(int64_t)(int32_t)(w & 0xfffff000u);
+        goto write_rd;
+    case 0x17: /* AUIPC */
+        v = pc + (uint64_t)(int64_t)(int32_t)(w & 0xfffff000u);
+        goto write_rd;
+    case 0x6f: { /* JAL */
+        uint64_t offset = (w >> 31) << 20 | (w >> 12 & 255) << 12 | (w >> 20 & 1) << 11 | (w >> 21 & 1023) << 1;
+        uint64_t target = pc + (uint64_t)extend(offset, 21);
+        if (target & 3)
+            STOP(15);
+        v = next;
+        next = target;
+        goto write_rd;
+    }
+    case 0x67: { /* JALR */
+        if (funct3)
+            STOP(13);
+        uint64_t target = (x[rs1] + (uint64_t)i_value) & ~(uint64_t)1;
+        if (target & 3)
+            STOP(15);
+        v = next;
+        next = target;
+        goto write_rd;
+    }
+    case 0x63: { /* branches */
+        uint64_t p = x[rs1], q = x[rs2];
+        int taken;
+        switch (funct3) {
+        case 0: taken = p == q; break;
+        case 1: taken = p != q; break;
+        case 4: taken = (int64_t)p < (int64_t)q; break;
+        case 5: taken = (int64_t)p >= (int64_t)q; break;
+        case 6: taken = p < q; break;
+        case 7: taken = p >= q; break;
+        default: STOP(13);
+        }
+        if (taken) {
+            uint64_t offset = (w >> 31) << 12 | (w >> 7 & 1) << 11 | (w >> 25 & 63) << 5 | (w >> 8 & 15) << 1;
+            next = pc + (uint64_t)extend(offset, 13);
+            if (next & 3)
+                STOP(15);
+        }
+        goto done;
+    }
+    case 0x03: /* loads */
+    case 0x0b: { /* h-loads */
+        if (funct3 == 7)
+            STOP(13);
+        unsigned n = 1u << (funct3 & 3);
+        if (w & 8) {
+            if (!m->mode)
+                STOP(14);
+            if (!explicit_grant(m, i_value, n, READ, OP_LOAD, &a))
+                STOP(16);
+        } else {
+            a = x[rs1] + (uint64_t)i_value;
+            if (m->mode && !implicit_grant(m, 2, a, n, READ, OP_LOAD))
+                STOP(16);
+        }
+        if (!present(a, n, length, address))
+            return 17;
+        switch (funct3) {
+        case 0: v = (uint64_t)(int64_t)(int8_t)memory[a]; break;
+        case 1: v = (uint64_t)(int64_t)(int16_t)get(memory + a, 2); break;
+        case 2: v = (uint64_t)(int64_t)(int32_t)get(memory + a, 4); break;
+        case 3: v = get(memory + a, 8); break;
+        case 4: v = memory[a]; break;
+        case 5: v = get(memory + a, 2); break;
+        default: v = get(memory + a, 4); break;
+        }
+        goto write_rd;
+    }
+    case 0x23: /* stores */
+    case 0x2b: { /* h-stores */
+        if (funct3 > 3)
+            STOP(13);
+        unsigned n = 1u << funct3;
+        if (w & 8) {
+            if (!m->mode)
+                STOP(14);
+            if (!explicit_grant(m, s_value, n, WRITE, OP_STORE, &a))
+                STOP(16);
+        } else {
+            a = x[rs1] + (uint64_t)s_value;
+            if (m->mode && !implicit_grant(m, 2, a, n, WRITE, OP_STORE))
+                STOP(16);
+        }
+        if (!present(a, n, length, address))
+            return 17;
+        switch (funct3) {
+        case 0: memory[a] = (uint8_t)x[rs2]; break;
+        case 1: memcpy(memory + a, &x[rs2], 2); break;
+        case 2: memcpy(memory + a, &x[rs2], 4); break;
+        default: memcpy(memory + a, &x[rs2], 8); break;
+        }
+        goto done;
+    }
+    case 0x13: /* operations with an immediate */
+        switch (funct3) {
+        case 0: v = x[rs1] + (uint64_t)i_value; break;
+        case 1:
+            if (w >> 26)
+                STOP(13);
+            v = x[rs1] << (w >> 20 & 63);
+            break;
+        case 2: v = (int64_t)x[rs1] < i_value; break;
+        case 3: v = x[rs1] < (uint64_t)i_value; break;
+        case 4: v = x[rs1] ^ (uint64_t)i_value; break;
+        case 5:
+            if (w >> 26 == 0)
+                v = x[rs1] >> (w >> 20 & 63);
+            else if (w >> 26 == 16)
+                v = (uint64_t)((int64_t)x[rs1] >> (w >> 20 & 63));
+            else
+                STOP(13);
+            break;
+        case 6: v = x[rs1] | (uint64_t)i_value; break;
+        default: v = x[rs1] & (uint64_t)i_value; break;
+        }
+        goto write_rd;
+    case 0x1b:
+        switch (funct3) {
+        case 0: v = word_value(x[rs1] + (uint64_t)i_value); break;
+        case 1:
+            if (funct7)
+                STOP(13);
+            v = word_value(x[rs1] << rs2);
+            break;
+        case 5:
+            if (funct7 == 0)
+                v = word_value((uint32_t)x[rs1] >> rs2);
+            else if (funct7 == 32)
+                v = (uint64_t)(int64_t)((int32_t)x[rs1] >> rs2);
+            else
+                STOP(13);
+            break;
+        default: STOP(13);
+        }
+        goto write_rd;
+    case 0x33: /* operations between registers */
+        if (funct7 == 0) {
+            switch (funct3) {
+            case 0: v = x[rs1] + x[rs2]; break;
+            case 1: v = x[rs1] << (x[rs2] & 63); break;
+            case 2: v = (int64_t)x[rs1] < (int64_t)x[rs2]; break;
+            case 3: v = x[rs1] < x[rs2]; break;
+            case 4: v = x[rs1] ^ x[rs2]; break;
+            case 5: v = x[rs1] >> (x[rs2] & 63); break;
+            case 6: v = x[rs1] | x[rs2]; break;
+            default: v = x[rs1] & x[rs2]; break;
+            }
+        } else if (funct7 == 32 && funct3 == 0) {
+            v = x[rs1] - x[rs2];
+        } else if (funct7 == 32 && funct3 == 5) {
+            v = (uint64_t)((int64_t)x[rs1] >> (x[rs2] & 63));
+        } else {
+            STOP(13);
+        }
+        goto write_rd;
+    case 0x3b:
+        switch (funct7 << 3 | funct3) {
+        case 0: v = word_value(x[rs1] + x[rs2]); break;
+        case 32 << 3: v = word_value(x[rs1] - x[rs2]); break;
+        case 1: v = word_value(x[rs1] << (x[rs2] & 31)); break;
+        case 5: v = word_value((uint32_t)x[rs1] >> (x[rs2] & 31)); break;
+        case 32 << 3 | 5: v = (uint64_t)(int64_t)((int32_t)x[rs1] >> (x[rs2] & 31)); break;
+        default: STOP(13);
+        }
+        goto write_rd;
+    case 0x0f: /* FENCE */
+        if (funct3)
+            STOP(13);
+        goto done;
+    case 0x73:
+        if (w == 0x00100073)
+            STOP(19);
+        if (w != 0x00000073)
+            STOP(13);
+        if (!m->mode || !(m->options & 2))
+            STOP(18);
+        m->mode = 0;
+        m->reason = 2;
+        m->exit_pc = pc;
+        next = m->handler;
+        goto done;
+    case 0x5b: {
+        if (funct3 || funct7 > 12)
+            STOP(13);
+        /* which of rd, rs1, rs2 the rows name: bits 0, 1, 2 */
+        static const uint8_t named[13] = {2, 6, 0, 2, 2, 1, 2, 1, 2, 1, 2, 1, 0};
+        unsigned spare = ~named[funct7];
+        if ((spare & 1 && rd) || (spare & 2 && rs1) || (spare & 4 && rs2))
+            STOP(13);
+        uint64_t operand = x[rs1];
+        int inside = m->mode == 1, locked = inside && (m->options & 1);
+        struct region *r = &m->regions[m->selector - (m->selector != 0)];
+        if (funct7 >= 3 && funct7 <= 9 && (locked || (funct7 >= 4 && m->selector == 0)))
+            STOP(14);
+        switch (funct7) {
+        case 0:
+        case 1:
+            if (inside || operand > 15)
+                STOP(14);
+            if (funct7 == 1) {
+                if (x[rs2] & 3)
+                    STOP(15);
+                next = x[rs2];
+            }
+            m->mode = 1;
+            m->options = operand;
+            m->fault.occurred = 0;
+            break;
+        case 2:
+            if (!inside)
+                STOP(14);
+            m->mode = 0;
+            m->reason = 1;
+            m->exit_pc = pc;
+            if (m->options & 4)
+                next = m->handler;
+            break;
+        case 3:
+            if (operand < 1 || operand > 3)
+                STOP(14);
+            m->selector = operand;
+            break;
+        case 4: r->base = operand; break;
+        case 5: v = r->base; goto write_rd;
+        case 6: r->bound = operand; break;
+        case 7: v = r->bound; goto write_rd;
+        case 8:
+            if (operand & ~has[m->selector])
+                STOP(14);
+            r->permission = operand;
+            break;
+        case 9: v = r->permission; goto write_rd;
+        case 10:
+            if (inside)
+                STOP(14);
+            m->handler = operand & 0x3ffffffffffffffcu;
+            break;
+        case 11:
+            if (locked)
+                STOP(14);
+            v = m->handler;
+            goto write_rd;
+        default:
+            if (locked)
+                STOP(14);
+            memset(m->regions, 0, sizeof m->regions);
+            m->selector = 0;
+            break;
+        }
+        goto done;
+    }
+    default: STOP(13);
+    }
+
+write_rd:
+    if (rd)
+        x[rd] = v;
+done:
+    m->pc = next;
+    return 0;
+}
+
+void plain_step(struct machine *m, uint8_t *memory, size_t length, uint64_t *answer)
+{
+    answer[1] = 0;
+    if (length > MEMORY_LIMIT)
+        answer[0] = 1;
+    else if (!well_formed(m))
+        answer[0] = 3;
+    else
+        answer[0] = one_step(m, memory, length, &answer[1]);
+}
+
+void plain_run(struct machine *m, uint8_t *memory, size_t length, uint64_t budget, uint64_t *answer)
+{
+    uint64_t count = 0, stop = 0, address = 0;
+    if (length > MEMORY_LIMIT)
+        stop = 1;
+    else if (budget > BUDGET_LIMIT)
+        stop = 2;
+    else if (!well_formed(m))
+        stop = 3;
+    if (!stop) {
+        uint64_t began = m->mode;
+        for (;;) {
+            if (count == budget) {
+                stop = 21;
+                break;
+            }
+            stop = one_step(m, memory, length, &address);
+            if (stop)
+                break;
+            count++;
+            if (began && !m->mode) {
+                stop = 20;
+                break;
+            }
+        }
+    }
+    answer[0] = stop;
+    answer[1] = count;
+    answer[2] = stop == 12 || stop == 17 ? address : 0;
+}

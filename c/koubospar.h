@@ -1,0 +1,198 @@
+/* libkoubospar.a: an RV64I machine with HFI, for the controller of an oven.
+ *
+ * Build it with `rt staticlib koubospar` (target/staticlib/libkoubospar.a); nothing of it is compiled unless it is
+ * proved. Numbers and values are those of the scope paper, "document 01". Every function takes every value of every
+ * field; what it refuses, it answers with a number. What nothing checks is C's own: a machine is a valid, aligned and
+ * initialized record, `memory` is valid for `length` bytes, the two do not overlap, and nobody else uses them during a
+ * call. The library has no state of its own and calls nothing but memcpy, so calls on different machines may be made
+ * at the same time.
+ */
+#ifndef KOUBOSPAR_H
+#define KOUBOSPAR_H
+
+#include <stddef.h>
+#include <stdint.h>
+
+#ifdef __cplusplus
+extern "C" {
+#endif
+
+/* ---- the machine ---------------------------------------------------------------------------------------------- */
+
+/* "permissions: bit 0 read, bit 1 write, bit 2 execute, bit 3 large". Region 1, explicit data, has bits 0, 1 and 3, and
+ * a bound; region 2, implicit data, bits 0 and 1, and a mask; region 3, implicit code, bit 2, and a mask. */
+struct koubospar_region {
+    uint64_t base;
+    uint64_t bound;
+    uint64_t permission;
+};
+
+/* "Fault record: occurred (0 or 1), region, op (0 none, 1 load, 2 store, 3 fetch), and the address". */
+struct koubospar_fault {
+    uint64_t occurred;
+    uint64_t region;
+    uint64_t op;
+    uint64_t address;
+};
+
+struct koubospar_hfi {
+    uint64_t mode;     /* 0 or 1 */
+    uint64_t reason;   /* 0 none, 1 hfiexit, 2 system call */
+    uint64_t epc;      /* exit pc */
+    uint64_t options;  /* bit 0 lock regions, 1 redirect system calls, 2 redirect exits, 3 serialize */
+    uint64_t handler;  /* exit handler; bits 0, 1, 62 and 63 clear */
+    uint64_t selector; /* 0 to 3, 0 for none */
+    struct koubospar_region regions[3]; /* region n stands at n - 1 */
+    struct koubospar_fault fault;
+};
+
+/* A record of zeros is well formed: outside HFI mode, at pc 0. */
+struct koubospar_machine {
+    uint64_t x[32];
+    uint64_t pc;
+    struct koubospar_hfi hfi;
+};
+
+/* ---- the calls on a machine ----------------------------------------------------------------------------------- */
+
+/* The number that ended a call. Of those that a call can answer, the first whose question is answered no. */
+enum {
+    KOUBOSPAR_COMPLETED = 0,          /* a completed step, or a resumption */
+    KOUBOSPAR_MEMORY_TOO_LONG = 1,    /* memory is longer than 16,777,216 bytes */
+    KOUBOSPAR_BUDGET_TOO_LARGE = 2,   /* the budget is above 1,000,000 */
+    KOUBOSPAR_ILL_FORMED = 3,         /* the machine is not well formed */
+    KOUBOSPAR_PC_MISALIGNED = 10,     /* pc is no multiple of 4 */
+    KOUBOSPAR_FETCH_REFUSED = 11,     /* in HFI mode, a byte of the word is not executable */
+    KOUBOSPAR_FETCH_ABSENT = 12,      /* a byte of the word is not in memory */
+    KOUBOSPAR_ILLEGAL_WORD = 13,      /* the word is not legal */
+    KOUBOSPAR_HFI_FORBIDS = 14,       /* HFI does not allow the instruction */
+    KOUBOSPAR_TARGET_MISALIGNED = 15, /* the target of a branch, a jump or an enter is no multiple of 4 */
+    KOUBOSPAR_DATA_REFUSED = 16,      /* a data byte is not granted */
+    KOUBOSPAR_DATA_ABSENT = 17,       /* a data byte is not in memory */
+    KOUBOSPAR_SYSTEM_CALL = 18,       /* an ECALL that is not redirected */
+    KOUBOSPAR_BREAKPOINT = 19,        /* an EBREAK */
+    KOUBOSPAR_LEFT = 20,              /* a run that began in HFI mode has left it */
+    KOUBOSPAR_BUDGET_SPENT = 21       /* the budget has no step left */
+};
+
+struct koubospar_stop {
+    uint64_t stop;
+    uint64_t address; /* for 12 and 17 the first absent address; else 0 */
+};
+
+struct koubospar_run_stop {
+    uint64_t stop;
+    uint64_t count; /* completed steps; 20 counts the step that left, 10 to 19 do not count theirs */
+    uint64_t address;
+};
+
+/* One step: 0, or 1, 3, 10 to 19. After 0 machine and memory are what the instruction makes of them. Every other number
+ * leaves both as they were, but for 11 and 16, which write the machine's fault record. */
+struct koubospar_stop koubospar_step(struct koubospar_machine *machine, uint8_t *memory, size_t length);
+
+/* A run of at most `budget` steps: 1 to 3, or 10 to 21. 1 to 3 leave all as it was, with count 0. Otherwise machine and
+ * memory are as after `count` completed steps, and after 11 and 16 the fault record is written besides. */
+struct koubospar_run_stop koubospar_run(struct koubospar_machine *machine, uint8_t *memory, size_t length, uint64_t budget);
+
+/* Meant for 18: puts `value` in x10 and adds 4 to pc, and answers 0; or 3, which leaves the machine as it was. */
+struct koubospar_stop koubospar_resume(struct koubospar_machine *machine, uint64_t value);
+
+/* ---- words and instructions ----------------------------------------------------------------------------------- */
+
+/* Groups, and which fields each has besides its kind. The others are 0. */
+enum {
+    KOUBOSPAR_UPPER = 1,          /* rd, imm (64 bits, the 12 low ones 0) */
+    KOUBOSPAR_JAL = 2,            /* rd, imm (an offset in bytes); kind 0 */
+    KOUBOSPAR_JALR = 3,           /* rd, rs1, imm; kind 0 */
+    KOUBOSPAR_BRANCH = 4,         /* rs1, rs2, imm (an offset in bytes) */
+    KOUBOSPAR_LOAD = 5,           /* rd, rs1, imm */
+    KOUBOSPAR_STORE = 6,          /* rs1, rs2, imm */
+    KOUBOSPAR_IMMEDIATE = 7,      /* rd, rs1, imm */
+    KOUBOSPAR_SHIFT = 8,          /* rd, rs1, imm (an amount) */
+    KOUBOSPAR_ADDIW = 9,          /* rd, rs1, imm; kind 0 */
+    KOUBOSPAR_SHIFT_WORD = 10,    /* rd, rs1, imm (an amount) */
+    KOUBOSPAR_REGISTER = 11,      /* rd, rs1, rs2 */
+    KOUBOSPAR_REGISTER_WORD = 12, /* rd, rs1, rs2 */
+    KOUBOSPAR_FENCE = 13,         /* fm, pred, succ, rs1, rd; kind 0 */
+    KOUBOSPAR_SYSTEM = 14,        /* no field */
+    KOUBOSPAR_H_LOAD = 15,        /* rd, rs1, imm */
+    KOUBOSPAR_H_STORE = 16,       /* rs1, rs2, imm */
+    KOUBOSPAR_HFI = 17            /* those of rd, rs1, rs2 that the row of document 01's table names */
+};
+
+/* A kind's number is its code in the word: the opcode of an upper word; funct3 of a branch, a load, a store (h-prefixed
+ * or not) and an immediate; funct7 (of a 64-bit shift by an amount, the six bits above it) and funct3 as one number,
+ * 8 * funct7 + funct3, of a register word and of shifts; funct12 of a system word; funct7 of an HFI word. */
+struct koubospar_instruction {
+    uint64_t group;
+    uint64_t kind;
+    uint64_t rd;
+    uint64_t rs1;
+    uint64_t rs2;
+    uint64_t imm; /* the 64 bits that it stands for, sign extended */
+    uint64_t fm;
+    uint64_t pred;
+    uint64_t succ;
+};
+
+struct koubospar_decoded {
+    uint64_t number; /* 0; or 13 for an illegal word, with an instruction of zeros */
+    struct koubospar_instruction instruction;
+};
+
+struct koubospar_encoded {
+    uint64_t number; /* 0; or 5, with word 0 */
+    uint32_t word;
+};
+
+/* "Decoding answers 13 for an illegal word and only then." */
+struct koubospar_decoded koubospar_decode(uint32_t word);
+
+/* "Encoding answers 5, with word 0, if a field of the instruction is outside its range and only then": also a group or
+ * a kind that there is not, and a field that is not 0 in a group that lacks it. */
+struct koubospar_encoded koubospar_encode(struct koubospar_instruction instruction);
+
+/* ---- the run sheet -------------------------------------------------------------------------------------------- */
+
+/* The most bytes that the answer to a sheet takes. */
+#define KOUBOSPAR_MOST 1373
+
+/* What the sheet program prints for the sheet `input`: either the one line of a refusal (30 to 35), or the result of the
+ * run and its registers. It stands at the start of `output`; the number of bytes is answered, and those after them are
+ * left as they were. The run has a memory of its own, on the stack (64 KiB). */
+size_t koubospar_respond(const uint8_t *input, size_t length, uint8_t output[KOUBOSPAR_MOST]);
+
+/* ---- a test of these declarations ----------------------------------------------------------------------------- */
+
+/* A machine whose place i, in 64-bit words from the start, holds 1000 + i; x1 to x30 are 0. It is not well formed. */
+struct koubospar_machine koubospar_probe(void);
+
+/* What the library reads in place i of a machine: 0 for x1 to x30 and past the end. */
+uint64_t koubospar_place(struct koubospar_machine machine, uint64_t i);
+
+/* ---- sizes and places, as C has them -------------------------------------------------------------------------- */
+
+#if defined(__cplusplus)
+#define KOUBOSPAR_HOLDS(e, text) static_assert(e, text)
+#else
+#define KOUBOSPAR_HOLDS(e, text) _Static_assert(e, text)
+#endif
+KOUBOSPAR_HOLDS(sizeof(struct koubospar_region) == 24, "region");
+KOUBOSPAR_HOLDS(sizeof(struct koubospar_fault) == 32, "fault");
+KOUBOSPAR_HOLDS(sizeof(struct koubospar_hfi) == 152, "HFI state");
+KOUBOSPAR_HOLDS(offsetof(struct koubospar_hfi, regions) == 48, "regions");
+KOUBOSPAR_HOLDS(offsetof(struct koubospar_hfi, fault) == 120, "fault record");
+KOUBOSPAR_HOLDS(sizeof(struct koubospar_machine) == 416, "machine");
+KOUBOSPAR_HOLDS(offsetof(struct koubospar_machine, pc) == 256, "pc");
+KOUBOSPAR_HOLDS(offsetof(struct koubospar_machine, hfi) == 264, "HFI state in the machine");
+KOUBOSPAR_HOLDS(sizeof(struct koubospar_stop) == 16, "stop");
+KOUBOSPAR_HOLDS(sizeof(struct koubospar_run_stop) == 24, "stop of a run");
+KOUBOSPAR_HOLDS(sizeof(struct koubospar_instruction) == 72, "instruction");
+KOUBOSPAR_HOLDS(sizeof(struct koubospar_decoded) == 80, "decoded");
+KOUBOSPAR_HOLDS(sizeof(struct koubospar_encoded) == 16 && offsetof(struct koubospar_encoded, word) == 8, "encoded");
+
+#ifdef __cplusplus
+}
+#endif
+
+#endif

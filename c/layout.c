@@ -1,0 +1,181 @@
+/* layout: holds the header's declarations against what the library reads and writes, in every field. */
+#include "koubospar.h"
+
+#include <stdio.h>
+#include <string.h>
+
+static int failed;
+
+static void is(const char *what, uint64_t got, uint64_t expected)
+{
+    if (got != expected) {
+        printf("FAILED: %s is %llu, not %llu\n", what, (unsigned long long)got, (unsigned long long)expected);
+        failed = 1;
+    }
+}
+#define IS(e, v) is(#e, (e), (v))
+
+/* the fields of a machine by their names, in the order of their places; x stands for its first and last */
+#define PLACES 22
+static const uint64_t place_of[PLACES] = {0,  31, 32, 33, 34, 35, 36, 37, 38, 39, 40,
+                                          41, 42, 43, 44, 45, 46, 47, 48, 49, 50, 51};
+
+static uint64_t *named(struct koubospar_machine *m, int n)
+{
+    struct koubospar_hfi *h = &m->hfi;
+    uint64_t *all[PLACES] = {
+        &m->x[0],
+        &m->x[31],
+        &m->pc,
+        &h->mode,
+        &h->reason,
+        &h->epc,
+        &h->options,
+        &h->handler,
+        &h->selector,
+        &h->regions[0].base,
+        &h->regions[0].bound,
+        &h->regions[0].permission,
+        &h->regions[1].base,
+        &h->regions[1].bound,
+        &h->regions[1].permission,
+        &h->regions[2].base,
+        &h->regions[2].bound,
+        &h->regions[2].permission,
+        &h->fault.occurred,
+        &h->fault.region,
+        &h->fault.op,
+        &h->fault.address,
+    };
+    return all[n];
+}
+
+static void machine(void)
+{
+    struct koubospar_machine m;
+    memset(&m, 0xee, sizeof m);
+    m = koubospar_probe();
+    for (int n = 0; n < PLACES; n++)
+        is("a field of the probe", *named(&m, n), 1000 + place_of[n]);
+    for (int i = 1; i < 31; i++)
+        is("a register of the probe", m.x[i], 0);
+    for (int n = 0; n < PLACES; n++) { /* one field at a time, all others different from it */
+        memset(&m, 0xee, sizeof m);
+        *named(&m, n) = 77 + (uint64_t)n;
+        for (int k = 0; k < PLACES; k++)
+            is("a field that the library reads", koubospar_place(m, place_of[k]),
+               k == n ? 77 + (uint64_t)n : 0xeeeeeeeeeeeeeeee);
+    }
+}
+
+/* x1 to x30, and the order of the answers' fields */
+static void calls(void)
+{
+    uint8_t memory[8] = {0, 0, 0, 0, 0x13, 0, 0, 0}; /* at 4: addi x0, x0, 0 */
+    struct koubospar_machine m;
+    for (unsigned i = 1; i < 32; i++) {
+        memset(&m, 0, sizeof m);
+        m.x[i] = 5;
+        uint32_t word = 0x00100013 | i << 7 | i << 15; /* addi xi, xi, 1 */
+        memcpy(memory, &word, 4); /* the host is little-endian */
+        struct koubospar_stop s = koubospar_step(&m, memory, sizeof memory);
+        IS(s.stop, 0);
+        IS(m.x[i], 6);
+        IS(m.pc, 4);
+    }
+    memset(&m, 0, sizeof m);
+    struct koubospar_run_stop r = koubospar_run(&m, memory, sizeof memory, 100);
+    IS(r.stop, 12);
+    IS(r.count, 2);
+    IS(r.address, 8);
+    struct koubospar_stop s = koubospar_step(&m, memory, sizeof memory);
+    IS(s.stop, 12);
+    IS(s.address, 8);
+    s = koubospar_resume(&m, 99);
+    IS(s.stop, 0);
+    IS(m.x[10], 99);
+    IS(m.pc, 12);
+    r = koubospar_run(&m, NULL, 0, 100); /* no memory at all */
+    IS(r.stop, 12);
+    IS(r.address, 12);
+    m.hfi.mode = 2;
+    IS(koubospar_run(&m, memory, sizeof memory, 100).stop, 3);
+    IS(koubospar_step(&m, memory, sizeof memory).stop, 3);
+    IS(koubospar_resume(&m, 1).stop, 3);
+    IS(m.x[10], 99);
+    IS(koubospar_run(&m, memory, sizeof memory, 1000001).stop, 2);
+}
+
+static void instruction(uint32_t word, struct koubospar_instruction expected)
+{
+    struct koubospar_decoded d = koubospar_decode(word);
+    IS(d.number, 0);
+    IS(d.instruction.group, expected.group);
+    IS(d.instruction.kind, expected.kind);
+    IS(d.instruction.rd, expected.rd);
+    IS(d.instruction.rs1, expected.rs1);
+    IS(d.instruction.rs2, expected.rs2);
+    IS(d.instruction.imm, expected.imm);
+    IS(d.instruction.fm, expected.fm);
+    IS(d.instruction.pred, expected.pred);
+    IS(d.instruction.succ, expected.succ);
+    struct koubospar_encoded e = koubospar_encode(expected);
+    IS(e.number, 0);
+    IS(e.word, word);
+    /* a field more than the group has, and a group that there is not */
+    struct koubospar_instruction wrong = expected;
+    wrong.group = 18;
+    IS(koubospar_encode(wrong).number, 5);
+    IS(koubospar_encode(wrong).word, 0);
+    wrong = expected;
+    wrong.kind += 1000;
+    IS(koubospar_encode(wrong).number, 5);
+    if (expected.group != KOUBOSPAR_FENCE) {
+        wrong = expected;
+        wrong.pred = 1;
+        IS(koubospar_encode(wrong).number, 5);
+    }
+}
+
+static void codec(void)
+{
+    typedef struct koubospar_instruction I;
+    instruction(0x00500513, (I){.group = KOUBOSPAR_IMMEDIATE, .kind = 0, .rd = 10, .imm = 5});
+    instruction(0x00a001ab, (I){.group = KOUBOSPAR_H_STORE, .kind = 0, .rs2 = 10, .imm = 3});
+    instruction(0x0400005b, (I){.group = KOUBOSPAR_HFI, .kind = 2});
+    instruction(0xfffff0b7, (I){.group = KOUBOSPAR_UPPER, .kind = 0x37, .rd = 1, .imm = 0xfffffffffffff000});
+    instruction(0x40628233, (I){.group = KOUBOSPAR_REGISTER, .kind = 256, .rd = 4, .rs1 = 5, .rs2 = 6});
+    instruction(0xfe209ee3, (I){.group = KOUBOSPAR_BRANCH, .kind = 1, .rs1 = 1, .rs2 = 2, .imm = (uint64_t)-4});
+    instruction(0x1238818f,
+                (I){.group = KOUBOSPAR_FENCE, .rd = 3, .rs1 = 17, .fm = 1, .pred = 2, .succ = 3});
+    struct koubospar_decoded d = koubospar_decode(0x0400015b); /* case C */
+    IS(d.number, 13);
+    IS(d.instruction.group, 0);
+}
+
+/* document 01's whole example, and a refusal */
+static void sheet(void)
+{
+    const char *whole = "0,5,100,200,10,3,0,0,0,0,fffffffffffffff0,4,a\n0,00500513\n4,00a001ab\n8,0400005b\n";
+    const char *printed = "20,3,100,1,8,0,0,0,0\n10,5\n";
+    uint8_t output[KOUBOSPAR_MOST];
+    memset(output, 0xee, sizeof output);
+    size_t n = koubospar_respond((const uint8_t *)whole, strlen(whole), output);
+    IS(n, strlen(printed));
+    IS(memcmp(output, printed, strlen(printed)) == 0, 1);
+    for (size_t i = n; i < sizeof output; i++)
+        IS(output[i], 0xee);
+    n = koubospar_respond((const uint8_t *)whole, 0, output);
+    IS(n, 11);
+    IS(memcmp(output, "sheet,30,0\n", 11) == 0, 1);
+}
+
+int main(void)
+{
+    machine();
+    calls();
+    codec();
+    sheet();
+    puts(failed ? "layout FAILED" : "layout: every field as declared");
+    return failed;
+}

@@ -1,0 +1,13 @@
+-- What a call on a lent machine answers, with the machine that it left, as the model's answer of the call by value.
+-- Assumes nothing.
+use Rattle.model.specs.declared.Machine.{Machine}
+use Rattle.model.specs.declared.Stepped.{Stepped}
+use Rattle.model.specs.declared.Ran.{Ran}
+use Rattle.koubospar.specs.declared.lent.Stop.{Stop}
+use Rattle.koubospar.specs.declared.lent.RunStop.{RunStop}
+
+abbrev pub stepped : Stop → Machine → Stepped
+stepped r m = record { stop = r .stop; address = r .address; machine = m }
+
+abbrev pub ran : RunStop → Machine → Ran
+ran r m = record { stop = r .stop; count = r .count; address = r .address; machine = m }

@@ -1,0 +1,4 @@
+pub mod Lent
+pub mod Kinds
+pub mod Flat
+pub mod Probe

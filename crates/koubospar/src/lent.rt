@@ -1,0 +1,63 @@
+// "The oven's main loop keeps one machine record and lends it to each call, which updates it there."
+ghost use mathlib.Core.Path.{_≡_};
+ghost use Rattle.model.specs.Step.{step as stepOf, resume as resumeOf};
+ghost use Rattle.model.specs.Run.{runCall};
+ghost use Rattle.hfi.specs.Did.{after};
+ghost use Rattle.run.specs.Answer.{answer};
+ghost use Rattle.koubospar.specs.Lent.{stepped, ran};
+use model::Machine;
+
+// What a step or a resumption of a lent machine answers: document 01's number, and the absent address of 12 and 17.
+#[repr(C)]
+pub struct Stop {
+    pub stop: u64,
+    pub address: u64,
+}
+
+// What a run of a lent machine answers, with the count of completed steps.
+#[repr(C)]
+pub struct RunStop {
+    pub stop: u64,
+    pub count: u64,
+    pub address: u64,
+}
+
+// One step.
+#[no_mangle]
+pub extern "C" fn koubospar_step(m: &mut Machine, mem: &mut [u8]) -> Stop
+    ensures { λ r. ⌜ after (stepped r (now (m .exit))) (now (mem .exit)) ≡ stepOf (now (m .entry)) (now (mem .entry)) ⌝ }
+{
+    let r = step::call::step(*m, mem);
+    *m = r.machine;
+    Stop {
+        stop: r.stop,
+        address: r.address,
+    }
+}
+
+// A run of at most `budget` steps.
+#[no_mangle]
+pub extern "C" fn koubospar_run(m: &mut Machine, mem: &mut [u8], budget: u64) -> RunStop
+    ensures { λ r. ⌜ answer (ran r (now (m .exit))) (now (mem .exit)) ≡ runCall (now (m .entry)) (now (mem .entry)) budget ⌝ }
+{
+    let r = run::run(*m, mem, budget);
+    *m = r.machine;
+    RunStop {
+        stop: r.stop,
+        count: r.count,
+        address: r.address,
+    }
+}
+
+// `v` in x10, and pc past the word that it stands at: meant for stop 18.
+#[no_mangle]
+pub extern "C" fn koubospar_resume(m: &mut Machine, v: u64) -> Stop
+    ensures { λ r. ⌜ stepped r (now (m .exit)) ≡ resumeOf (now (m .entry)) v ⌝ }
+{
+    let r = step::call::resume(*m, v);
+    *m = r.machine;
+    Stop {
+        stop: r.stop,
+        address: r.address,
+    }
+}
