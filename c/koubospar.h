@@ -1,10 +1,10 @@
-/* libkoubospar.a: an RV64I machine with HFI, for the controller of an oven.
+/* libkoubospar.a and libkoubospar_codec.a: an RV64I machine with HFI, for the controller of an oven.
  *
- * Build it with `rt staticlib koubospar` (target/staticlib/libkoubospar.a); nothing of it is compiled unless it is
- * proved. Numbers and values are those of the scope paper, "document 01". Every function takes every value of every
+ * `rt staticlib koubospar` and `rt staticlib koubospar_codec` build them in target/staticlib/; nothing of them is compiled
+ * unless it is proved. The second has koubospar_decode and koubospar_encode, the first all else. Numbers and values are those of the scope paper, "document 01". Every function takes every value of every
  * field; what it refuses, it answers with a number. What nothing checks is C's own: a machine is a valid, aligned and
  * initialized record, `memory` is valid for `length` bytes, the two do not overlap, and nobody else uses them during a
- * call. The library has no state of its own and calls nothing but memcpy, so calls on different machines may be made
+ * call. The libraries have no state of their own and call nothing but memcpy, so calls on different machines may be made
  * at the same time.
  */
 #ifndef KOUBOSPAR_H

@@ -1,4 +1,2 @@
 pub mod Lent
-pub mod Kinds
-pub mod Flat
 pub mod Probe

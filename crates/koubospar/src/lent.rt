@@ -5,6 +5,7 @@ ghost use Rattle.model.specs.Run.{runCall};
 ghost use Rattle.hfi.specs.Did.{after};
 ghost use Rattle.run.specs.Answer.{answer};
 ghost use Rattle.koubospar.specs.Lent.{stepped, ran};
+use crate::single::single_step;
 use model::Machine;
 
 // What a step or a resumption of a lent machine answers: document 01's number, and the absent address of 12 and 17.
@@ -27,7 +28,7 @@ pub struct RunStop {
 pub extern "C" fn koubospar_step(m: &mut Machine, mem: &mut [u8]) -> Stop
     ensures { λ r. ⌜ after (stepped r (now (m .exit))) (now (mem .exit)) ≡ stepOf (now (m .entry)) (now (mem .entry)) ⌝ }
 {
-    let r = step::call::step(*m, mem);
+    let r = single_step(*m, mem);
     *m = r.machine;
     Stop {
         stop: r.stop,

@@ -1,6 +1,6 @@
 -- `koubospar_step` meets its contract, by a walk of its code: the borrow of the machine is opened and the machine read out
--- whole; `step::call::step` gets this copy, and the slice with its own lifetime and name; the machine of the answer is
--- written back whole, and the borrow closed there. Of `step` the proof uses its contract alone, and of Machine no field.
+-- whole; `single_step` gets this copy, and the slice with its own lifetime and name; the machine of the answer is
+-- written back whole, and the borrow closed there. Of `single_step` the proof uses its contract alone, and of Machine no field.
 -- Assumes nothing.
 use mathlib.Core.Path.{_≡_, refl, ap}
 use Prim.Native.Nat.{ℕ, _<_, _^_}
@@ -48,10 +48,10 @@ use Rattle.model.proofs.Machine as T
 use Rattle.model.proofs.Machine.Laws as T′
 use Rattle.model.proofs.Stepped as S
 use Rattle.model.proofs.Stepped.Laws as S′
-use Rattle.step.proofs.call.step as callee
-use Rattle.step.proofs.call.step.Symbol as callee-def
-use Rattle.step.proofs.call.step.Symbol.{name as #step·call·step}
-use Rattle.step.proofs.call.step.Met as callee-thm
+use Rattle.koubospar.proofs.single.single_step as callee
+use Rattle.koubospar.proofs.single.single_step.Symbol as callee-def
+use Rattle.koubospar.proofs.single.single_step.Symbol.{name as #koubospar·single·single-step}
+use Rattle.koubospar.proofs.single.single_step.Met as callee-thm
 use Rattle.koubospar.specs.declared.lent.Stop.{Stop}
 use Rattle.koubospar.proofs.lent.Stop as P
 use Rattle.koubospar.proofs.lent.Stop.Laws as P′
@@ -121,7 +121,7 @@ module _ {M : Type 1} (𝓤 : URA M) (H : Heap 𝓤) (A : Atoms 𝓤) (W : Given
       move ! (1 ∷ []) $ nothing ! $ move ! (1 ∷ 0 ∷ []) $ fjoin ! $ move ! (1 ∷ 0 ∷ []) $ fjoin ! $
       owned ! P.the-row (Is P.the-row) (LL.makes P.the-type P′.the-plain 𝓤 H A) (answer r) _ (answer-is r vs is) $ move ! (1 ∷ 0 ∷ []) $ done !
 
-  module _ (C : Calls 𝓤 H) (Λ : Loops 𝓤 H) (fm : FmC 𝓤 H (W .laws) C) (known : Triple 𝓤 (C #step·call·step) (Callee 𝓤 H A at-mem run)) where
+  module _ (C : Calls 𝓤 H) (Λ : Loops 𝓤 H) (fm : FmC 𝓤 H (W .laws) C) (known : Triple 𝓤 (C #koubospar·single·single-step) (Callee 𝓤 H A at-mem run)) where
     walk : Room u8 (length (x .now)) → ent 𝓤 (onEntry 𝓤 H A lent.signature (κ, (κ′, tt)) (q, (q′, tt)) a vals) (WpFn 𝓤 H C Λ code.function (vptr b o ∷ s ∷ []) Post)
     walk room =
         qed W ((‵ (flft κ q) ⊛ ‵ (flft κ′ q′) ⊛ ‵ ftrue) ∷ ‵ (owns (MutRef (named 0) κ R ∷ MutSlice (named 1) κ′ u8 ∷ []) a vals) ∷ []) ∵ enter ! C Λ code.function (vptr b o ∷ s ∷ []) _ $
@@ -155,12 +155,12 @@ module _ {M : Type 1} (𝓤 : URA M) (H : Heap 𝓤) (A : Atoms 𝓤) (W : Given
         keep ! (0 ∷ 1 ∷ 2 ∷ 4 ∷ 5 ∷ []) $ by ! (exits r _ (zs .1 .0) is e l))))))))))))))))
 
 module _ {M : Type 1} (𝓤 : URA M) (H : Heap 𝓤) (A : Atoms 𝓤) (W : Given 𝓤 H A) (at-mem : Memory → SProp 𝓤) (run : Routine → Fun 𝓤) where
-  lent-walks : (C : Calls 𝓤 H) (Λ : Loops 𝓤 H) → FmC 𝓤 H (W .laws) C → Triple 𝓤 (C #step·call·step) (Callee 𝓤 H A at-mem run) → Walks 𝓤 H A lent.ended stayed (WpFn 𝓤 H C Λ code.function) (lent.clauses 𝓤 H A at-mem run)
+  lent-walks : (C : Calls 𝓤 H) (Λ : Loops 𝓤 H) → FmC 𝓤 H (W .laws) C → Triple 𝓤 (C #koubospar·single·single-step) (Callee 𝓤 H A at-mem run) → Walks 𝓤 H A lent.ended stayed (WpFn 𝓤 H C Λ code.function) (lent.clauses 𝓤 H A at-mem run)
   lent-walks C Λ fm known = walked 𝓤 H A lent.ended stayed (lent.clauses 𝓤 H A at-mem run) (WpFn 𝓤 H C Λ code.function)
       (λ κs. (ptr-vals, (slice-vals, tt))) (λ κs. (mut-tells (named 0) (κs .0) T.the-row, (mut-slice-tells (named 1) (κs .1 .0) u8, tt)))
       (λ κs qs bounds a g are. via 𝓤 _ (fst∗ 𝓤 _ (emp 𝓤)) (walk 𝓤 H A W at-mem run (κs .0) (κs .1 .0) (qs .0) (qs .1 .0) (a .0 .ptr .0) (a .0 .ptr .1) (a .0 .name) (a .0 .now) (a .1 .0) C Λ fm known (are .1 .0 .0 .1)))
 
-lent-meets : {M : Type 1} (𝓤 : URA M) (H : Heap 𝓤) (A : Atoms 𝓤) → Given 𝓤 H A → (at-mem : Memory → SProp 𝓤) (run : Routine → Fun 𝓤) (𝓣 : Tables 𝓤 H) → Triple 𝓤 (𝓣 .C #step·call·step) (Callee 𝓤 H A at-mem run)
+lent-meets : {M : Type 1} (𝓤 : URA M) (H : Heap 𝓤) (A : Atoms 𝓤) → Given 𝓤 H A → (at-mem : Memory → SProp 𝓤) (run : Routine → Fun 𝓤) (𝓣 : Tables 𝓤 H) → Triple 𝓤 (𝓣 .C #koubospar·single·single-step) (Callee 𝓤 H A at-mem run)
     → Meets 𝓤 H A lent.signature (WpFn 𝓤 H (𝓣 .C) (𝓣 .Λ) code.function) (lent.spec 𝓤 H A at-mem run)
 lent-meets 𝓤 H A W at-mem run 𝓣 known =
     walk-meets 𝓤 H A lent.ended stayed W (goes-ref 𝓤 H A W 2 0 tt (plain (λ _. T.the-row)), (goes-gave-slice 𝓤 H A W 2 1 tt (plain (λ _. u8)), tt)) (lent.clauses 𝓤 H A at-mem run)
@@ -172,4 +172,4 @@ koubospar-step-spec 𝓤 H 𝓜 𝓖 𝓡 =
     entered 𝓤 H (tripleOf 𝓤 H (𝓖 .A) lent.signature (lent.spec 𝓤 H (𝓖 .A) (𝓜 .mem) (𝓡 .run)))
     (tables 𝓤 H 𝓜 𝓡 code.env .C) (tables 𝓤 H 𝓜 𝓡 code.env .Λ) #koubospar·lent·koubospar-step code.function (code.unfolded 𝓤 H 𝓜 𝓡)
     (lent-meets 𝓤 H (𝓖 .A) (givenOf 𝓤 H 𝓜 𝓖) (𝓜 .mem) (𝓡 .run) (tablesOf 𝓤 H 𝓜 (tables 𝓤 H 𝓜 𝓡 code.env))
-    (cited 𝓤 H (Callee 𝓤 H (𝓖 .A) (𝓜 .mem) (𝓡 .run)) 𝓜 𝓡 code.env #step·call·step callee-def.routine code.calls-step·call·step (callee-thm.met 𝓤 H 𝓜 𝓖 𝓡)))
+    (cited 𝓤 H (Callee 𝓤 H (𝓖 .A) (𝓜 .mem) (𝓡 .run)) 𝓜 𝓡 code.env #koubospar·single·single-step callee-def.routine code.calls-koubospar·single·single-step (callee-thm.met 𝓤 H 𝓜 𝓖 𝓡)))

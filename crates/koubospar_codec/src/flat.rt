@@ -1,0 +1,211 @@
+// An instruction as numbers alone, since an enum cannot cross to C: laid out, read back, decoded and encoded.
+ghost use mathlib.Core.Path.{_≡_};
+ghost use Rattle.instructions.specs.Decode.{decodeWord};
+ghost use Rattle.koubospar_codec.specs.Flat.{layout, fenceLayout, nothing as nothingOf, flatten as flattenOf, unflatten as unflattenOf, same as sameAs, stands as standsFor, flatDecoded, flatEncoded, encodeFlat};
+use crate::kind::branch_kind;
+use crate::kind::hfi_kind;
+use crate::kind::immediate_kind;
+use crate::kind::load_kind;
+use crate::kind::register_kind;
+use crate::kind::register_word_kind;
+use crate::kind::shift_kind;
+use crate::kind::shift_word_kind;
+use crate::kind::store_kind;
+use crate::kind::system_kind;
+use crate::kind::upper_kind;
+use instructions::code::branch_code;
+use instructions::code::hfi_code;
+use instructions::code::immediate_code;
+use instructions::code::load_code;
+use instructions::code::register_code;
+use instructions::code::register_word_code;
+use instructions::code::shift_code;
+use instructions::code::shift_word_code;
+use instructions::code::store_code;
+use instructions::code::system_code;
+use instructions::code::upper_code;
+use instructions::decode::decode;
+use instructions::encode::encode;
+use instructions::instruction::Decoded;
+use instructions::instruction::Encoded;
+use instructions::instruction::Instruction;
+
+// A group from 1 to 17, in the order of the enum of instructions, a kind by its code, and every field that some group
+// has. `imm` is an immediate, an offset in bytes or a shift's amount. Fields that a group lacks are 0.
+#[repr(C)]
+pub struct Flat {
+    pub group: u64,
+    pub kind: u64,
+    pub rd: u64,
+    pub rs1: u64,
+    pub rs2: u64,
+    pub imm: u64,
+    pub fm: u64,
+    pub pred: u64,
+    pub succ: u64,
+}
+
+// 0 and the instruction, or 13 and zeros.
+#[repr(C)]
+pub struct FlatDecoded {
+    pub number: u64,
+    pub instruction: Flat,
+}
+
+// 0 and the word, or 5 and 0.
+#[repr(C)]
+pub struct FlatEncoded {
+    pub number: u64,
+    pub word: u32,
+}
+
+fn lay_out(group: u64, kind: u64, rd: u64, rs1: u64, rs2: u64, imm: u64) -> Flat
+    ensures { λ r. ⌜ r ≡ layout group kind rd rs1 rs2 imm ⌝ }
+{
+    Flat {
+        group: group,
+        kind: kind,
+        rd: rd,
+        rs1: rs1,
+        rs2: rs2,
+        imm: imm,
+        fm: 0,
+        pred: 0,
+        succ: 0,
+    }
+}
+
+fn lay_out_fence(fm: u64, pred: u64, succ: u64, rs1: u64, rd: u64) -> Flat
+    ensures { λ r. ⌜ r ≡ fenceLayout fm pred succ rs1 rd ⌝ }
+{
+    Flat {
+        group: 13,
+        kind: 0,
+        rd: rd,
+        rs1: rs1,
+        rs2: 0,
+        imm: 0,
+        fm: fm,
+        pred: pred,
+        succ: succ,
+    }
+}
+
+pub fn flatten(i: Instruction) -> Flat
+    ensures { λ r. ⌜ r ≡ flattenOf i ⌝ }
+{
+    match i {
+        Instruction::Upper(k, rd, imm) => lay_out(1, upper_code(k), rd, 0, 0, imm),
+        Instruction::Jal(rd, offset) => lay_out(2, 0, rd, 0, 0, offset),
+        Instruction::Jalr(rd, rs1, imm) => lay_out(3, 0, rd, rs1, 0, imm),
+        Instruction::Branch(k, rs1, rs2, offset) => lay_out(4, branch_code(k), 0, rs1, rs2, offset),
+        Instruction::Load(k, rd, rs1, imm) => lay_out(5, load_code(k), rd, rs1, 0, imm),
+        Instruction::Store(k, rs1, rs2, imm) => lay_out(6, store_code(k), 0, rs1, rs2, imm),
+        Instruction::Immediate(k, rd, rs1, imm) => lay_out(7, immediate_code(k), rd, rs1, 0, imm),
+        Instruction::Shift(k, rd, rs1, amount) => lay_out(8, shift_code(k), rd, rs1, 0, amount),
+        Instruction::Addiw(rd, rs1, imm) => lay_out(9, 0, rd, rs1, 0, imm),
+        Instruction::ShiftWord(k, rd, rs1, amount) => lay_out(
+            10,
+            shift_word_code(k),
+            rd,
+            rs1,
+            0,
+            amount,
+        ),
+        Instruction::Register(k, rd, rs1, rs2) => lay_out(11, register_code(k), rd, rs1, rs2, 0),
+        Instruction::RegisterWord(k, rd, rs1, rs2) => lay_out(
+            12,
+            register_word_code(k),
+            rd,
+            rs1,
+            rs2,
+            0,
+        ),
+        Instruction::Fence(fm, pred, succ, rs1, rd) => lay_out_fence(fm, pred, succ, rs1, rd),
+        Instruction::System(k) => lay_out(14, system_code(k), 0, 0, 0, 0),
+        Instruction::HLoad(k, rd, rs1, imm) => lay_out(15, load_code(k), rd, rs1, 0, imm),
+        Instruction::HStore(k, rs1, rs2, imm) => lay_out(16, store_code(k), 0, rs1, rs2, imm),
+        Instruction::Hfi(k, rd, rs1, rs2) => lay_out(17, hfi_code(k), rd, rs1, rs2, 0),
+    }
+}
+
+// The instruction that the record stands for, if it stands for one.
+pub fn unflatten(f: Flat) -> Instruction
+    ensures { λ r. ⌜ r ≡ unflattenOf f ⌝ }
+{
+    let group = f.group;
+    match group {
+        1 => Instruction::Upper(upper_kind(f.kind), f.rd, f.imm),
+        2 => Instruction::Jal(f.rd, f.imm),
+        3 => Instruction::Jalr(f.rd, f.rs1, f.imm),
+        4 => Instruction::Branch(branch_kind(f.kind), f.rs1, f.rs2, f.imm),
+        5 => Instruction::Load(load_kind(f.kind), f.rd, f.rs1, f.imm),
+        6 => Instruction::Store(store_kind(f.kind), f.rs1, f.rs2, f.imm),
+        7 => Instruction::Immediate(immediate_kind(f.kind), f.rd, f.rs1, f.imm),
+        8 => Instruction::Shift(shift_kind(f.kind), f.rd, f.rs1, f.imm),
+        9 => Instruction::Addiw(f.rd, f.rs1, f.imm),
+        10 => Instruction::ShiftWord(shift_word_kind(f.kind), f.rd, f.rs1, f.imm),
+        11 => Instruction::Register(register_kind(f.kind), f.rd, f.rs1, f.rs2),
+        12 => Instruction::RegisterWord(register_word_kind(f.kind), f.rd, f.rs1, f.rs2),
+        13 => Instruction::Fence(f.fm, f.pred, f.succ, f.rs1, f.rd),
+        15 => Instruction::HLoad(load_kind(f.kind), f.rd, f.rs1, f.imm),
+        16 => Instruction::HStore(store_kind(f.kind), f.rs1, f.rs2, f.imm),
+        17 => Instruction::Hfi(hfi_kind(f.kind), f.rd, f.rs1, f.rs2),
+        _ => Instruction::System(system_kind(f.kind)),
+    }
+}
+
+fn same(a: Flat, b: Flat) -> bool
+    ensures { λ r. ⌜ r ≡ sameAs a b ⌝ }
+{
+    let shape = (a.group == b.group) & (a.kind == b.kind);
+    let registers = (a.rd == b.rd) & ((a.rs1 == b.rs1) & (a.rs2 == b.rs2));
+    let rest = (a.imm == b.imm) & ((a.fm == b.fm) & ((a.pred == b.pred) & (a.succ == b.succ)));
+    shape & (registers & rest)
+}
+
+// Does the record stand for an instruction: is it what is laid out of the one read from it?
+pub fn stands(f: Flat) -> bool
+    ensures { λ r. ⌜ r ≡ standsFor f ⌝ }
+{
+    same(flatten(unflatten(f)), f)
+}
+
+// The instruction of any word.
+#[no_mangle]
+pub extern "C" fn koubospar_decode(word: u32) -> FlatDecoded
+    ensures { λ r. ⌜ r ≡ flatDecoded (decodeWord word) ⌝ }
+{
+    let d = decode(word);
+    match d {
+        Decoded::Legal(i) => FlatDecoded {
+            number: 0,
+            instruction: flatten(i),
+        },
+        Decoded::Illegal => FlatDecoded {
+            number: 13,
+            instruction: lay_out(0, 0, 0, 0, 0, 0),
+        },
+    }
+}
+
+fn answer_encoded(e: Encoded) -> FlatEncoded
+    ensures { λ r. ⌜ r ≡ flatEncoded e ⌝ }
+{
+    match e {
+        Encoded::Word(w) => FlatEncoded { number: 0, word: w },
+        Encoded::OutOfRange => FlatEncoded { number: 5, word: 0 },
+    }
+}
+
+// The word of any record: one that stands for no instruction is refused like a field out of range.
+#[no_mangle]
+pub extern "C" fn koubospar_encode(f: Flat) -> FlatEncoded
+    ensures { λ r. ⌜ r ≡ flatEncoded (encodeFlat f) ⌝ }
+{
+    if stands(f) {
+        answer_encoded(encode(unflatten(f)))
+    } else {
+        answer_encoded(Encoded::OutOfRange)
+    }
+}

@@ -1,0 +1,706 @@
+#!/usr/bin/env python3
+"""Writes the sheets of crates/sheets/data and the page sheets.md beside this file.
+
+Each sheet stands below with the first line of its output, worked out by hand
+from document 01. `oracle sheets FOLDER` then prints what the oracle makes of
+them, and `--check FILE` holds that against the lines here.
+"""
+import os
+import sys
+
+HERE = os.path.dirname(os.path.abspath(__file__))
+SHEETS = os.path.join(HERE, "..", "..", "crates", "sheets", "data")
+
+rows = []       # (name, bytes, first line, what it shows, sentence)
+sections = []   # (index of first row, title)
+
+
+def section(title):
+    sections.append((len(rows), title))
+
+
+def sheet(name, content, first, shows, sentence):
+    assert len(name) <= 31 and name == name.lower() and " " not in name, name
+    if isinstance(content, str):
+        content = content.encode("latin-1")
+    rows.append((name, content, first, shows, sentence))
+
+
+# Words. A small assembler of its own, after the RISC-V manual's formats.
+def R(op, f3, f7, rd, rs1, rs2):
+    return f7 << 25 | rs2 << 20 | rs1 << 15 | f3 << 12 | rd << 7 | op
+
+
+def I(op, f3, rd, rs1, imm):
+    return (imm & 0xfff) << 20 | rs1 << 15 | f3 << 12 | rd << 7 | op
+
+
+def S(op, f3, rs1, rs2, imm):
+    return (imm >> 5 & 0x7f) << 25 | rs2 << 20 | rs1 << 15 | f3 << 12 | (imm & 31) << 7 | op
+
+
+def B(f3, rs1, rs2, off):
+    return ((off >> 12 & 1) << 31 | (off >> 5 & 63) << 25 | rs2 << 20 | rs1 << 15 | f3 << 12 | (off >> 1 & 15) << 8
+            | (off >> 11 & 1) << 7 | 0x63)
+
+
+def U(op, rd, field):
+    return field << 12 | rd << 7 | op
+
+
+def J(rd, off):
+    return (off >> 20 & 1) << 31 | (off >> 1 & 0x3ff) << 21 | (off >> 11 & 1) << 20 | (off >> 12 & 255) << 12 | rd << 7 | 0x6f
+
+
+def addi(rd, rs1, imm): return I(0x13, 0, rd, rs1, imm)
+def slli(rd, rs1, n): return I(0x13, 1, rd, rs1, n)
+def srli(rd, rs1, n): return I(0x13, 5, rd, rs1, n)
+def lui(rd, field): return U(0x37, rd, field)
+def jalr(rd, rs1, imm): return I(0x67, 0, rd, rs1, imm)
+def load(f3, rd, rs1, imm): return I(0x03, f3, rd, rs1, imm)
+def store(f3, rs2, rs1, imm): return S(0x23, f3, rs1, rs2, imm)
+def hload(f3, rd, rs1, imm): return I(0x0b, f3, rd, rs1, imm)
+def hstore(f3, rs2, rs1, imm): return S(0x2b, f3, rs1, rs2, imm)
+def hfi(f7, rd=0, rs1=0, rs2=0): return R(0x5b, 0, f7, rd, rs1, rs2)
+
+
+LB, LH, LW, LD, LBU, LHU, LWU = range(7)
+SB, SH, SW, SD = range(4)
+NOP, ECALL, EBREAK, EXIT = 0x13, 0x73, 0x00100073, 0x0400005b
+SELECT, SETBASE, GETBASE, SETBOUND, GETBOUND, SETPERM, GETPERM, SETHANDLER, GETHANDLER, RESET = range(3, 13)
+ONES = 0xffffffffffffffff
+
+
+def mask(k):
+    return ONES << k & ONES
+
+
+NONE = (0, 0, 0)
+CODE = (0, mask(12), 4)          # fetches from 0 to fff
+DATA = (0x1000, mask(12), 3)     # ordinary data 1000 to 1fff
+SMALL = (0x2000, 0x40, 3)        # h-words 2000 to 203f
+
+
+def setup(pc=0, options=1, handler=0, r1=NONE, r2=NONE, r3=CODE, budget=""):
+    fields = [pc, options, handler, *r1, *r2, *r3]
+    text = ",".join("%x" % f if isinstance(f, int) else f for f in fields)
+    return text + "," + ("%x" % budget if isinstance(budget, int) else budget) + "\n"
+
+
+def code(*words, at=0):
+    return "".join("%x,%08x\n" % (at + 4 * i, w) for i, w in enumerate(words))
+
+
+def program(*words, at=0, more="", **how):
+    return setup(**how) + code(*words, at=at) + more
+
+
+SETUP = setup()
+
+# ---------------------------------------------------------------- question 30
+Q30 = "30: is the length 1 to 65,536 with last byte `0a`?"
+section("Question 30")
+sheet("empty-file", "", "sheet,30,0", "a file of no bytes", Q30)
+sheet("no-final-line-end", SETUP[:-1], "sheet,30,0", "the last line lacks its end", Q30)
+sheet("no-final-line-end-two-lines", SETUP + "0,13", "sheet,30,0", "the last word line lacks its end", Q30)
+
+
+def sized(total):
+    """A valid sheet of exactly that many bytes: words that do nothing, padded fields."""
+    text = setup(r3=(0, mask(16), 4))
+    line = 0
+    while total - len(text) > 2 * 34:
+        text += "%016x,%016x\n" % (4 * line, NOP)
+        line += 1
+    rest = total - len(text)          # two lines of 17 to 34 bytes
+    first = rest // 2
+    for length in (first, rest - first):
+        digits = length - 2 - 8
+        text += "%0*x,%08x\n" % (digits, 4 * line, NOP)
+        line += 1
+    assert len(text) == total
+    return text
+
+
+sheet("length-65536", sized(65536), "21,3e8,fa0,0,0,0,0,0,0", "the longest sheet passes and runs its 1,000 steps", Q30)
+sheet("length-65537", sized(65537), "sheet,30,0", "one byte more", Q30)
+sheet("length-65536-only-line-ends", "\n" * 65536, "sheet,32,1", "65,536 line ends pass 30; line 1 has one field", Q30)
+sheet("length-65537-only-line-ends", "\n" * 65537, "sheet,30,0", "65,537 line ends", Q30)
+sheet("order-30-31-too-long", sized(65537).replace("13\n", "1X\n", 1), "sheet,30,0", "30 before 31", "The first no is printed")
+sheet("order-30-31-no-line-end", "X", "sheet,30,0", "30 before 31", "The first no is printed")
+sheet("order-30-32", "0,0", "sheet,30,0", "30 before 32", "The first no is printed")
+sheet("order-30-33", SETUP + ",13", "sheet,30,0", "30 before 33", "The first no is printed")
+sheet("order-30-34", SETUP + "2,13", "sheet,30,0", "30 before 34", "The first no is printed")
+sheet("order-30-35", SETUP + "4,13\n4,13", "sheet,30,0", "30 before 35", "The first no is printed")
+
+# ---------------------------------------------------------------- question 31
+Q31 = "31: is every byte a digit 0-9, a-f, comma or `0a`?"
+Q31L = "for 31 the line of the first such byte"
+section("Question 31")
+sheet("upper-case-digit", SETUP + "0,00A00513\n", "sheet,31,2", "an upper-case A", Q31)
+sheet("letter-g", SETUP + "g,13\n", "sheet,31,2", "the letter after f", Q31)
+sheet("back-quote", SETUP + "`,13\n", "sheet,31,2", "the byte before a", Q31)
+sheet("colon", SETUP + "0,1:\n", "sheet,31,2", "the byte after 9", Q31)
+sheet("slash", SETUP + "0,1/\n", "sheet,31,2", "the byte before 0", Q31)
+sheet("space-after-comma", SETUP + "0, 13\n", "sheet,31,2", "a space", Q31)
+sheet("carriage-return", SETUP.replace("\n", "\r\n") + "0,13\r\n", "sheet,31,1", "line ends of two bytes", Q31)
+sheet("tab-for-comma", SETUP + "0\t13\n", "sheet,31,2", "a tab", Q31)
+sheet("zero-x-in-front", SETUP + "0,0x13\n", "sheet,31,2", "a prefix 0x", Q31)
+sheet("minus-sign", SETUP + "0,-1\n", "sheet,31,2", "a sign", Q31)
+sheet("quoted-field", SETUP + '"0",13\n', "sheet,31,2", "quotes", "no quoting")
+sheet("semicolon", SETUP + "0;13\n", "sheet,31,2", "another separator", Q31)
+sheet("byte-zero", SETUP + "0,13\0\n", "sheet,31,2", "byte 00", Q31)
+sheet("byte-ff", SETUP + "0,1\xff\n", "sheet,31,2", "byte ff", Q31)
+sheet("byte-b0", SETUP + "0,1\xb0\n", "sheet,31,2", "byte b0: 30 with the top bit set", Q31)
+sheet("bad-byte-first-line", "X" + SETUP, "sheet,31,1", "in line 1", Q31L)
+sheet("bad-bytes-two-lines", SETUP + "0,1X\n4,1X\n", "sheet,31,2", "the first of two bad bytes counts", Q31L)
+sheet("bad-byte-after-blank-lines", "\n\n\nX\n", "sheet,31,4", "blank lines count", Q31L)
+sheet("order-31-32", "0\n" + code(NOP) + "X\n", "sheet,31,3", "a bad byte in the last line before the wrong count of line 1",
+      "31: is every byte ... Then line by line: 32")
+sheet("order-31-32-same-line", "0,X\n", "sheet,31,1", "both in line 1", "31: is every byte ... Then line by line: 32")
+sheet("order-31-33", SETUP + ",13\n4,1X\n", "sheet,31,3", "a bad byte in line 3 before an empty field in line 2",
+      "31: is every byte ... Then line by line: 32")
+sheet("order-31-34", SETUP + "2,13\n4,1X\n", "sheet,31,3", "a bad byte in line 3 before a bad address in line 2",
+      "31: is every byte ... Then line by line: 32")
+sheet("order-31-35", SETUP + "4,13\n4,13\n8,1X\n", "sheet,31,4", "a bad byte in line 4 before equal addresses in line 3",
+      "31: is every byte ... Then line by line: 32")
+
+# ---------------------------------------------------------------- question 32
+Q32 = "32: are there 13 fields (line 1) or 2?"
+LINES = "Then line by line"
+section("Question 32")
+sheet("only-a-line-end", "\n", "sheet,32,1", "a line without commas has one field", Q32)
+sheet("one-field-in-line-one", "0\n", "sheet,32,1", "one field", Q32)
+sheet("twelve-fields", "0,1,0,0,0,0,0,0,0,0,fffffffffffff000,4\n", "sheet,32,1", "12 fields: the budget's comma is missing", Q32)
+sheet("fourteen-fields", "0,1,0,0,0,0,0,0,0,0,fffffffffffff000,4,a,\n", "sheet,32,1", "14 fields", Q32)
+sheet("word-line-first", code(NOP), "sheet,32,1", "no setup line", Q32)
+sheet("word-line-one-field", SETUP + "0\n", "sheet,32,2", "a word line of one field", Q32)
+sheet("word-line-three-fields", SETUP + "0,13,0\n", "sheet,32,2", "a word line of three fields", Q32)
+sheet("word-line-comma-at-end", SETUP + "0,13,\n", "sheet,32,2", "a comma too many", Q32)
+sheet("blank-last-line", SETUP + "0,13\n\n", "sheet,32,3", "a blank line at the end", Q32)
+sheet("blank-line-between", SETUP + "0,13\n\n4,13\n", "sheet,32,3", "a blank line between", Q32)
+sheet("blank-second-line", SETUP + "\n", "sheet,32,2", "a blank line 2", Q32)
+sheet("setup-line-twice", SETUP + SETUP, "sheet,32,2", "13 fields in line 2", Q32)
+sheet("order-32-33-line-one", ",,\n", "sheet,32,1", "three empty fields in line 1: 32 before 33", "The first no is printed")
+sheet("order-32-33-same-line", SETUP + ",13,\n", "sheet,32,2", "32 before 33 in one line", "The first no is printed")
+sheet("order-32-34-same-line", SETUP + "1,13,0\n", "sheet,32,2", "32 before 34 in one line", "The first no is printed")
+sheet("order-32-35-same-line", SETUP + "4,13\n0,13,0\n", "sheet,32,3", "32 before 35 in one line", "The first no is printed")
+sheet("order-32-then-33", SETUP + "0\n4,\n", "sheet,32,2", "32 in line 2, 33 in line 3", LINES)
+
+# ---------------------------------------------------------------- question 33
+Q33 = "33: has each field 1 to 16 digits (an empty budget passes)?"
+section("Question 33")
+sheet("empty-pc", "," + SETUP.split(",", 1)[1], "sheet,33,1", "an empty pc", Q33)
+sheet("empty-options", setup(options=""), "sheet,33,1", "empty options", Q33)
+sheet("empty-handler", setup(handler=""), "sheet,33,1", "an empty handler", Q33)
+sheet("empty-permission", setup(r3=(0, mask(12), "")), "sheet,33,1", "an empty permission, beside the budget", Q33)
+sheet("empty-base", setup(r1=("", 0, 0)), "sheet,33,1", "an empty base", Q33)
+sheet("thirteen-empty-fields", ",,,,,,,,,,,,\n", "sheet,33,1", "13 empty fields: only the budget may be", Q33)
+sheet("empty-address", SETUP + ",13\n", "sheet,33,2", "an empty address", Q33)
+sheet("empty-word", SETUP + "0,\n", "sheet,33,2", "an empty word", Q33)
+sheet("two-empty-fields", SETUP + ",\n", "sheet,33,2", "a lone comma", Q33)
+sheet("seventeen-digit-word", SETUP + "0,00000000000000013\n", "sheet,33,2", "17 digits in a word", Q33)
+sheet("seventeen-digit-address", SETUP + "00000000000000000,13\n", "sheet,33,2", "17 digits in an address", Q33)
+sheet("seventeen-digit-pc", "00000000000000000" + SETUP[1:], "sheet,33,1", "17 digits in pc", Q33)
+sheet("seventeen-digit-budget", setup(budget="0000000000000000a"), "sheet,33,1", "17 digits in the budget", Q33)
+sheet("sixteen-digit-fields", "0000000000000000,0000000000000001,0000000000000000," + "0000000000000000," * 7
+      + "fffffffffffff000,0000000000000004,000000000000000a\n0000000000000000,0000000000500513\n0000000000000004,0000000000000073\n",
+      "18,1,4,0,0,0,0,0,0", "16 digits everywhere pass", Q33)
+sheet("leading-zeros", "00,001,0,0,0,0,0,0,0,0,fffffffffffff000,04,0000a\n00000,500513\n0004,073\n", "18,1,4,0,0,0,0,0,0",
+      "leading zeros of any number up to 16 digits", Q33)
+sheet("order-33-34-line-one", setup(options=0x100, budget="0" * 17), "sheet,33,1", "33 before 34 in line 1", "The first no is printed")
+sheet("order-33-34-same-line", SETUP + "1,\n", "sheet,33,2", "33 before 34 in one line", "The first no is printed")
+sheet("order-33-35-same-line", SETUP + "4,13\n4,\n", "sheet,33,3", "33 before 35 in one line", "The first no is printed")
+sheet("order-33-then-32", SETUP + "0,\n4\n", "sheet,33,2", "33 in line 2 before 32 in line 3", LINES)
+sheet("order-33-line-one-then-32", setup(handler="") + "0\n", "sheet,33,1", "33 in line 1 before 32 in line 2", LINES)
+
+# ---------------------------------------------------------------- question 34
+Q34 = "34: are options and permissions at most `ff`, budget and words at most `ffffffff`, addresses multiples of 4 and at most `fffc`?"
+section("Question 34")
+sheet("options-100", setup(options=0x100), "sheet,34,1", "options above ff", Q34)
+sheet("options-all-ones", setup(options=ONES), "sheet,34,1", "options of 16 digits f", Q34)
+sheet("permission-one-100", setup(r1=(0, 0, 0x100)), "sheet,34,1", "permission of region 1 above ff", Q34)
+sheet("permission-two-100", setup(r2=(0, 0, 0x100)), "sheet,34,1", "permission of region 2 above ff", Q34)
+sheet("permission-three-100", setup(r3=(0, mask(12), 0x100)), "sheet,34,1", "permission of region 3 above ff", Q34)
+sheet("budget-100000000", setup(budget=0x100000000), "sheet,34,1", "a budget above ffffffff", Q34)
+sheet("budget-sixteen-digits", setup(budget=ONES), "sheet,34,1", "a budget of 16 digits f", Q34)
+sheet("word-100000000", SETUP + "0,100000013\n", "sheet,34,2", "a word above ffffffff", Q34)
+sheet("address-1", SETUP + "1,13\n", "sheet,34,2", "an address that is no multiple of 4", Q34)
+sheet("address-2", SETUP + "2,13\n", "sheet,34,2", "an address that is a multiple of 2 only", Q34)
+sheet("address-fffe", SETUP + "fffe,13\n", "sheet,34,2", "misaligned and above fffc", Q34)
+sheet("address-10000", SETUP + "0,13\n10000,13\n", "sheet,34,3", "the first address past the end", Q34)
+sheet("address-top-of-64-bits", SETUP + "fffffffffffffffc,13\n", "sheet,34,2", "an address far past the end", Q34)
+sheet("address-fffc", setup(pc=0xfffc, r3=(0, mask(16), 4)) + "fffc,00000073\n", "18,0,fffc,0,0,0,0,0,0",
+      "the last address passes and is run", Q34)
+sheet("order-34-35-same-line", SETUP + "4,13\n3,13\n", "sheet,34,3", "34 before 35 in one line", "The first no is printed")
+sheet("order-34-35-same-line-word", SETUP + "4,13\n4,100000000\n", "sheet,34,3", "34 before 35 in one line, by the word",
+      "The first no is printed")
+sheet("order-34-then-32", SETUP + "2,13\n4\n", "sheet,34,2", "34 in line 2 before 32 in line 3", LINES)
+sheet("order-34-then-33", SETUP + "2,13\n4,\n", "sheet,34,2", "34 in line 2 before 33 in line 3", LINES)
+sheet("order-34-line-one-then-33", setup(options=0x100) + ",13\n", "sheet,34,1", "34 in line 1 before 33 in line 2", LINES)
+sheet("order-34-line-one-then-35", setup(budget=0x100000000) + "4,13\n0,13\n", "sheet,34,1", "34 in line 1 before 35 in line 3", LINES)
+
+# ---------------------------------------------------------------- question 35
+Q35 = "35: do addresses rise strictly?"
+section("Question 35")
+sheet("equal-addresses", SETUP + "0,13\n0,13\n", "sheet,35,3", "the same address twice", Q35)
+sheet("equal-addresses-other-digits", SETUP + "4,13\n0004,13\n", "sheet,35,3", "the same address in other digits", Q35)
+sheet("falling-addresses", SETUP + "4,13\n0,13\n", "sheet,35,3", "a lower address after", Q35)
+sheet("falling-later", SETUP + code(NOP, NOP, NOP, NOP) + "8,13\n", "sheet,35,6", "a lower address after four", Q35)
+sheet("line-number-in-decimal", SETUP + code(*[NOP] * 9) + "20,13\n", "sheet,35,11", "line 11 is printed as 11",
+      "line number in decimal")
+sheet("order-35-then-32", SETUP + "4,13\n4,13\n8\n", "sheet,35,3", "35 in line 3 before 32 in line 4", LINES)
+sheet("order-35-then-33", SETUP + "4,13\n4,13\n8,\n", "sheet,35,3", "35 in line 3 before 33 in line 4", LINES)
+sheet("order-35-then-34", SETUP + "4,13\n4,13\na,13\n", "sheet,35,3", "35 in line 3 before 34 in line 4", LINES)
+sheet("addresses-with-gaps", setup(r3=(0, mask(16), 4)) + "0,%08x\n1000,%08x\nfffc,00000073\n" % (J(0, 0x1000), J(0, 0xeffc)),
+      "18,2,fffc,0,0,0,0,0,0", "gaps between addresses stay zero", "Memory is 65,536 zero bytes before the words are placed")
+
+# ---------------------------------------------------------------- refusals of the run
+section("Valid sheets whose run answers 2 or 3")
+Q2 = "2. (Run) Is the budget at most 1,000,000? No: **2**."
+Q3 = "3. Is the machine well formed? No: **3**."
+sheet("budget-f4241", program(NOP, budget=1000001), "2,0,0,0,0,0,0,0,0", "1,000,001 steps", Q2)
+sheet("budget-ffffffff", program(NOP, budget=0xffffffff), "2,0,0,0,0,0,0,0,0", "the largest budget a sheet holds", Q2)
+sheet("two-before-three", setup(pc=0x24, options=0x10, budget=1000001), "2,0,24,0,0,0,0,0,0", "2 before 3, pc printed as given", Q2)
+sheet("two-with-odd-pc", setup(pc=ONES, budget=1000001), "2,0,ffffffffffffffff,0,0,0,0,0,0", "2 before 10", Q2)
+WELL = "Well formed means: ... options at most 15"
+sheet("options-10", program(NOP, options=0x10), "3,0,0,0,0,0,0,0,0", "options 16", WELL)
+sheet("options-ff", program(NOP, options=0xff, pc=8), "3,0,8,0,0,0,0,0,0", "options ff pass 34 and not 3", WELL)
+HB = "handler bits 0, 1, 62, 63 clear"
+sheet("handler-bit-0", program(NOP, handler=0x101), "3,0,0,0,0,0,0,0,0", "handler bit 0", HB)
+sheet("handler-bit-1", program(NOP, handler=0x102), "3,0,0,0,0,0,0,0,0", "handler bit 1", HB)
+sheet("handler-bit-62", program(NOP, handler=1 << 62), "3,0,0,0,0,0,0,0,0", "handler bit 62", HB)
+sheet("handler-bit-63", program(NOP, handler=1 << 63), "3,0,0,0,0,0,0,0,0", "handler bit 63", HB)
+sheet("handler-largest", program(ECALL, options=3, handler=0x3ffffffffffffffc), "20,1,3ffffffffffffffc,2,0,0,0,0,0",
+      "the largest handler that is well formed", HB)
+PB = "only the permission bits listed"
+sheet("permission-one-execute", program(NOP, r1=(0x2000, 0x40, 7)), "3,0,0,0,0,0,0,0,0", "region 1 has no execute bit", PB)
+sheet("permission-one-bit-4", program(NOP, r1=(0x2000, 0x40, 0x10)), "3,0,0,0,0,0,0,0,0", "region 1 has no bit 4", PB)
+sheet("permission-two-execute", program(NOP, r2=(0x1000, mask(12), 7)), "3,0,0,0,0,0,0,0,0", "region 2 has no execute bit", PB)
+sheet("permission-two-large", program(NOP, r2=(0x1000, mask(12), 8)), "3,0,0,0,0,0,0,0,0", "region 2 has no large bit", PB)
+sheet("permission-three-read", program(NOP, r3=(0, mask(12), 5)), "3,0,0,0,0,0,0,0,0", "region 3 has no read bit", PB)
+sheet("permission-three-write", program(NOP, r3=(0, mask(12), 6)), "3,0,0,0,0,0,0,0,0", "region 3 has no write bit", PB)
+sheet("permission-three-large", program(NOP, r3=(0, mask(12), 0xc)), "3,0,0,0,0,0,0,0,0", "region 3 has no large bit", PB)
+sheet("permission-ff", program(NOP, r3=(0, mask(12), 0xff)), "3,0,0,0,0,0,0,0,0", "ff passes 34 and not 3", PB)
+sheet("permission-one-all-it-has", program(ECALL, r1=(0, 0x10000, 0xb)), "18,0,0,0,0,0,0,0,0", "bits 0, 1, 3 are region 1's", PB)
+sheet("three-before-twenty-one", program(NOP, options=0x10, budget=0), "3,0,0,0,0,0,0,0,0", "3 before 21 with budget 0",
+      "Before each step of a run: does the budget have a step left?")
+sheet("three-before-ten", program(NOP, options=0x10, pc=2), "3,0,2,0,0,0,0,0,0", "3 before 10", Q3)
+
+# ---------------------------------------------------------------- budgets
+section("Budgets and stop 21")
+Q21 = "Before each step of a run: does the budget have a step left? No: **21**."
+LOOP = J(0, 0)
+sheet("budget-empty-loop", program(LOOP), "21,3e8,0,0,0,0,0,0,0", "an empty budget is 1,000 steps", "an empty budget means 1,000")
+sheet("budget-3e8-loop", program(LOOP, budget=0x3e8), "21,3e8,0,0,0,0,0,0,0", "1,000 written out", "an empty budget means 1,000")
+sheet("budget-0", program(NOP, budget=0), "21,0,0,0,0,0,0,0,0", "no step", Q21)
+sheet("budget-0-odd-pc", program(NOP, pc=1, budget=0), "21,0,1,0,0,0,0,0,0", "21 before 10", Q21)
+sheet("budget-1", program(NOP, NOP, budget=1), "21,1,4,0,0,0,0,0,0", "one step", Q21)
+sheet("budget-exact-then-stop", program(NOP, NOP, ECALL, budget=2), "21,2,8,0,0,0,0,0,0", "21 before the step that would stop with 18", Q21)
+sheet("budget-one-more-than-needed", program(NOP, NOP, ECALL, budget=3), "18,2,8,0,0,0,0,0,0", "the stopping step needs budget, is not counted",
+      "For 10 to 19 the stopping step isn't counted")
+sheet("budget-exact-leaving", program(NOP, EXIT, budget=2), "20,2,8,1,4,0,0,0,0", "the leaving step is the last allowed: 20", "20 counts its step.")
+sheet("budget-one-short-of-leaving", program(NOP, EXIT, budget=1), "21,1,4,0,0,0,0,0,0", "the budget ends before the exit", Q21)
+sheet("budget-f4240-loop", program(LOOP, budget=1000000), "21,f4240,0,0,0,0,0,0,0", "1,000,000 steps", Q2)
+sheet("budget-f4240-counting", program(addi(5, 5, 1), J(0, -4), budget=1000000), "21,f4240,0,0,0,0,0,0,0", "500,000 rounds of two words", Q2)
+sheet("steps-in-hexadecimal", program(LOOP, budget=0x1f), "21,1f,0,0,0,0,0,0,0", "31 steps print as 1f", "All else is hexadecimal")
+
+# ---------------------------------------------------------------- 10, 11, 12
+section("Stops 10, 11 and 12: the fetch")
+Q4 = "4. Is pc a multiple of 4? No: **10**."
+Q5 = "5. In HFI mode, are all four bytes executable? No: **11**."
+Q6 = "6. Are they in memory? No: **12**."
+sheet("pc-1", program(NOP, pc=1), "10,0,1,0,0,0,0,0,0", "pc 1", Q4)
+sheet("pc-2", program(NOP, pc=2), "10,0,2,0,0,0,0,0,0", "pc 2", Q4)
+sheet("pc-all-ones", program(NOP, pc=ONES), "10,0,ffffffffffffffff,0,0,0,0,0,0", "10 before 11", Q4)
+sheet("setup-line-alone", SETUP, "13,0,0,0,0,0,0,0,0", "no words: zeros are fetched and illegal", "Each further line: address, word.")
+FR = "Its fault region is 1 for explicit; otherwise the region that matched without permission, or 0 if none matched."
+sheet("code-region-zero", program(NOP, r3=NONE), "11,0,0,0,0,1,0,3,0", "an unset code region lets nothing through",
+      "An unset mask that lets every address through (seen in 001).")
+sheet("code-region-not-executable", program(NOP, r3=(0, mask(12), 0)), "11,0,0,0,0,1,3,3,0", "a match without permission is region 3", FR)
+sheet("code-region-elsewhere", program(NOP, r3=(0x1000, mask(12), 4)), "11,0,0,0,0,1,0,3,0", "no match is region 0", FR)
+sheet("code-region-broken-base", program(NOP, r3=(8, mask(4), 4)), "11,0,0,0,0,1,0,3,0", "a base that is no multiple of 2^k",
+      "A region that breaks its rule keeps its values and matches nothing")
+sheet("code-region-broken-inside", program(NOP, NOP, NOP, pc=8, r3=(8, mask(4), 4)), "11,0,8,0,0,1,0,3,8",
+      "the same at the base itself", "A region that breaks its rule keeps its values and matches nothing")
+sheet("code-region-two-bytes", program(NOP, NOP, pc=4, r3=(4, mask(1), 4)), "11,0,4,0,0,1,0,3,6", "two bytes of code: the third is refused",
+      "The first refused byte, counted from the access's start, is the one recorded.")
+sheet("code-region-one-byte", program(NOP, r3=(0, mask(0), 4)), "11,0,0,0,0,1,0,3,1", "k = 0: one byte of code",
+      "the count k of the mask's trailing zero bits is 0 to 48")
+sheet("code-region-four-bytes", program(NOP, r3=(0, mask(2), 4)), "11,1,4,0,0,1,0,3,4", "four bytes: one word runs",
+      "A byte matches when its address, and-ed with the mask, equals base.")
+sheet("code-region-run-off-the-end", program(NOP, NOP, NOP, NOP, NOP, r3=(0, mask(4), 4)), "11,4,10,0,0,1,0,3,10",
+      "sixteen bytes: the fifth word is refused", "`f` matches, `10` doesn't")
+sheet("jump-out-of-code", program(J(1, 0x1000)), "11,1,1000,0,0,1,0,3,1000", "a jump into data", Q5)
+sheet("jump-to-high-address", program(addi(5, 0, -16), jalr(0, 5, 0)), "11,2,fffffffffffffff0,0,0,1,0,3,fffffffffffffff0",
+      "a jump near the top", Q5)
+sheet("code-in-data-region", program(NOP, pc=0x1000, at=0x1000, r2=DATA, r3=NONE), "11,0,1000,0,0,1,0,3,1000",
+      "region 2 is not asked about a fetch", "A fetch asks region 3")
+sheet("pc-past-memory", setup(pc=0x10000, r3=(0x10000, mask(16), 4)), "12,0,10000,0,0,0,0,0,0",
+      "granted and absent; the address 12 gives is not printed", Q6)
+sheet("run-off-memory", program(NOP, pc=0xfffc, at=0xfffc, r3=(0, mask(17), 4)), "12,1,10000,0,0,0,0,0,0", "past the last word", Q6)
+sheet("eleven-before-twelve", setup(pc=0x20000, r3=(0, mask(17), 4)), "11,0,20000,0,0,1,0,3,20000", "refused and absent: 11", Q6)
+sheet("code-region-widest", setup(pc=0xfffffffffffc, r3=(0, mask(48), 4)), "12,0,fffffffffffc,0,0,0,0,0,0", "k = 48 grants all below 2^48",
+      "base + 2^k is at most 2^48")
+sheet("code-region-too-wide", program(NOP, r3=(0, mask(49), 4)), "11,0,0,0,0,1,0,3,0", "k = 49 breaks the rule",
+      "the count k of the mask's trailing zero bits is 0 to 48")
+sheet("code-region-top", setup(pc=0xfffffffff000, r3=(0xfffffffff000, mask(12), 4)), "12,0,fffffffff000,0,0,0,0,0,0",
+      "base + 2^k is exactly 2^48", "base + 2^k is at most 2^48")
+sheet("code-region-past-top", setup(pc=0x1000000000000, r3=(0x1000000000000, mask(12), 4)), "11,0,1000000000000,0,0,1,0,3,1000000000000",
+      "base 2^48 breaks the rule", "base + 2^k is at most 2^48")
+sheet("code-mask-with-a-hole", program(NOP, r3=(0, 0xffffffffffffe000 ^ (1 << 40), 4)), "11,0,0,0,0,1,0,3,0", "a zero among the ones",
+      "the bits above them are all ones")
+sheet("code-mask-without-top-bit", program(NOP, r3=(0, 0x7ffffffffffff000, 4)), "11,0,0,0,0,1,0,3,0", "bit 63 is zero",
+      "the bits above them are all ones")
+
+# ---------------------------------------------------------------- 13
+section("Stop 13: illegal words")
+Q7 = "7. Is the word legal? No: **13**."
+for name, word, shows in [
+    ("illegal-zero", 0, "the zero word"),
+    ("illegal-all-ones", 0xffffffff, "the word of ones"),
+    ("illegal-half-word", 0x00000001, "a half-word"),
+    ("illegal-multiply", 0x02b50533, "MUL"),
+    ("illegal-divide-word", 0x02b5453b, "DIVW"),
+    ("illegal-fence-i", 0x0000100f, "FENCE.I"),
+    ("illegal-csr", 0xc0002573, "a CSR read"),
+    ("illegal-ecall-with-rd", 0x000000f3, "ECALL with rd 1"),
+    ("illegal-system-return", 0x30200073, "a return from a trap"),
+    ("illegal-wait", 0x10500073, "wait for interrupt"),
+    ("illegal-slli-bit-26", 0x04051513, "SLLI with bit 26"),
+    ("illegal-slli-bit-30", 0x40051513, "SLLI with bit 30"),
+    ("illegal-slliw-bit-25", 0x0205151b, "SLLIW with bit 25"),
+    ("illegal-srliw-bit-25", 0x0205551b, "SRLIW with bit 25"),
+    ("illegal-sraiw-bit-25", 0x4205551b, "SRAIW with bit 25"),
+    ("illegal-sub-with-funct3-1", 0x40b51533, "funct7 32 with funct3 1"),
+    ("illegal-jalr-funct3", 0x00051567, "JALR with funct3 1"),
+    ("illegal-load-funct3", 0x00057503, "a load with funct3 7"),
+    ("illegal-store-funct3", 0x00a54023, "a store with funct3 4"),
+    ("illegal-branch-funct3", 0x00002063, "a branch with funct3 2"),
+    ("illegal-atomic", 0x00a5252f, "an atomic word"),
+    ("illegal-float-load", 0x00052507, "a floating-point load"),
+]:
+    sheet(name, program(NOP, word), "13,1,4,0,0,0,0,0,0", shows, Q7)
+TABLE = "Fields not named in a row are zero, else the word is illegal."
+sheet("illegal-exit-with-rd", program(NOP, 0x0400015b, r1=SMALL), "13,1,4,0,0,0,0,0,0", "case C: exit with rd 2", TABLE)
+sheet("illegal-exit-with-rs1", program(NOP, hfi(2, 0, 1)), "13,1,4,0,0,0,0,0,0", "exit with rs1", TABLE)
+sheet("illegal-enter-with-rs2", program(NOP, hfi(0, 0, 5, 6)), "13,1,4,0,0,0,0,0,0", "enter without jump with rs2: 13 before 14", TABLE)
+sheet("illegal-select-with-rd", program(NOP, hfi(SELECT, 1, 5)), "13,1,4,0,0,0,0,0,0", "select with rd", TABLE)
+sheet("illegal-get-with-rs1", program(NOP, hfi(GETBASE, 5, 1)), "13,1,4,0,0,0,0,0,0", "get base with rs1", TABLE)
+sheet("illegal-set-with-rd", program(NOP, hfi(SETBASE, 1, 5)), "13,1,4,0,0,0,0,0,0", "set base with rd", TABLE)
+sheet("illegal-reset-with-rs2", program(NOP, hfi(RESET, 0, 0, 1)), "13,1,4,0,0,0,0,0,0", "reset with rs2", TABLE)
+sheet("illegal-funct7-13", program(NOP, hfi(13)), "13,1,4,0,0,0,0,0,0", "no row 13", "The rest (ours) are R-type words, opcode `5b`, funct3 0.")
+sheet("illegal-funct3-1", program(NOP, hfi(2) | 1 << 12), "13,1,4,0,0,0,0,0,0", "exit with funct3 1",
+      "The rest (ours) are R-type words, opcode `5b`, funct3 0.")
+sheet("illegal-h-load-funct3-7", program(NOP, hload(7, 5, 0, 0), r1=SMALL), "13,1,4,0,0,0,0,0,0", "an h-load with funct3 7",
+      "opcode `0b`, funct3 0 to 6")
+sheet("illegal-h-store-funct3-4", program(NOP, hstore(4, 5, 0, 0), r1=SMALL), "13,1,4,0,0,0,0,0,0", "an h-store with funct3 4",
+      "opcode `2b`, funct3 0 to 3")
+
+# ---------------------------------------------------------------- 14
+section("Stop 14: what HFI forbids (in HFI mode, as a sheet starts there)")
+Q8 = "8. Does HFI allow it? No: **14**"
+sheet("enter-inside", program(hfi(0, 0, 0)), "14,0,0,0,0,0,0,0,0", "enter in HFI mode", Q8 + ": enter in HFI mode")
+sheet("enter-inside-unlocked", program(hfi(0, 0, 0), options=0), "14,0,0,0,0,0,0,0,0", "the same, unlocked", Q8 + ": enter in HFI mode")
+sheet("enter-jump-inside", program(addi(5, 0, 2), hfi(1, 0, 0, 5)), "14,1,4,0,0,0,0,0,0", "enter with jump to 2: 14 before 15", Q8 + ": enter in HFI mode")
+LK = "funct7 3 to 9, 11 or 12 in HFI mode when locked"
+for name, f7, rd, rs1 in [
+    ("locked-select", SELECT, 0, 5), ("locked-set-base", SETBASE, 0, 5), ("locked-get-base", GETBASE, 6, 0),
+    ("locked-set-bound", SETBOUND, 0, 5), ("locked-get-bound", GETBOUND, 6, 0), ("locked-set-permission", SETPERM, 0, 5),
+    ("locked-get-permission", GETPERM, 6, 0), ("locked-get-handler", GETHANDLER, 6, 0), ("locked-reset", RESET, 0, 0),
+]:
+    sheet(name, program(addi(5, 0, 1), hfi(f7, rd, rs1)), "14,1,4,0,0,0,0,0,0", name.replace("-", " "), LK)
+sheet("locked-set-handler", program(addi(5, 0, 8), hfi(SETHANDLER, 0, 5)), "14,1,4,0,0,0,0,0,0", "set handler, locked",
+      "set handler in HFI mode, locked or unlocked")
+sheet("unlocked-set-handler", program(addi(5, 0, 8), hfi(SETHANDLER, 0, 5), options=14), "14,1,4,0,0,0,0,0,0", "set handler, unlocked",
+      "set handler in HFI mode, locked or unlocked")
+NUM = "a selected number not 1 to 3"
+sheet("select-0", program(hfi(SELECT, 0, 0), options=0), "14,0,0,0,0,0,0,0,0", "number 0", NUM)
+sheet("select-4", program(addi(5, 0, 4), hfi(SELECT, 0, 5), options=0), "14,1,4,0,0,0,0,0,0", "number 4", NUM)
+sheet("select-100000001", program(addi(5, 0, 1), slli(5, 5, 32), addi(5, 5, 1), hfi(SELECT, 0, 5), options=0), "14,3,c,0,0,0,0,0,0",
+      "the whole register is the number", NUM)
+SEL0 = "funct7 4 to 9 with selector 0"
+for name, f7, rd, rs1 in [
+    ("no-selection-set-base", SETBASE, 0, 5), ("no-selection-get-base", GETBASE, 6, 0), ("no-selection-set-bound", SETBOUND, 0, 5),
+    ("no-selection-get-bound", GETBOUND, 6, 0), ("no-selection-set-permission", SETPERM, 0, 5), ("no-selection-get-permission", GETPERM, 6, 0),
+]:
+    sheet(name, program(addi(5, 0, 1), hfi(f7, rd, rs1), options=0), "14,1,4,0,0,0,0,0,0", name.replace("-", " "), SEL0)
+sheet("no-selection-get-into-x0", program(hfi(GETBASE, 0, 0), options=0), "14,0,0,0,0,0,0,0,0", "a get into x0 still asks", SEL0)
+LACK = "a permission bit the region lacks"
+for name, region, value, in [
+    ("lacking-one-execute", 1, 4), ("lacking-one-bit-4", 1, 16), ("lacking-two-execute", 2, 4), ("lacking-two-large", 2, 8),
+    ("lacking-three-read", 3, 1), ("lacking-three-write", 3, 2), ("lacking-three-large", 3, 8), ("lacking-three-read-execute", 3, 5),
+]:
+    sheet(name, program(addi(5, 0, region), hfi(SELECT, 0, 5), addi(5, 0, value), hfi(SETPERM, 0, 5), options=0), "14,3,c,0,0,0,0,0,0",
+          "permission %x for region %d" % (value, region), LACK)
+sheet("lacking-one-all-ones", program(addi(5, 0, 1), hfi(SELECT, 0, 5), addi(5, 0, -1), hfi(SETPERM, 0, 5), options=0),
+      "14,3,c,0,0,0,0,0,0", "all 64 bits", LACK)
+
+section("Unlocked region instructions that pass")
+sheet("unlocked-set-and-get", program(
+    addi(5, 0, 1), hfi(SELECT, 0, 5), addi(6, 0, 0x700), hfi(SETBASE, 0, 6), addi(7, 0, 16), hfi(SETBOUND, 0, 7), addi(8, 0, 3),
+    hfi(SETPERM, 0, 8), hfi(GETBASE, 11), hfi(GETBOUND, 12), hfi(GETPERM, 13), hfi(GETHANDLER, 14), hstore(SD, 6, 0, 8),
+    hload(LD, 15, 0, 8), ECALL, options=0, handler=0x80), "18,e,38,0,0,0,0,0,0", "set region 1, read it back, use it", "The rest (ours) are R-type words")
+sheet("unlocked-narrowing-code", program(addi(5, 0, 3), hfi(SELECT, 0, 5), addi(6, 0, -16), hfi(SETBOUND, 0, 6), NOP, options=0),
+      "11,4,10,0,0,1,0,3,10", "a narrower code mask takes effect at the next fetch", "In HFI mode each byte is judged singly.")
+sheet("unlocked-taking-execute-away", program(addi(5, 0, 3), hfi(SELECT, 0, 5), hfi(SETPERM, 0, 0), NOP, options=0), "11,3,c,0,0,1,3,3,c",
+      "permission 0 for the code region", FR)
+sheet("unlocked-reset", program(NOP, hfi(RESET), NOP, options=0, r1=SMALL, r2=DATA), "11,2,8,0,0,1,0,3,8", "after a reset no fetch passes",
+      "Reset zeroes regions and selector.")
+sheet("unlocked-data-region-moved", program(
+    addi(5, 0, 2), hfi(SELECT, 0, 5), lui(6, 3), hfi(SETBASE, 0, 6), store(SW, 5, 6, 0), load(LW, 10, 6, 0), lui(7, 1), load(LB, 10, 7, 0),
+    options=0, r2=DATA), "16,7,1c,0,0,1,0,1,1000", "region 2 moved from 1000 to 3000", "an ordinary load or store region 2")
+sheet("unlocked-broken-base-kept", program(
+    addi(5, 0, 2), hfi(SELECT, 0, 5), addi(6, 0, 9), hfi(SETBASE, 0, 6), hfi(GETBASE, 10), load(LB, 11, 6, 0), options=0, r2=DATA),
+    "16,5,14,0,0,1,0,1,9", "a broken region keeps its values and matches nothing",
+    "A region that breaks its rule keeps its values and matches nothing")
+
+# ---------------------------------------------------------------- 15
+section("Stop 15: targets")
+Q9 = "9. Is the target of a taken branch, a jump or an enter with jump a multiple of 4? No: **15**."
+sheet("branch-to-half-word", program(NOP, B(0, 0, 0, 6)), "15,1,4,0,0,0,0,0,0", "a taken branch to a", Q9)
+sheet("branch-not-taken-to-half-word", program(NOP, B(1, 0, 0, 6), ECALL), "18,2,8,0,0,0,0,0,0", "a branch not taken asks nothing", Q9)
+sheet("jal-to-half-word", program(NOP, J(1, 2)), "15,1,4,0,0,0,0,0,0", "JAL to 6; the link is not written", Q9)
+sheet("jal-back-to-half-word", program(NOP, J(1, -2)), "15,1,4,0,0,0,0,0,0", "JAL to 2", Q9)
+sheet("jalr-to-half-word", program(addi(5, 0, 6), jalr(1, 5, 0)), "15,1,4,0,0,0,0,0,0", "JALR to 6", Q9)
+sheet("jalr-to-seven", program(addi(5, 0, 7), jalr(1, 5, 0)), "15,1,4,0,0,0,0,0,0", "JALR to 7: bit 0 is cleared, 6 remains", Q9)
+sheet("jalr-clears-bit-zero", program(addi(5, 0, 13), jalr(1, 5, 0), NOP, ECALL), "18,2,c,0,0,0,0,0,0", "JALR to d goes to c", Q9)
+sheet("jalr-rd-is-rs1", program(addi(5, 0, 12), jalr(5, 5, 0), NOP, ECALL), "18,2,c,0,0,0,0,0,0", "the target is of the old value",
+      "JALR with rd equal to rs1 that takes the new value.")
+
+# ---------------------------------------------------------------- 16
+section("Stop 16: implicit data")
+Q10 = "10. Is every data byte granted? No: **16**."
+P1000 = lui(5, 1)
+sheet("load-first-byte", program(P1000, load(LBU, 10, 5, 0), ECALL, r2=DATA), "18,2,8,0,0,0,0,0,0", "the region's first byte",
+      "A byte matches when its address, and-ed with the mask, equals base.")
+sheet("load-before-first-byte", program(P1000, load(LB, 10, 5, -1), r2=DATA), "16,1,4,0,0,1,0,1,fff", "one byte before", Q10)
+sheet("load-last-byte", program(lui(5, 2), load(LBU, 10, 5, -1), ECALL, r2=DATA), "18,2,8,0,0,0,0,0,0", "the region's last byte",
+      "A byte matches when its address, and-ed with the mask, equals base.")
+sheet("load-past-last-byte", program(lui(5, 2), load(LB, 10, 5, 0), r2=DATA), "16,1,4,0,0,1,0,1,2000", "one byte past", Q10)
+for name, f3, size in [("load-half-over-the-end", LH, 2), ("load-word-over-the-end", LW, 4), ("load-double-over-the-end", LD, 8)]:
+    sheet(name, program(lui(5, 2), load(f3, 10, 5, 1 - size), r2=DATA), "16,1,4,0,0,1,0,1,2000", "only its last byte is outside",
+          "Checking only the first byte of an access")
+for name, f3, size in [("store-half-over-the-end", SH, 2), ("store-word-over-the-end", SW, 4), ("store-double-over-the-end", SD, 8)]:
+    sheet(name, program(lui(5, 2), addi(6, 0, -1), store(f3, 6, 5, 1 - size), r2=DATA), "16,2,8,0,0,1,0,2,2000", "only its last byte is outside",
+          "storing its lower bytes before a later one is refused")
+sheet("load-double-over-the-start", program(P1000, load(LD, 10, 5, -7), r2=DATA), "16,1,4,0,0,1,0,1,ff9", "the first refused byte is the first",
+      "The first refused byte, counted from the access's start, is the one recorded.")
+sheet("load-not-readable", program(P1000, load(LD, 10, 5, 8), r2=(0x1000, mask(12), 2)), "16,1,4,0,0,1,2,1,1008", "a match without read is region 2", FR)
+sheet("store-not-writable", program(P1000, store(SB, 5, 5, 8), r2=(0x1000, mask(12), 1)), "16,1,4,0,0,1,2,2,1008", "a match without write is region 2", FR)
+sheet("load-into-x0-refused", program(load(LW, 0, 0, 0), r2=DATA), "16,0,0,0,0,1,0,1,0", "a load into x0 asks too", Q10)
+sheet("load-own-code", program(load(LW, 10, 0, 0), r2=DATA), "16,0,0,0,0,1,0,1,0", "region 3 is not asked about a load", "an ordinary load or store region 2")
+sheet("store-own-code", program(store(SW, 0, 0, 0), r2=DATA), "16,0,0,0,0,1,0,2,0", "region 3 is not asked about a store", "an ordinary load or store region 2")
+sheet("load-of-explicit-bytes", program(lui(5, 2), load(LB, 10, 5, 0), r1=SMALL, r2=DATA), "16,1,4,0,0,1,0,1,2000",
+      "region 1 is not asked about an ordinary load", "an h-load or h-store region 1 only")
+sheet("data-mask-0", program(load(LB, 10, 0, 0), r2=(0, 0, 3)), "16,0,0,0,0,1,0,1,0", "case E: mask 0 matches nothing", "E Mask 0 matches nothing.")
+sheet("data-mask-0-high-address", program(addi(5, 0, -1), load(LB, 10, 5, 0), r2=(0, 0, 3)), "16,1,4,0,0,1,0,1,ffffffffffffffff",
+      "mask 0, last address", "E Mask 0 matches nothing.")
+sheet("data-misaligned-base", program(load(LB, 10, 0, 8), r2=(8, mask(4), 3)), "16,0,0,0,0,1,0,1,8", "case F", "F That mask with base 8 matches nothing.")
+sheet("data-sixteen-bytes-last", program(load(LBU, 10, 0, 15), ECALL, r2=(0, mask(4), 1)), "18,1,4,0,0,0,0,0,0", "case D: f matches", "D Base 0, mask `fffffffffffffff0`: `f` matches")
+sheet("data-sixteen-bytes-beyond", program(load(LBU, 10, 0, 16), r2=(0, mask(4), 1)), "16,0,0,0,0,1,0,1,10", "case D: 10 doesn't", "`10` doesn't")
+sheet("data-one-byte", program(P1000, load(LBU, 10, 5, 1), ECALL, r2=(0x1001, mask(0), 1)), "18,2,8,0,0,0,0,0,0", "k = 0: the byte", "k ... is 0 to 48")
+sheet("data-one-byte-before", program(P1000, load(LBU, 10, 5, 0), r2=(0x1001, mask(0), 1)), "16,1,4,0,0,1,0,1,1000", "k = 0: the byte before", "k ... is 0 to 48")
+sheet("data-one-byte-half", program(P1000, load(LH, 10, 5, 1), r2=(0x1001, mask(0), 1)), "16,1,4,0,0,1,0,1,1002", "k = 0: two bytes", "k ... is 0 to 48")
+sheet("data-widest-last-byte", program(addi(5, 0, -1), srli(5, 5, 16), load(LB, 10, 5, 0), r2=(0, mask(48), 3)), "17,2,8,0,0,0,0,0,0",
+      "k = 48: the last byte below 2^48 is granted and absent", "base + 2^k is at most 2^48")
+sheet("data-widest-beyond", program(addi(5, 0, 1), slli(5, 5, 48), load(LB, 10, 5, 0), r2=(0, mask(48), 3)), "16,2,8,0,0,1,0,1,1000000000000",
+      "k = 48: 2^48 is not granted", "base + 2^k is at most 2^48")
+sheet("data-too-wide", program(load(LB, 10, 0, 0), r2=(0, mask(49), 3)), "16,0,0,0,0,1,0,1,0", "k = 49", "k ... is 0 to 48")
+sheet("data-mask-top-bit-alone", program(load(LB, 10, 0, 0), r2=(0, 1 << 63, 3)), "16,0,0,0,0,1,0,1,0", "k = 63", "k ... is 0 to 48")
+sheet("data-mask-with-a-hole", program(load(LB, 10, 0, 0), r2=(0, 0xfffffffffffff0ff, 3)), "16,0,0,0,0,1,0,1,0", "a mask with k = 0 and zeros above",
+      "the bits above them are all ones")
+sheet("load-wraps-to-zero", program(addi(5, 0, -1), load(LW, 10, 5, 1), ECALL, r2=(0, mask(12), 1)), "18,2,8,0,0,0,0,0,0", "2^64 - 1 + 1 is 0",
+      "Sums of addresses and registers are taken modulo 2^64.")
+sheet("load-over-the-wrap", program(load(LD, 10, 0, -4), r2=(0, mask(12), 1)), "16,0,0,0,0,1,0,1,fffffffffffffffc",
+      "the first byte at 2^64 - 4 is refused", "The first refused byte, counted from the access's start, is the one recorded.")
+
+section("Stop 16: explicit data")
+HW = "byte i passes when region 1 keeps its rule, has the read or write permission wanted, and offset + i is at least 0 and below the bound"
+G = (0x200, 0x10, 3)
+for name, f3, size in [("byte", 0, 1), ("half", 1, 2), ("word", 2, 4), ("double", 3, 8)]:
+    sheet("h-load-%s-last" % name, program(hload(f3, 10, 0, 16 - size), ECALL, r1=G), "18,1,4,0,0,0,0,0,0", "the last %s of 16 bytes" % name, HW)
+    sheet("h-load-%s-beyond" % name, program(hload(f3, 10, 0, 17 - size), r1=G), "16,0,0,0,0,1,1,1,210", "one byte further", HW)
+    sheet("h-store-%s-last" % name, program(hstore(f3, 0, 0, 16 - size), ECALL, r1=G), "18,1,4,0,0,0,0,0,0", "the last %s of 16 bytes" % name, HW)
+    sheet("h-store-%s-beyond" % name, program(hstore(f3, 0, 0, 17 - size), r1=G), "16,0,0,0,0,1,1,2,210", "one byte further (case G for 8)", HW)
+sheet("h-store-minus-one", program(hstore(SD, 0, 0, -1), r1=G), "16,0,0,0,0,1,1,2,1ff", "case H: offset -1", "H There, offset -1 faults at `1ff`.")
+sheet("h-load-minus-one", program(hload(LB, 10, 0, -1), r1=G), "16,0,0,0,0,1,1,1,1ff", "offset -1 in a load", HW)
+sheet("h-load-minus-2048", program(hload(LB, 10, 0, -2048), r1=(0x800, 0x10, 3)), "16,0,0,0,0,1,1,1,0", "the lowest offset", HW)
+sheet("h-load-minus-one-of-base-0", program(hload(LB, 10, 0, -1), r1=(0, 0x10, 3)), "16,0,0,0,0,1,1,1,ffffffffffffffff",
+      "base 0, offset -1: the address wraps", "The address is base + offset + i, modulo 2^64.")
+sheet("h-load-rs1-ignored", program(addi(7, 0, -1), hload(LBU, 10, 7, 0), ECALL, r1=G), "18,2,8,0,0,0,0,0,0", "rs1 holds 2^64 - 1", "As 000 says, rs1 is ignored")
+sheet("h-load-offset-2047", program(hload(LD, 10, 0, 2047), ECALL, r1=(0x1000, 0x1000, 1)), "18,1,4,0,0,0,0,0,0",
+      "an hld at 2,047 in a bound of 4,096", "So an hld at 2,047 in a region of bound 4,096 also reaches offsets 2,048 to 2,054.")
+sheet("h-load-offset-2047-bound-2054", program(hload(LD, 10, 0, 2047), r1=(0x1000, 2054, 1)), "16,0,0,0,0,1,1,1,1806", "its last byte is outside a bound of 2,054", HW)
+sheet("h-load-not-readable", program(hload(LD, 10, 0, 0), r1=(0x200, 0x10, 2)), "16,0,0,0,0,1,1,1,200", "no read permission", HW)
+sheet("h-store-not-writable", program(hstore(SD, 10, 0, 4), r1=(0x200, 0x10, 1)), "16,0,0,0,0,1,1,2,204", "no write permission", HW)
+sheet("h-load-region-zero", program(hload(LB, 10, 0, 5), r2=(0, mask(12), 3)), "16,0,0,0,0,1,1,1,5", "an unset region 1; region 2 is not asked",
+      "Asking the implicit region about an h-load.")
+sheet("h-load-bound-zero", program(hload(LB, 10, 0, 0), r1=(0x200, 0, 3)), "16,0,0,0,0,1,1,1,200", "bound 0", "bound is 1 to 2^32")
+sheet("h-load-bound-one", program(hload(LBU, 10, 0, 0), hload(LBU, 10, 0, 1), r1=(0x200, 1, 3)), "16,1,4,0,0,1,1,1,201", "bound 1", "bound is 1 to 2^32")
+sheet("h-load-bound-2-to-32", program(hload(LBU, 10, 0, 0), ECALL, r1=(0, 1 << 32, 3)), "18,1,4,0,0,0,0,0,0", "bound 2^32 at base 0", "bound is 1 to 2^32")
+sheet("h-load-bound-2-to-32-base-1", program(hload(LBU, 10, 0, 0), r1=(1, 1 << 32, 3)), "16,0,0,0,0,1,1,1,1", "bound 2^32 at base 1",
+      "first and last byte share the same multiple of 2^32")
+sheet("h-load-bound-too-large", program(hload(LBU, 10, 0, 0), r1=(0, (1 << 32) + 1, 3)), "16,0,0,0,0,1,1,1,0", "bound 2^32 + 1", "bound is 1 to 2^32")
+sheet("h-load-at-the-multiple", program(hload(LBU, 10, 0, 0), r1=(0xffffffff, 1, 3)), "17,0,0,0,0,0,0,0,0", "case I: bound 1 is good; the byte is absent",
+      "I Small base `ffffffff`: bound 1 is good, 2 is not.")
+sheet("h-load-over-the-multiple", program(hload(LBU, 10, 0, 0), r1=(0xffffffff, 2, 3)), "16,0,0,0,0,1,1,1,ffffffff", "case I: bound 2 is not",
+      "I Small base `ffffffff`: bound 1 is good, 2 is not.")
+sheet("h-load-across-a-multiple", program(hload(LD, 10, 0, 4), r1=(0xfffffff8, 0x10, 3)), "16,0,0,0,0,1,1,1,fffffffc", "16 bytes across 2^32",
+      "first and last byte share the same multiple of 2^32")
+sheet("h-load-small-top", program(hload(LBU, 10, 0, 0), r1=((1 << 48) - 1, 1, 3)), "17,0,0,0,0,0,0,0,0", "base + bound is 2^48", "base + bound is at most 2^48 (003)")
+sheet("h-load-small-past-top", program(hload(LBU, 10, 0, 0), r1=(1 << 48, 1, 3)), "16,0,0,0,0,1,1,1,1000000000000", "base 2^48", "base + bound is at most 2^48 (003)")
+sheet("h-load-base-all-ones", program(hload(LBU, 10, 0, 1), r1=(ONES, 1, 3)), "16,0,0,0,0,1,1,1,0", "base 2^64 - 1: no wrap in the rule, wrap in the address",
+      "The address is base + offset + i, modulo 2^64.")
+LG = "Explicit large: base and bound are multiples of 65,536, bound is not 0, base + bound is at most 2^48."
+sheet("h-load-large", program(hload(LD, 10, 0, 2047), ECALL, r1=(0, 0x10000, 0xb)), "18,1,4,0,0,0,0,0,0", "a large region at 0", LG)
+sheet("h-load-large-bound-good", program(hload(LB, 10, 0, 0), r1=(0x10000, 0x10000, 0xb)), "17,0,0,0,0,0,0,0,0", "case J: good; the byte is absent",
+      "J Large base `10000`: bound `10000` is good, `10001` is not.")
+sheet("h-load-large-bound-odd", program(hload(LB, 10, 0, 0), r1=(0x10000, 0x10001, 0xb)), "16,0,0,0,0,1,1,1,10000", "case J: not good",
+      "J Large base `10000`: bound `10000` is good, `10001` is not.")
+sheet("h-load-large-base-odd", program(hload(LB, 10, 0, 0), r1=(0x8000, 0x10000, 0xb)), "16,0,0,0,0,1,1,1,8000", "base is no multiple", LG)
+sheet("h-load-large-bound-zero", program(hload(LB, 10, 0, 0), r1=(0, 0, 0xb)), "16,0,0,0,0,1,1,1,0", "bound 0", LG)
+sheet("h-load-large-across-a-multiple", program(hload(LB, 10, 0, 0), r1=(0xffff0000, 0x20000, 0xb)), "17,0,0,0,0,0,0,0,0",
+      "a large region may cross a multiple of 2^32", LG)
+sheet("h-load-large-whole", program(hload(LBU, 10, 0, 1), ECALL, r1=(0, 1 << 48, 9)), "18,1,4,0,0,0,0,0,0", "base + bound is 2^48", LG)
+sheet("h-load-large-too-long", program(hload(LBU, 10, 0, 1), r1=(0x10000, 1 << 48, 9)), "16,0,0,0,0,1,1,1,10001", "base + bound is above 2^48", LG)
+sheet("h-load-large-without-read", program(hload(LB, 10, 0, 0), r1=(0, 0x10000, 8)), "16,0,0,0,0,1,1,1,0", "the large bit alone grants nothing", HW)
+sheet("h-store-large-read-only", program(hstore(SB, 10, 0, 0), r1=(0, 0x10000, 9)), "16,0,0,0,0,1,1,2,0", "no write in a large region", HW)
+sheet("h-load-minus-one-large", program(hload(LB, 10, 0, -1), r1=(0x10000, 0x10000, 0xb)), "16,0,0,0,0,1,1,1,ffff", "offset -1 of a large region", HW)
+
+# ---------------------------------------------------------------- 17
+section("Stop 17: granted and absent")
+Q11 = "11. Are they in memory? No: **17**."
+sheet("load-past-memory", program(lui(5, 0x10), load(LB, 10, 5, 0), r2=(0x10000, mask(16), 3)), "17,1,4,0,0,0,0,0,0", "the first byte past memory", Q11)
+sheet("load-over-memory-end", program(lui(5, 0x10), load(LD, 10, 5, -4), r2=(0, mask(17), 3)), "17,1,4,0,0,0,0,0,0", "its last four bytes are absent", Q11)
+sheet("load-last-double", program(lui(5, 0x10), load(LD, 10, 5, -8), ECALL, r2=(0, mask(17), 3)), "18,2,8,0,0,0,0,0,0", "the last eight bytes", Q11)
+sheet("store-over-memory-end", program(lui(5, 0x10), store(SW, 5, 5, -1), r2=(0, mask(17), 3)), "17,1,4,0,0,0,0,0,0", "nothing of it is stored", Q11)
+sheet("h-load-over-memory-end", program(hload(LW, 10, 0, 6), r1=(0xfff8, 0x10, 3)), "17,0,0,0,0,0,0,0,0", "an h-load over the end", Q11)
+sheet("h-store-past-memory", program(hstore(SB, 0, 0, 8), r1=(0xfff8, 0x10, 3)), "17,0,0,0,0,0,0,0,0", "an h-store past the end", Q11)
+sheet("load-into-x0-absent", program(lui(5, 0x10), load(LB, 0, 5, 0), r2=(0x10000, mask(16), 3)), "17,1,4,0,0,0,0,0,0", "a load into x0 asks too", Q11)
+sheet("sixteen-before-seventeen", program(lui(5, 0x20), load(LD, 10, 5, -4), r2=(0x10000, mask(16), 3)), "16,1,4,0,0,1,0,1,20000",
+      "first byte absent, fifth refused: 16", "10. Is every data byte granted? ... 11. Are they in memory?")
+
+# ---------------------------------------------------------------- 18, 19, 20
+section("Stops 18, 19 and 20")
+sheet("ecall", program(addi(10, 0, 7), ECALL), "18,1,4,0,0,0,0,0,0", "ECALL, not redirected", "12. Is it anything but an ECALL that is not redirected? No: **18**.")
+sheet("ecall-exits-redirected-only", program(ECALL, options=5, handler=0x80), "18,0,0,0,0,0,0,0,0", "option bit 2 does not redirect calls",
+      "Options: bit 0 lock regions, bit 1 redirect system calls, bit 2 redirect exits")
+sheet("ecall-redirected", program(NOP, ECALL, options=3, handler=0x80), "20,2,80,2,4,0,0,0,0", "ECALL with option bit 1",
+      "ECALL in HFI mode with bit 1 set: mode 0, reason 2, exit pc is this pc, pc is the handler.")
+sheet("ecall-redirected-to-0", program(NOP, ECALL, options=2), "20,2,0,2,4,0,0,0,0", "the handler may be 0", "pc is the handler")
+sheet("ebreak", program(addi(10, 0, 7), EBREAK, options=15), "19,1,4,0,0,0,0,0,0", "EBREAK, all options set", "13. Is it anything but EBREAK? No: **19**.")
+sheet("exit", program(addi(10, 0, 7), EXIT, options=3, handler=0x80), "20,2,8,1,4,0,0,0,0", "exit goes on at pc + 4", "else pc + 4")
+sheet("exit-redirected", program(addi(10, 0, 7), EXIT, options=5, handler=0x80), "20,2,80,1,4,0,0,0,0", "exit with option bit 2",
+      "then pc is the handler if exits are redirected, else pc + 4")
+sheet("exit-redirected-far", program(EXIT, options=4, handler=0x3ffffffffffffffc), "20,1,3ffffffffffffffc,1,0,0,0,0,0",
+      "a handler outside memory and regions: nothing is asked of it", "then pc is the handler if exits are redirected")
+sheet("exit-first-word", program(EXIT, budget=1), "20,1,4,1,0,0,0,0,0", "the run's only step leaves", "20 counts its step.")
+sheet("exit-at-high-pc", program(EXIT, pc=0xfffc, at=0xfffc, r3=(0, mask(16), 4)), "20,1,10000,1,fffc,0,0,0,0", "pc + 4 is past memory; the run ends before a fetch",
+      "After a step of a run that began in HFI mode: is the mode still on? No: **20**.")
+sheet("serialize-option", program(EXIT, options=9), "20,1,4,1,0,0,0,0,0", "option bit 3 has no effect", "Bit 3 is kept and has no effect on single steps.")
+sheet("whole-example", "0,5,100,200,10,3,0,0,0,0,fffffffffffffff0,4,a\n0,00500513\n4,00a001ab\n8,0400005b\n", "20,3,100,1,8,0,0,0,0",
+      "the example of document 01", "Whole example")
+
+# ---------------------------------------------------------------- instruction groups
+section("Instruction groups")
+ISA = "All of RV64I; 32-bit words, little-endian."
+sheet("group-register", program(
+    addi(5, 0, -7), addi(6, 0, 3), R(0x33, 0, 0, 10, 5, 6), R(0x33, 0, 32, 11, 5, 6), R(0x33, 1, 0, 12, 5, 6), R(0x33, 2, 0, 13, 5, 6),
+    R(0x33, 3, 0, 14, 5, 6), R(0x33, 4, 0, 15, 5, 6), R(0x33, 5, 0, 16, 5, 6), R(0x33, 5, 32, 17, 5, 6), R(0x33, 6, 0, 18, 5, 6),
+    R(0x33, 7, 0, 19, 5, 6), ECALL), "18,c,30,0,0,0,0,0,0", "ADD SUB SLL SLT SLTU XOR SRL SRA OR AND of -7 and 3", ISA)
+sheet("group-register-word", program(
+    lui(5, 0x80000), addi(5, 5, 1), slli(6, 5, 1), addi(7, 0, 35), R(0x3b, 0, 0, 10, 5, 5), R(0x3b, 0, 32, 11, 0, 5), R(0x3b, 1, 0, 12, 5, 7),
+    R(0x3b, 5, 0, 13, 5, 7), R(0x3b, 5, 32, 14, 5, 7), R(0x3b, 5, 0, 15, 5, 0), ECALL), "18,a,28,0,0,0,0,0,0", "ADDW SUBW SLLW SRLW SRAW, amounts modulo 32", ISA)
+sheet("group-immediate", program(
+    addi(5, 0, -5), I(0x13, 2, 10, 5, -4), I(0x13, 3, 11, 5, -4), I(0x13, 4, 12, 5, -1), I(0x13, 6, 13, 5, 2047), I(0x13, 7, 14, 5, 0xff),
+    I(0x1b, 0, 15, 5, 5), I(0x1b, 0, 16, 5, 6), ECALL), "18,8,20,0,0,0,0,0,0", "ADDI SLTI SLTIU XORI ORI ANDI ADDIW", ISA)
+sheet("group-shift", program(
+    addi(5, 0, -16), I(0x13, 1, 10, 5, 60), I(0x13, 5, 11, 5, 60), I(0x13, 5, 12, 5, 0x400 | 3), I(0x1b, 1, 13, 5, 27), I(0x1b, 5, 14, 5, 4),
+    I(0x1b, 5, 15, 5, 0x400 | 4), I(0x1b, 5, 16, 5, 0), ECALL), "18,8,20,0,0,0,0,0,0", "SLLI SRLI SRAI SLLIW SRLIW SRAIW", ISA)
+sheet("group-addiw-case-l", program(lui(5, 0x80000), addi(6, 0, -1), srli(6, 6, 33), I(0x1b, 0, 10, 6, 1), ECALL), "18,4,10,0,0,0,0,0,0",
+      "case L: ADDIW of 7fffffff and 1", "L ADDIW of `7fffffff` and 1 gives `ffffffff80000000`.")
+sheet("group-upper", program(lui(5, 0x12345), lui(6, 0x80000), U(0x17, 7, 0), U(0x17, 8, 0xfffff), U(0x17, 9, 0x7ffff), lui(0, 1), ECALL),
+      "18,6,18,0,0,0,0,0,0", "LUI and AUIPC", ISA)
+sheet("group-jump", program(J(1, 12), NOP, ECALL, J(5, 8), NOP, U(0x17, 6, 0), jalr(7, 6, -12)), "18,4,8,0,0,0,0,0,0",
+      "JAL forward twice, JALR back", ISA)
+sheet("group-branch-taken", program(
+    addi(5, 0, -1), addi(6, 0, 1), B(0, 5, 5, 8), ECALL, B(1, 5, 6, 8), ECALL, B(4, 5, 6, 8), ECALL, B(5, 6, 5, 8), ECALL, B(6, 6, 5, 8), ECALL,
+    B(7, 5, 6, 8), EBREAK, ECALL), "18,8,38,0,0,0,0,0,0", "BEQ BNE BLT BGE BLTU BGEU, each taken", ISA)
+sheet("group-branch-not-taken", program(
+    addi(5, 0, -1), addi(6, 0, 1), B(0, 5, 6, 32), B(1, 5, 5, 32), B(4, 6, 5, 32), B(5, 5, 6, 32), B(6, 5, 6, 32), B(7, 6, 5, 32), ECALL),
+    "18,8,20,0,0,0,0,0,0", "each not taken", ISA)
+sheet("group-branch-back", program(addi(5, 0, 5), addi(6, 6, 2), addi(5, 5, -1), B(1, 5, 0, -8), ECALL), "18,10,10,0,0,0,0,0,0",
+      "a loop of five rounds", ISA)
+DATA_LINES = "1000,b5a69788\n1004,f1e2d3c4\n"
+sheet("group-load", program(
+    P1000, load(LB, 10, 5, 0), load(LBU, 11, 5, 0), load(LH, 12, 5, 0), load(LHU, 13, 5, 0), load(LW, 14, 5, 0), load(LWU, 15, 5, 0),
+    load(LD, 16, 5, 0), load(LW, 17, 5, 3), load(LD, 18, 5, 1), ECALL, r2=DATA, more=DATA_LINES), "18,a,28,0,0,0,0,0,0",
+    "LB LBU LH LHU LW LWU LD, and misaligned ones", "Misaligned data is allowed.")
+sheet("group-store", program(
+    P1000, addi(6, 0, -2), store(SD, 6, 5, 0), store(SB, 5, 5, 1), store(SH, 0, 5, 3), store(SW, 0, 5, 8), load(LD, 10, 5, 0), load(LD, 11, 5, 5),
+    ECALL, r2=DATA), "18,8,20,0,0,0,0,0,0", "SB SH SW SD, read back", "Misaligned data is allowed.")
+sheet("group-h-load", program(
+    hload(LB, 10, 0, 0), hload(LBU, 11, 0, 0), hload(LH, 12, 0, 0), hload(LHU, 13, 0, 0), hload(LW, 14, 0, 0), hload(LWU, 15, 0, 0), hload(LD, 16, 0, 0),
+    hload(LW, 17, 0, 3), hload(LB, 0, 0, 0), ECALL, r1=(0x1000, 8, 1), more=DATA_LINES), "18,9,24,0,0,0,0,0,0", "hlb hlbu hlh hlhu hlw hlwu hld",
+    "funct3 0 to 6 for hlb, hlh, hlw, hld, hlbu, hlhu, hlwu")
+sheet("group-h-store", program(
+    addi(6, 0, -2), hstore(SD, 6, 0, 0), hstore(SB, 0, 0, 1), hstore(SH, 0, 0, 3), hstore(SW, 0, 0, 8), hload(LD, 10, 0, 0), hload(LD, 11, 0, 5),
+    ECALL, r1=(0x1000, 16, 3)), "18,7,1c,0,0,0,0,0,0", "hsb hsh hsw hsd, read back", "funct3 0 to 3 for hsb, hsh, hsw, hsd")
+sheet("group-h-store-case-b", program(addi(10, 0, 0x5a), 0x00a001ab, P1000, load(LBU, 11, 5, 3), ECALL, r1=(0x1000, 16, 2), r2=(0x1000, mask(4), 1)),
+      "18,4,10,0,0,0,0,0,0", "case B: hsb x10 at 3, seen by an ordinary load", "B `00a001ab` is hsb x10 at 3.")
+sheet("group-fence", program(0x0ff0000f, 0x8330000f, 0x0100000f, 0xffff8f8f, 0x0000000f, ECALL), "18,5,14,0,0,0,0,0,0",
+      "FENCE, FENCE.TSO, PAUSE, all spare bits set, all clear", "FENCE carries its spare fields and does nothing.")
+sheet("group-hints", program(addi(0, 0, 5), lui(0, 5), R(0x33, 0, 0, 0, 0, 0), slli(0, 0, 3), U(0x17, 0, 1), ECALL), "18,5,14,0,0,0,0,0,0",
+      "writes to x0 are lost", ISA)
+sheet("registers-all", program(*[addi(n, 0, n) for n in range(1, 32)], ECALL), "18,1f,7c,0,0,0,0,0,0", "31 register lines in rising order",
+      "then each non-zero register, rising, as number (decimal), value")
+sheet("registers-none", program(addi(5, 0, 1), addi(5, 0, 0), ECALL), "18,2,8,0,0,0,0,0,0", "no register line", "then each non-zero register")
+sheet("registers-negative", program(addi(31, 0, -1), addi(1, 0, -2048), ECALL), "18,2,8,0,0,0,0,0,0", "values of 16 digits", "All else is hexadecimal without leading zeros.")
+sheet("pc-sum-wraps", program(lui(5, 0), jalr(1, 5, -4)), "11,2,fffffffffffffffc,0,0,1,0,3,fffffffffffffffc", "0 - 4 wraps",
+      "Sums of addresses and registers are taken modulo 2^64.")
+sheet("code-changes-itself", program(lui(5, 0x500), I(0x13, 0, 5, 5, 0x513), store(SW, 5, 0, 16), NOP, EBREAK, ECALL, r2=(0, mask(12), 3)),
+      "18,5,14,0,0,0,0,0,0", "a stored word is run (locked, readable and writable code)", "Is the word legal?")
+
+
+def write():
+    names = [r[0] for r in rows]
+    assert len(set(names)) == len(names), [n for n in names if names.count(n) > 1]
+    for word in ("oven", "deck", "bake", "mill", "recipe"):
+        assert not any(word in n for n in names), word
+    os.makedirs(SHEETS, exist_ok=True)
+    for name, content, _, _, _ in rows:
+        open(os.path.join(SHEETS, name), "wb").write(content)
+    out = ["# Stored sheets", "",
+           "One file a sheet. The first lines were worked out by hand from document 01",
+           "(they stand in `oracle/authoring/make_sheets.py`, which writes this page) and then",
+           "confirmed by the oracle. The sheets stand in `crates/sheets/data`; `crates/sheets/stdout` has",
+           "for each a line with its name and then the whole output.", ""]
+    starts = dict(sections)
+    for i, (name, _, first, shows, sentence) in enumerate(rows):
+        if i in starts:
+            out += ["", "## " + starts[i], "", "| sheet | shows | from document 01 | first line |", "|---|---|---|---|"]
+        out.append("| %s | %s | %s | `%s` |" % (name, shows, sentence.replace("|", "\\|"), first))
+    open(os.path.join(HERE, "sheets.md"), "w").write("\n".join(out) + "\n")
+    print(len(rows), "sheets")
+
+
+def check(path):
+    lines = open(path, encoding="latin-1").read().split("\n")
+    names = set(r[0] for r in rows)
+    got = {}
+    for i, line in enumerate(lines):
+        if line in names:
+            got[line] = lines[i + 1]
+    bad = 0
+    for name, _, first, _, _ in rows:
+        if got.get(name) != first:
+            bad += 1
+            print("%s: by hand %s, printed %s" % (name, first, got.get(name)))
+    print(len(rows), "sheets,", bad, "differ")
+    return bad
+
+
+write()
+if len(sys.argv) == 3 and sys.argv[1] == "--check":
+    sys.exit(1 if check(sys.argv[2]) else 0)

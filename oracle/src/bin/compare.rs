@@ -1,0 +1,287 @@
+//! compare ENGINE SEED ROUNDS [THREADS]: an engine against the oracle.
+//! compare words [THREADS]: the proved library's codec against the oracle's, over all 2^32 words.
+//!
+//! ENGINE is `oracle` (against itself), `plain` (the C interpreter of bench/, with `--features plain`) or `proved` (the
+//! proved static library, with `--features proved`). Ends with 1 if there is a difference.
+
+use oracle::compare::{compare_step, long_memories, print_counts, rounds, Counts, Engine, Oracle};
+use oracle::sheet::{print_result, read_sheet, sheet_memory};
+use oracle::Machine;
+
+#[cfg(feature = "plain")]
+mod plain {
+    use oracle::compare::Foreign;
+    use oracle::Machine;
+
+    #[link(name = "plain", kind = "static")]
+    extern "C" {
+        fn plain_step(machine: *mut Machine, memory: *mut u8, length: usize, answer: *mut u64);
+        fn plain_run(machine: *mut Machine, memory: *mut u8, length: usize, budget: u64, answer: *mut u64);
+    }
+
+    pub fn engine() -> Foreign {
+        Foreign { title: "plain", step: Some(plain_step), run: Some(plain_run), ..Foreign::default() }
+    }
+}
+
+fn engine(title: &str) -> Box<dyn Engine> {
+    match title {
+        "oracle" => Box::new(Oracle),
+        #[cfg(feature = "plain")]
+        "plain" => Box::new(plain::engine()),
+        #[cfg(feature = "proved")]
+        "proved" => Box::new(oracle::proved::Proved),
+        _ => {
+            eprintln!("no engine {title} in this build");
+            std::process::exit(2);
+        }
+    }
+}
+
+fn main() {
+    let arguments: Vec<String> = std::env::args().collect();
+    let title = arguments.get(1).map(|s| s.as_str()).unwrap_or("oracle");
+    let number = |place: usize, default: u64| arguments.get(place).map(|s| s.parse().expect("a number")).unwrap_or(default);
+    let mut counts = Counts::default();
+    if title == "words" {
+        words(number(2, 2), &mut counts);
+    } else {
+        let (seed, many, threads) = (number(2, 1), number(3, 200), number(4, 1));
+        let under_test = engine(title);
+        stored(under_test.as_ref(), &mut counts);
+        let each = |thread: u64| {
+            let mut counts = Counts::default();
+            let under_test = engine(title);
+            rounds(&Oracle, under_test.as_ref(), seed + 1000 * thread, many / threads, &mut counts);
+            counts
+        };
+        std::thread::scope(|scope| {
+            let each = &each;
+            let all: Vec<_> = (0..threads).map(|thread| scope.spawn(move || each(thread))).collect();
+            for one in all {
+                counts.add(one.join().unwrap());
+            }
+        });
+        long_memories(&Oracle, under_test.as_ref(), seed, &mut counts);
+        print_counts(&counts);
+    }
+    for difference in counts.differences.iter().take(if title == "words" { 20 } else { 0 }) {
+        println!("DIFFERENCE {difference}");
+    }
+    if !counts.differences.is_empty() {
+        std::process::exit(1);
+    }
+}
+
+#[cfg(not(feature = "proved"))]
+fn words(_: u64, _: &mut Counts) {
+    eprintln!("the library is not in this build");
+    std::process::exit(2);
+}
+
+/// Every word: legal here exactly if legal there, the same instruction, and encoded to the word again; the illegal ones
+/// with zeros. Then instructions with fields outside their ranges, and records that are no instruction.
+#[cfg(feature = "proved")]
+fn words(threads: u64, counts: &mut Counts) {
+    use oracle::proved::{decoded, encoded, flat, Flat};
+    let part = |thread: u64| {
+        let (mut legal, mut differences) = (0u64, Vec::new());
+        let end = (thread + 1) * (1 << 32) / threads;
+        for word in thread * (1 << 32) / threads..end {
+            let word = word as u32;
+            let got = decoded(word);
+            let expected = oracle::decode(word).map_or((13, Flat::default()), |i| (0, flat(&i)));
+            let mut good = got == expected;
+            if expected.0 == 0 {
+                legal += 1;
+                good &= encoded(expected.1) == (0, word);
+            }
+            if !good && differences.len() < 20 {
+                differences.push(format!("word {word:08x}: oracle {expected:?}, library {got:?}"));
+            }
+        }
+        (legal, differences)
+    };
+    let mut legal = 0;
+    std::thread::scope(|scope| {
+        let part = &part;
+        let all: Vec<_> = (0..threads).map(|thread| scope.spawn(move || part(thread))).collect();
+        for one in all {
+            let (more, differences) = one.join().unwrap();
+            legal += more;
+            counts.differences.extend(differences);
+        }
+    });
+    println!("words: all 2^32, {legal} legal, {} differences", counts.differences.len());
+    let mut supply = oracle::supply::Supply::new(7);
+    let (mut made, mut refused) = (0, 0);
+    while made < 2_000_000 {
+        let Some(instruction) = oracle::decode(supply.word()) else { continue };
+        let instruction = bent(instruction, &mut supply);
+        let expected = oracle::encode(&instruction).map_or((5, 0), |word| (0, word));
+        made += 1;
+        refused += (expected.0 == 5) as u64;
+        let got = encoded(flat(&instruction));
+        if got != expected {
+            counts.difference(format!("{instruction:?}: oracle {expected:?}, library {got:?}"));
+        }
+        // A field more than the instruction has, or another kind or group, is refused unless it makes another
+        // instruction, whose word then stands for that record.
+        let mut record = flat(&instruction);
+        match supply.below(9) {
+            0 => record.group = supply.below(20),
+            1 => record.kind = supply.below(300),
+            2 => record.rd = supply.below(40),
+            3 => record.rs1 = supply.below(40),
+            4 => record.rs2 = supply.below(40),
+            5 => record.imm = supply.edge(),
+            6 => record.fm = supply.below(20),
+            7 => record.pred = supply.below(20),
+            _ => record.succ = supply.below(20),
+        }
+        let (number, word) = encoded(record);
+        if number == 0 && decoded(word) != (0, record) || number != 0 && (number, word) != (5, 0) {
+            counts.difference(format!("{record:?}: {number} {word:08x}"));
+        }
+    }
+    println!("instructions: {made}, {refused} of them outside their ranges; as many records with one number changed");
+}
+
+/// The instruction with one of its numbers replaced, mostly by one about the edge of its range.
+#[cfg(feature = "proved")]
+fn bent(instruction: oracle::Instruction, supply: &mut oracle::supply::Supply) -> oracle::Instruction {
+    use oracle::Instruction::*;
+    let register = supply.pick(&[0u64, 1, 31, 32, 33, 64, 1 << 32]);
+    let whole = supply.pick(&[0i64, 1, 2, 3, -1, -2, 2047, 2048, -2048, -2049, 4094, 4095, 4096, -4096, -4097, -4098, 1048574, 1048575, 1048576, -1048576, -1048577, -1048578, i64::MAX, i64::MIN]);
+    let place = supply.below(4);
+    match instruction {
+        Upper { kind, rd, field } => match place {
+            0 => Upper { kind, rd: register, field },
+            _ => Upper { kind, rd, field: supply.pick(&[0, 1, 0x7ffff, 0x80000, 0xfffff, 0x100000, 0x100001, 1 << 30]) },
+        },
+        Jal { rd, offset } => if place == 0 { Jal { rd: register, offset } } else { Jal { rd, offset: whole } },
+        Jalr { rd, rs1, offset } => match place {
+            0 => Jalr { rd: register, rs1, offset },
+            1 => Jalr { rd, rs1: register, offset },
+            _ => Jalr { rd, rs1, offset: whole },
+        },
+        Branch { kind, rs1, rs2, offset } => match place {
+            0 => Branch { kind, rs1: register, rs2, offset },
+            1 => Branch { kind, rs1, rs2: register, offset },
+            _ => Branch { kind, rs1, rs2, offset: whole },
+        },
+        Load { kind, rd, rs1, offset } => match place {
+            0 => Load { kind, rd: register, rs1, offset },
+            1 => Load { kind, rd, rs1: register, offset },
+            _ => Load { kind, rd, rs1, offset: whole },
+        },
+        HLoad { kind, rd, rs1, offset } => match place {
+            0 => HLoad { kind, rd: register, rs1, offset },
+            1 => HLoad { kind, rd, rs1: register, offset },
+            _ => HLoad { kind, rd, rs1, offset: whole },
+        },
+        Store { kind, rs1, rs2, offset } => match place {
+            0 => Store { kind, rs1: register, rs2, offset },
+            1 => Store { kind, rs1, rs2: register, offset },
+            _ => Store { kind, rs1, rs2, offset: whole },
+        },
+        HStore { kind, rs1, rs2, offset } => match place {
+            0 => HStore { kind, rs1: register, rs2, offset },
+            1 => HStore { kind, rs1, rs2: register, offset },
+            _ => HStore { kind, rs1, rs2, offset: whole },
+        },
+        Immediate { kind, rd, rs1, value } => match place {
+            0 => Immediate { kind, rd: register, rs1, value },
+            1 => Immediate { kind, rd, rs1: register, value },
+            _ => Immediate { kind, rd, rs1, value: whole },
+        },
+        Shift { kind, rd, rs1, amount } => match place {
+            0 => Shift { kind, rd: register, rs1, amount },
+            1 => Shift { kind, rd, rs1: register, amount },
+            _ => Shift { kind, rd, rs1, amount: register },
+        },
+        Register { kind, rd, rs1, rs2 } => match place {
+            0 => Register { kind, rd: register, rs1, rs2 },
+            1 => Register { kind, rd, rs1: register, rs2 },
+            _ => Register { kind, rd, rs1, rs2: register },
+        },
+        Fence { rd, rs1, spare } => match place {
+            0 => Fence { rd: register, rs1, spare },
+            1 => Fence { rd, rs1: register, spare },
+            _ => Fence { rd, rs1, spare: supply.pick(&[0, 1, 4095, 4096, 4097, 1 << 20]) },
+        },
+        System { kind } => System { kind },
+        Hfi { kind, rd, rs1, rs2 } => match place {
+            0 => Hfi { kind, rd: register, rs1, rs2 },
+            1 => Hfi { kind, rd, rs1: register, rs2 },
+            _ => Hfi { kind, rd, rs1, rs2: register },
+        },
+    }
+}
+
+/// The stored value cases, words and sheets.
+fn stored(engine: &dyn Engine, counts: &mut Counts) {
+    let root = std::path::Path::new(env!("CARGO_MANIFEST_DIR")).join("..");
+    let text = |path: &str| String::from_utf8(std::fs::read(root.join(path)).expect(path)).expect("text");
+    if engine.run(&mut Default::default(), &mut [], 0).is_some() {
+        let report = oracle::vectors::check_columns_with(&text("crates/values/data/values.columns"), &mut |m, bytes, budget| {
+            engine.run(m, bytes, budget).unwrap()
+        });
+        println!("values: {} passed, {} failed", report.passed, report.failed);
+        counts.differences.extend(report.lines);
+    }
+    // Each stored word as a step outside HFI mode.
+    for line in text("crates/decode_words/data/words.columns").lines() {
+        let word = u32::from_str_radix(&line[0..8], 16).unwrap();
+        let mut memory = vec![0x13u8; 0x100];
+        memory[0x80..0x84].copy_from_slice(&word.to_le_bytes());
+        let mut machine = Machine { pc: 0x80, ..Machine::default() };
+        machine.x[6] = 0x40;
+        compare_step(&Oracle, engine, &mut machine, &mut memory, counts);
+    }
+    if engine.decode_encode(0).is_some() {
+        let (mut passed, mut failed) = (0, 0);
+        for line in text("crates/decode_words/data/words.columns").lines() {
+            let word = u32::from_str_radix(&line[0..8], 16).unwrap();
+            let expected = if &line[9..10] == "1" { (0, word) } else { (13, 0) };
+            if engine.decode_encode(word) == Some(expected) {
+                passed += 1;
+            } else {
+                failed += 1;
+                counts.differences.push(format!("word {line}"));
+            }
+        }
+        println!("words: {passed} passed, {failed} failed");
+    }
+    if engine.respond(b"").is_some() || engine.run(&mut Default::default(), &mut [], 0).is_some() {
+        let folder = root.join("crates/sheets/data");
+        let index = text("crates/sheets/data/index");
+        let names: Vec<&str> = index.lines().map(|line| line.trim_end()).collect();
+        let mut printed = Vec::new();
+        for name in &names {
+            printed.extend(format!("{name}\n").into_bytes());
+            printed.extend(answer(engine, &std::fs::read(folder.join(name)).unwrap()));
+        }
+        let good = printed == text("crates/sheets/stdout").into_bytes();
+        println!("sheets: {} {}", names.len(), if good { "as expected" } else { "DIFFER" });
+        if !good {
+            counts.differences.push("stored sheets".to_string());
+        }
+    }
+}
+
+/// The engine's answer to a sheet. If it only runs, the oracle reads the sheet
+/// and prints the result.
+fn answer(engine: &dyn Engine, input: &[u8]) -> Vec<u8> {
+    if let Some(printed) = engine.respond(input) {
+        return printed;
+    }
+    match read_sheet(input) {
+        Err(_) => oracle::respond(input),
+        Ok(sheet) => {
+            let mut machine = sheet.machine;
+            let (stop, count, _) = engine.run(&mut machine, &mut sheet_memory(&sheet), sheet.budget).unwrap();
+            print_result(stop, count, &machine)
+        }
+    }
+}

@@ -1,0 +1,462 @@
+//! Engines side by side, and the isolation experiment on one of them.
+
+use std::collections::BTreeMap;
+
+use crate::instruction::{decode, encode, name};
+use crate::machine::Machine;
+use crate::reach::writable;
+use crate::supply::Supply;
+
+/// What an engine under test offers. `None` means that it lacks the call.
+pub trait Engine {
+    fn title(&self) -> String;
+    /// 0 for a legal word and 13 for an illegal one; for a legal word also
+    /// what encoding the decoded instruction gives.
+    fn decode_encode(&self, word: u32) -> Option<(u64, u32)>;
+    /// Stop and address.
+    fn step(&self, machine: &mut Machine, memory: &mut [u8]) -> Option<(u64, u64)>;
+    /// Stop, count and address.
+    fn run(&self, machine: &mut Machine, memory: &mut [u8], budget: u64) -> Option<(u64, u64, u64)>;
+    /// 0 or 3.
+    fn resume(&self, machine: &mut Machine, value: u64) -> Option<u64>;
+    fn respond(&self, sheet: &[u8]) -> Option<Vec<u8>>;
+}
+
+pub struct Oracle;
+
+impl Engine for Oracle {
+    fn title(&self) -> String {
+        "oracle".to_string()
+    }
+    fn decode_encode(&self, word: u32) -> Option<(u64, u32)> {
+        Some(match decode(word) {
+            None => (13, 0),
+            Some(instruction) => match encode(&instruction) {
+                None => (5, 0),
+                Some(back) => (0, back),
+            },
+        })
+    }
+    fn step(&self, machine: &mut Machine, memory: &mut [u8]) -> Option<(u64, u64)> {
+        Some(crate::step(machine, memory))
+    }
+    fn run(&self, machine: &mut Machine, memory: &mut [u8], budget: u64) -> Option<(u64, u64, u64)> {
+        Some(crate::run(machine, memory, budget))
+    }
+    fn resume(&self, machine: &mut Machine, value: u64) -> Option<u64> {
+        Some(crate::resume(machine, value))
+    }
+    fn respond(&self, sheet: &[u8]) -> Option<Vec<u8>> {
+        Some(crate::respond(sheet))
+    }
+}
+
+/// An engine behind a C interface, as function pointers. The machine is handed
+/// over as the record of `Machine` (all u64, in order); answers are written to
+/// a row of u64. Missing calls are `None`.
+#[derive(Clone, Copy, Default)]
+pub struct Foreign {
+    pub title: &'static str,
+    /// (word, answer: [answer, word])
+    pub decode_encode: Option<unsafe extern "C" fn(u32, *mut u64)>,
+    /// (machine, memory, length, answer: [stop, address])
+    pub step: Option<unsafe extern "C" fn(*mut Machine, *mut u8, usize, *mut u64)>,
+    /// (machine, memory, length, budget, answer: [stop, count, address])
+    pub run: Option<unsafe extern "C" fn(*mut Machine, *mut u8, usize, u64, *mut u64)>,
+    /// (machine, value) -> answer
+    pub resume: Option<unsafe extern "C" fn(*mut Machine, u64) -> u64>,
+    /// (sheet, length, output, room) -> printed length
+    pub respond: Option<unsafe extern "C" fn(*const u8, usize, *mut u8, usize) -> usize>,
+}
+
+impl Engine for Foreign {
+    fn title(&self) -> String {
+        self.title.to_string()
+    }
+    fn decode_encode(&self, word: u32) -> Option<(u64, u32)> {
+        let call = self.decode_encode?;
+        let mut answer = [0u64; 2];
+        unsafe { call(word, answer.as_mut_ptr()) };
+        Some((answer[0], answer[1] as u32))
+    }
+    fn step(&self, machine: &mut Machine, memory: &mut [u8]) -> Option<(u64, u64)> {
+        let call = self.step?;
+        let mut answer = [0u64; 2];
+        unsafe { call(machine, memory.as_mut_ptr(), memory.len(), answer.as_mut_ptr()) };
+        Some((answer[0], answer[1]))
+    }
+    fn run(&self, machine: &mut Machine, memory: &mut [u8], budget: u64) -> Option<(u64, u64, u64)> {
+        let call = self.run?;
+        let mut answer = [0u64; 3];
+        unsafe { call(machine, memory.as_mut_ptr(), memory.len(), budget, answer.as_mut_ptr()) };
+        Some((answer[0], answer[1], answer[2]))
+    }
+    fn resume(&self, machine: &mut Machine, value: u64) -> Option<u64> {
+        let call = self.resume?;
+        Some(unsafe { call(machine, value) })
+    }
+    fn respond(&self, sheet: &[u8]) -> Option<Vec<u8>> {
+        let call = self.respond?;
+        let mut output = vec![0u8; 4096];
+        let length = unsafe { call(sheet.as_ptr(), sheet.len(), output.as_mut_ptr(), output.len()) };
+        output.truncate(length);
+        Some(output)
+    }
+}
+
+/// What was seen, by stop number and by instruction.
+#[derive(Default)]
+pub struct Counts {
+    pub step_stops: BTreeMap<u64, u64>,
+    pub run_stops: BTreeMap<u64, u64>,
+    /// Steps completed in the runs.
+    pub run_steps: u64,
+    /// Completed and stopped steps of each instruction.
+    pub instructions: BTreeMap<String, (u64, u64)>,
+    pub sheet_lines: BTreeMap<String, u64>,
+    pub isolation_stops: BTreeMap<u64, u64>,
+    pub isolation_steps: u64,
+    /// Isolation pairs whose memories truly differed.
+    pub isolation_differing: u64,
+    pub compared: u64,
+    pub differences: Vec<String>,
+}
+
+impl Counts {
+    /// What another has seen, added to this.
+    pub fn add(&mut self, other: Counts) {
+        fn all<K: Ord>(into: &mut BTreeMap<K, u64>, from: BTreeMap<K, u64>) {
+            for (key, count) in from {
+                *into.entry(key).or_default() += count;
+            }
+        }
+        all(&mut self.step_stops, other.step_stops);
+        all(&mut self.run_stops, other.run_stops);
+        all(&mut self.sheet_lines, other.sheet_lines);
+        all(&mut self.isolation_stops, other.isolation_stops);
+        for (name, (completed, stopped)) in other.instructions {
+            let entry = self.instructions.entry(name).or_default();
+            entry.0 += completed;
+            entry.1 += stopped;
+        }
+        self.run_steps += other.run_steps;
+        self.isolation_steps += other.isolation_steps;
+        self.isolation_differing += other.isolation_differing;
+        self.compared += other.compared;
+        self.differences.extend(other.differences);
+    }
+
+    pub fn difference(&mut self, text: String) {
+        if self.differences.len() < 20 {
+            self.differences.push(text);
+        }
+    }
+}
+
+/// Every answer of both engines to one word.
+pub fn compare_word(left: &dyn Engine, right: &dyn Engine, word: u32, counts: &mut Counts) {
+    if let (Some(a), Some(b)) = (left.decode_encode(word), right.decode_encode(word)) {
+        counts.compared += 1;
+        if a != b {
+            counts.difference(format!("word {word:08x}: {} {a:?}, {} {b:?}", left.title(), right.title()));
+        }
+    }
+}
+
+fn first_byte_apart(a: &[u8], b: &[u8]) -> Option<usize> {
+    (0..a.len()).find(|i| a[*i] != b[*i])
+}
+
+fn show(machine: &Machine) -> String {
+    let registers: Vec<String> =
+        (0..32).filter(|n| machine.x[*n] != 0).map(|n| format!("x{n}={:x}", machine.x[n])).collect();
+    format!(
+        "pc={:x} mode={:x} reason={:x} exit_pc={:x} options={:x} handler={:x} selector={:x} regions={:x?} fault={:x?} {}",
+        machine.pc,
+        machine.mode,
+        machine.reason,
+        machine.exit_pc,
+        machine.options,
+        machine.handler,
+        machine.selector,
+        machine.regions.map(|r| (r.base, r.bound, r.permission)),
+        (machine.fault.occurred, machine.fault.region, machine.fault.op, machine.fault.address),
+        registers.join(" ")
+    )
+}
+
+fn word_at(memory: &[u8], pc: u64) -> Option<u32> {
+    let at = usize::try_from(pc).ok()?;
+    let bytes = memory.get(at..at.checked_add(4)?)?;
+    Some(u32::from_le_bytes(bytes.try_into().unwrap()))
+}
+
+/// One step of both engines; the left one is the measure. Answers whether the
+/// step completed.
+pub fn compare_step(
+    left: &dyn Engine,
+    right: &dyn Engine,
+    machine: &mut Machine,
+    memory: &mut Vec<u8>,
+    counts: &mut Counts,
+) -> bool {
+    let before = *machine;
+    let word = word_at(memory, machine.pc);
+    let (mut m, mut bytes) = (*machine, memory.clone());
+    let a = left.step(machine, memory).expect("the measure steps");
+    *counts.step_stops.entry(a.0).or_default() += 1;
+    if let (Some(instruction), true) = (word.and_then(decode), ![1, 3, 10, 11, 12].contains(&a.0)) {
+        let entry = counts.instructions.entry(name(&instruction)).or_default();
+        if a.0 == 0 {
+            entry.0 += 1;
+        } else {
+            entry.1 += 1;
+        }
+    }
+    if let Some(b) = right.step(&mut m, &mut bytes) {
+        counts.compared += 1;
+        if a != b || *machine != m || *memory != bytes {
+            counts.difference(format!(
+                "step, word {:08x?}, length {}\n  before {}\n  {} {a:?} {}\n  {} {b:?} {}\n  first byte apart {:?}",
+                word,
+                memory.len(),
+                show(&before),
+                left.title(),
+                show(machine),
+                right.title(),
+                show(&m),
+                first_byte_apart(memory, &bytes)
+            ));
+        }
+    }
+    a.0 == 0
+}
+
+/// One run of both engines.
+pub fn compare_run(
+    left: &dyn Engine,
+    right: &dyn Engine,
+    machine: &Machine,
+    memory: &[u8],
+    budget: u64,
+    counts: &mut Counts,
+) {
+    let (mut m, mut bytes) = (*machine, memory.to_vec());
+    let a = left.run(&mut m, &mut bytes, budget).expect("the measure runs");
+    *counts.run_stops.entry(a.0).or_default() += 1;
+    counts.run_steps += a.1;
+    let (mut n, mut others) = (*machine, memory.to_vec());
+    if let Some(b) = right.run(&mut n, &mut others, budget) {
+        counts.compared += 1;
+        if a != b || m != n || bytes != others {
+            counts.difference(format!(
+                "run of {budget}, length {}\n  before {}\n  {} {a:?} {}\n  {} {b:?} {}\n  first byte apart {:?}",
+                memory.len(),
+                show(machine),
+                left.title(),
+                show(&m),
+                right.title(),
+                show(&n),
+                first_byte_apart(&bytes, &others)
+            ));
+        }
+    }
+}
+
+pub fn compare_resume(left: &dyn Engine, right: &dyn Engine, machine: &Machine, value: u64, counts: &mut Counts) {
+    let (mut m, mut n) = (*machine, *machine);
+    if let (Some(a), Some(b)) = (left.resume(&mut m, value), right.resume(&mut n, value)) {
+        counts.compared += 1;
+        if a != b || m != n {
+            counts.difference(format!("resume\n  before {}\n  {a} {}\n  {b} {}", show(machine), show(&m), show(&n)));
+        }
+    }
+}
+
+pub fn compare_sheet(left: &dyn Engine, right: &dyn Engine, sheet: &[u8], counts: &mut Counts) {
+    let a = left.respond(sheet).expect("the measure responds");
+    let text = String::from_utf8_lossy(&a).to_string();
+    let first: Vec<&str> = text.split(',').collect();
+    let key = if first[0] == "sheet" { format!("sheet,{}", first[1]) } else { first[0].to_string() };
+    *counts.sheet_lines.entry(key).or_default() += 1;
+    if let Some(b) = right.respond(sheet) {
+        counts.compared += 1;
+        if a != b {
+            counts.difference(format!(
+                "sheet {:?}\n  {} {:?}\n  {} {:?}",
+                String::from_utf8_lossy(sheet),
+                left.title(),
+                text,
+                right.title(),
+                String::from_utf8_lossy(&b)
+            ));
+        }
+    }
+}
+
+/// Demand 3 on one engine: from one machine in locked HFI mode and two
+/// memories that agree on readable and executable bytes, the same stop, count,
+/// address and final machine; bytes that agreed still agree; bytes that are
+/// not writable are unchanged.
+pub fn isolation(
+    engine: &dyn Engine,
+    machine: &Machine,
+    one: &[u8],
+    two: &[u8],
+    budget: u64,
+    counts: &mut Counts,
+) {
+    let (mut m, mut n) = (*machine, *machine);
+    let (mut a, mut b) = (one.to_vec(), two.to_vec());
+    let first = engine.run(&mut m, &mut a, budget);
+    let second = engine.run(&mut n, &mut b, budget);
+    let (Some(first), Some(second)) = (first, second) else { return };
+    counts.compared += 1;
+    *counts.isolation_stops.entry(first.0).or_default() += 1;
+    counts.isolation_steps += first.1;
+    counts.isolation_differing += (one != two) as u64;
+    if first != second || m != n {
+        counts.difference(format!(
+            "isolation of {}: answers differ\n  before {}\n  {first:?} {}\n  {second:?} {}",
+            engine.title(),
+            show(machine),
+            show(&m),
+            show(&n)
+        ));
+    }
+    for address in 0..one.len() {
+        if one[address] == two[address] && a[address] != b[address] {
+            counts.difference(format!("isolation: byte {address:x} agreed and differs\n  before {}", show(machine)));
+            return;
+        }
+        if (one[address] != a[address] || two[address] != b[address]) && !writable(machine, address as u64) {
+            counts.difference(format!("isolation: byte {address:x} is not writable and changed\n  before {}", show(machine)));
+            return;
+        }
+    }
+}
+
+/// Random rounds over all of the above.
+pub fn rounds(left: &dyn Engine, right: &dyn Engine, seed: u64, number: u64, counts: &mut Counts) {
+    for round in 0..number {
+        let mut supply = Supply::new(seed.wrapping_mul(0x1_0000_0001).wrapping_add(round));
+        for _ in 0..64 {
+            let word = supply.word();
+            compare_word(left, right, word, counts);
+        }
+        let length = supply.length();
+        let memory = supply.memory(length);
+        for _ in 0..8 {
+            let machine = supply.machine(length);
+            let (mut m, mut bytes) = (machine, memory.clone());
+            for _ in 0..16 {
+                if !compare_step(left, right, &mut m, &mut bytes, counts) {
+                    break;
+                }
+            }
+            // A step of a single chosen word, so that each instruction is met.
+            if length >= 4 {
+                let mut m = supply.machine(length);
+                m.pc = supply.below(length as u64 / 4) * 4;
+                m.mode = supply.below(2);
+                if m.mode == 1 {
+                    let k = 12 + supply.below(8);
+                    m.regions[2] = crate::Region { base: 0, bound: u64::MAX << k, permission: 4 };
+                }
+                let mut bytes = memory.clone();
+                let mut word = supply.word();
+                if supply.once_in(3) {
+                    // An HFI word with a small operand, mostly unlocked.
+                    word = supply.hfi_word();
+                    m.x[5] = match supply.below(4) {
+                        0 => supply.edge(),
+                        1 => supply.below(20) + (1 << (32 + supply.below(32))),
+                        _ => supply.below(20),
+                    };
+                    m.x[6] = supply.below(64) * 4 + if supply.once_in(2) { supply.below(4) } else { 0 };
+                    m.options &= supply.pick(&[14, 14, 14, 15]);
+                }
+                let at = m.pc as usize;
+                bytes[at..at + 4].copy_from_slice(&word.to_le_bytes());
+                compare_step(left, right, &mut m, &mut bytes, counts);
+            }
+            let budget = supply.budget();
+            compare_run(left, right, &machine, &memory, budget, counts);
+            let value = supply.edge();
+            compare_resume(left, right, &machine, value, counts);
+        }
+        for _ in 0..4 {
+            let (machine, memory) = supply.steady_world();
+            let budget = supply.budget();
+            compare_run(left, right, &machine, &memory, budget, counts);
+            let (mut m, mut bytes) = (machine, memory);
+            for _ in 0..64 {
+                if !compare_step(left, right, &mut m, &mut bytes, counts) {
+                    break;
+                }
+            }
+        }
+        for _ in 0..2 {
+            let valid = supply.valid_sheet();
+            compare_sheet(left, right, &valid, counts);
+            let damaged = supply.damaged_sheet();
+            compare_sheet(left, right, &damaged, counts);
+        }
+        for turn in 0..8 {
+            let (machine, one) = if turn < 2 {
+                (supply.locked_machine(length), supply.memory(length))
+            } else {
+                let (mut machine, memory) = supply.steady_world();
+                machine.options |= 1;
+                (machine, memory)
+            };
+            let two = supply.twin(&machine, &one);
+            let budget = supply.budget();
+            isolation(right, &machine, &one, &two, budget, counts);
+        }
+    }
+}
+
+/// Lengths about the limit, which random rounds do not reach.
+pub fn long_memories(left: &dyn Engine, right: &dyn Engine, seed: u64, counts: &mut Counts) {
+    let mut supply = Supply::new(seed);
+    for length in [16_777_215usize, 16_777_216, 16_777_217] {
+        let mut memory = vec![0u8; length];
+        let word = supply.word();
+        memory[..4].copy_from_slice(&word.to_le_bytes());
+        let mut machine = supply.machine(length);
+        compare_run(left, right, &machine, &memory, 10, counts);
+        machine.pc = 0;
+        machine.mode = 0;
+        compare_run(left, right, &machine, &memory, 10, counts);
+        compare_step(left, right, &mut machine, &mut memory, counts);
+    }
+}
+
+pub fn print_counts(counts: &Counts) {
+    let total = |stops: &BTreeMap<u64, u64>| stops.values().sum::<u64>();
+    println!("compared {}, differences {}", counts.compared, counts.differences.len());
+    println!(
+        "single steps {}, steps in {} runs {}, steps in {} isolation pairs {}, sheets {}",
+        total(&counts.step_stops),
+        total(&counts.run_stops),
+        counts.run_steps,
+        total(&counts.isolation_stops),
+        counts.isolation_steps,
+        counts.sheet_lines.values().sum::<u64>()
+    );
+    println!("step stops {:?}", counts.step_stops);
+    println!("run stops {:?}", counts.run_stops);
+    println!("sheet lines {:?}", counts.sheet_lines);
+    println!(
+        "isolation stops {:?}, steps {}, pairs with different memories {}",
+        counts.isolation_stops, counts.isolation_steps, counts.isolation_differing
+    );
+    println!("instructions (completed, stopped):");
+    for (name, (completed, stopped)) in &counts.instructions {
+        println!("  {name} {completed} {stopped}");
+    }
+    for difference in &counts.differences {
+        println!("DIFFERENCE {difference}");
+    }
+}

@@ -1,0 +1,24 @@
+//! A second implementation of the machine of document 01, written from that
+//! document and from the RISC-V unprivileged specification alone. It is meant
+//! to be read side by side with them, so it prefers the plain form: whole
+//! numbers in u128 and i128, one byte at a time, one question after the other.
+
+pub mod compare;
+pub mod instruction;
+pub mod machine;
+pub mod numbers;
+#[cfg(feature = "proved")]
+pub mod proved;
+pub mod reach;
+pub mod region;
+pub mod run;
+pub mod sheet;
+pub mod step;
+pub mod supply;
+pub mod vectors;
+
+pub use instruction::{decode, encode, Instruction};
+pub use machine::{Fault, Machine, Region};
+pub use run::{resume, run};
+pub use sheet::respond;
+pub use step::step;

@@ -1,0 +1,35 @@
+//! Readable, writable and executable bytes, judged by the regions of a
+//! machine in HFI mode, and the isolation of demand 3 as a test.
+
+use crate::machine::{region_kind, Machine, RegionKind, REGIONS};
+use crate::region::{refusal, Access, Op, Place};
+
+/// Does an ordinary load or store, or a fetch, reach the byte? Register values
+/// and pc are free, so an access of one byte reaches any address; a fetch at
+/// the multiple of 4 below reaches it too.
+fn implicit_reach(machine: &Machine, op: Op, address: u64) -> bool {
+    let access = Access { op, place: Place::Implicit { address }, size: 1 };
+    refusal(machine, &access, 0).is_none()
+}
+
+/// Does an h-load or h-store reach the byte? Immediates are -2,048 to 2,047
+/// and byte numbers 0 to 7, so offset + i runs over -2,048 to 2,054.
+fn explicit_reach(machine: &Machine, op: Op, address: u64) -> bool {
+    (1..=REGIONS).filter(|n| region_kind(*n) == RegionKind::Explicit).any(|region| {
+        let offset = address as i128 - machine.regions[region - 1].base as i128;
+        let access = Access { op, place: Place::Explicit { region, offset }, size: 1 };
+        (-2048..=2054).contains(&offset) && refusal(machine, &access, 0).is_none()
+    })
+}
+
+pub fn readable(machine: &Machine, address: u64) -> bool {
+    implicit_reach(machine, Op::Load, address) || explicit_reach(machine, Op::Load, address)
+}
+
+pub fn writable(machine: &Machine, address: u64) -> bool {
+    implicit_reach(machine, Op::Store, address) || explicit_reach(machine, Op::Store, address)
+}
+
+pub fn executable(machine: &Machine, address: u64) -> bool {
+    implicit_reach(machine, Op::Fetch, address)
+}

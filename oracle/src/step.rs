@@ -1,0 +1,424 @@
+//! One step: the questions of document 01 in their order, then the effect.
+
+use crate::instruction::{
+    decode, BranchKind, HfiKind, ImmediateKind, Instruction, LoadKind, RegisterKind, ShiftKind, StoreKind,
+    SystemKind, UpperKind,
+};
+use crate::machine::{
+    permission_fits, well_formed, Fault, Machine, Region, OPTION_REDIRECT_CALLS, OPTION_REDIRECT_EXITS, REGIONS,
+};
+use crate::numbers::{add, bit, power, signed, word_extended, wrap};
+use crate::region::{address, first_absent, first_refused, Access, Op, Place};
+
+pub const MEMORY_LIMIT: usize = 16_777_216;
+
+/// Length of an instruction word.
+const LENGTH: u64 = 4;
+
+/// A step as a call: questions 1 and 3, then the step itself. Answers the
+/// stop and the address given with it.
+pub fn step(machine: &mut Machine, memory: &mut [u8]) -> (u64, u64) {
+    // 1. Is memory no longer than 16,777,216?
+    if memory.len() > MEMORY_LIMIT {
+        return (1, 0);
+    }
+    // 3. Is the machine well formed?
+    if !well_formed(machine) {
+        return (3, 0);
+    }
+    step_asked(machine, memory)
+}
+
+/// Questions 4 to 13 and the effect.
+pub fn step_asked(machine: &mut Machine, memory: &mut [u8]) -> (u64, u64) {
+    // 4. Is pc a multiple of 4?
+    if machine.pc % 4 != 0 {
+        return (10, 0);
+    }
+    // 5. In HFI mode, are all four bytes executable?
+    let fetch = Access { op: Op::Fetch, place: Place::Implicit { address: machine.pc }, size: LENGTH };
+    if let Some((region, byte)) = first_refused(machine, &fetch) {
+        machine.fault = Fault { occurred: 1, region, op: fetch.op.number(), address: byte };
+        return (11, 0);
+    }
+    // 6. Are they in memory?
+    if let Some(byte) = first_absent(machine, &fetch, memory.len()) {
+        return (12, byte);
+    }
+    // 7. Is the word legal?
+    let word = read(machine, &fetch, memory) as u32;
+    let instruction = match decode(word) {
+        Some(instruction) => instruction,
+        None => return (13, 0),
+    };
+    // 8. Does HFI allow it?
+    if hfi_forbids(machine, &instruction) {
+        return (14, 0);
+    }
+    // 9. Is the target of a taken branch, a jump or an enter with jump a
+    // multiple of 4?
+    if let Some(target) = jump_target(machine, &instruction) {
+        if target % 4 != 0 {
+            return (15, 0);
+        }
+    }
+    if let Some(data) = data_access(machine, &instruction) {
+        // 10. Is every data byte granted?
+        if let Some((region, byte)) = first_refused(machine, &data) {
+            machine.fault = Fault { occurred: 1, region, op: data.op.number(), address: byte };
+            return (16, 0);
+        }
+        // 11. Are they in memory?
+        if let Some(byte) = first_absent(machine, &data, memory.len()) {
+            return (17, byte);
+        }
+    }
+    // 12. Is it anything but an ECALL that is not redirected?
+    if instruction == (Instruction::System { kind: SystemKind::Ecall }) && !calls_redirected(machine) {
+        return (18, 0);
+    }
+    // 13. Is it anything but EBREAK?
+    if instruction == (Instruction::System { kind: SystemKind::Ebreak }) {
+        return (19, 0);
+    }
+    perform(machine, memory, &instruction);
+    (0, 0)
+}
+
+fn calls_redirected(machine: &Machine) -> bool {
+    machine.mode == 1 && bit(machine.options, OPTION_REDIRECT_CALLS)
+}
+
+/// Question 8, item by item.
+pub fn hfi_forbids(machine: &Machine, instruction: &Instruction) -> bool {
+    let inside = machine.mode == 1;
+    match *instruction {
+        // an h-word outside HFI mode
+        Instruction::HLoad { .. } | Instruction::HStore { .. } => !inside,
+        Instruction::Hfi { kind, rs1, .. } => {
+            let operand = machine.get(rs1);
+            let forbidden_when_locked = match kind {
+                // funct7 3 to 9, 11 or 12
+                HfiKind::Select
+                | HfiKind::SetBase
+                | HfiKind::GetBase
+                | HfiKind::SetBound
+                | HfiKind::GetBound
+                | HfiKind::SetPermission
+                | HfiKind::GetPermission
+                | HfiKind::GetHandler
+                | HfiKind::Reset => true,
+                HfiKind::Enter | HfiKind::EnterJump | HfiKind::Exit | HfiKind::SetHandler => false,
+            };
+            let needs_selection = match kind {
+                // funct7 4 to 9
+                HfiKind::SetBase
+                | HfiKind::GetBase
+                | HfiKind::SetBound
+                | HfiKind::GetBound
+                | HfiKind::SetPermission
+                | HfiKind::GetPermission => true,
+                _ => false,
+            };
+            // enter in HFI mode
+            if inside && (kind == HfiKind::Enter || kind == HfiKind::EnterJump) {
+                return true;
+            }
+            // exit outside it
+            if !inside && kind == HfiKind::Exit {
+                return true;
+            }
+            // funct7 3 to 9, 11 or 12 in HFI mode when locked
+            if inside && machine.locked() && forbidden_when_locked {
+                return true;
+            }
+            // set handler in HFI mode, locked or unlocked
+            if inside && kind == HfiKind::SetHandler {
+                return true;
+            }
+            // an options operand above 15
+            if (kind == HfiKind::Enter || kind == HfiKind::EnterJump) && operand > 15 {
+                return true;
+            }
+            // a selected number not 1 to 3
+            if kind == HfiKind::Select && (operand < 1 || operand > REGIONS as u64) {
+                return true;
+            }
+            // funct7 4 to 9 with selector 0
+            if needs_selection && machine.selector == 0 {
+                return true;
+            }
+            // a permission bit the region lacks
+            if kind == HfiKind::SetPermission && !permission_fits(machine.selector as usize, operand) {
+                return true;
+            }
+            false
+        }
+        _ => false,
+    }
+}
+
+fn branch_taken(kind: BranchKind, a: u64, b: u64) -> bool {
+    match kind {
+        BranchKind::Beq => a == b,
+        BranchKind::Bne => a != b,
+        BranchKind::Blt => signed(a, 64) < signed(b, 64),
+        BranchKind::Bge => signed(a, 64) >= signed(b, 64),
+        BranchKind::Bltu => a < b,
+        BranchKind::Bgeu => a >= b,
+    }
+}
+
+/// The target of a taken branch, a jump or an enter with jump.
+pub fn jump_target(machine: &Machine, instruction: &Instruction) -> Option<u64> {
+    let pc = machine.pc as i128;
+    match *instruction {
+        Instruction::Jal { offset, .. } => Some(wrap(pc + offset as i128)),
+        Instruction::Jalr { rs1, offset, .. } => {
+            let sum = wrap(machine.get(rs1) as i128 + offset as i128);
+            Some(sum - sum % 2)
+        }
+        Instruction::Branch { kind, rs1, rs2, offset } => {
+            if branch_taken(kind, machine.get(rs1), machine.get(rs2)) {
+                Some(wrap(pc + offset as i128))
+            } else {
+                None
+            }
+        }
+        Instruction::Hfi { kind: HfiKind::EnterJump, rs2, .. } => Some(machine.get(rs2)),
+        _ => None,
+    }
+}
+
+pub fn load_size(kind: LoadKind) -> u64 {
+    match kind {
+        LoadKind::Byte | LoadKind::ByteUnsigned => 1,
+        LoadKind::Half | LoadKind::HalfUnsigned => 2,
+        LoadKind::Word | LoadKind::WordUnsigned => 4,
+        LoadKind::Double => 8,
+    }
+}
+
+pub fn store_size(kind: StoreKind) -> u64 {
+    match kind {
+        StoreKind::Byte => 1,
+        StoreKind::Half => 2,
+        StoreKind::Word => 4,
+        StoreKind::Double => 8,
+    }
+}
+
+/// The offset of an h-prefixed word into its region. rs1 is ignored.
+fn explicit_offset(_machine: &Machine, _rs1: u64, offset: i64) -> i128 {
+    offset as i128
+}
+
+/// The data access that an instruction makes.
+pub fn data_access(machine: &Machine, instruction: &Instruction) -> Option<Access> {
+    let ordinary =
+        |rs1: u64, offset: i64| Place::Implicit { address: wrap(machine.get(rs1) as i128 + offset as i128) };
+    let explicit = |rs1: u64, offset: i64| Place::Explicit { region: 1, offset: explicit_offset(machine, rs1, offset) };
+    match *instruction {
+        Instruction::Load { kind, rs1, offset, .. } => {
+            Some(Access { op: Op::Load, place: ordinary(rs1, offset), size: load_size(kind) })
+        }
+        Instruction::HLoad { kind, rs1, offset, .. } => {
+            Some(Access { op: Op::Load, place: explicit(rs1, offset), size: load_size(kind) })
+        }
+        Instruction::Store { kind, rs1, offset, .. } => {
+            Some(Access { op: Op::Store, place: ordinary(rs1, offset), size: store_size(kind) })
+        }
+        Instruction::HStore { kind, rs1, offset, .. } => {
+            Some(Access { op: Op::Store, place: explicit(rs1, offset), size: store_size(kind) })
+        }
+        _ => None,
+    }
+}
+
+/// The little-endian number at an access all of whose bytes are in memory.
+fn read(machine: &Machine, access: &Access, memory: &[u8]) -> u64 {
+    let mut value: u128 = 0;
+    for i in 0..access.size {
+        value += memory[address(machine, access, i) as usize] as u128 * power(8 * i as u32);
+    }
+    value as u64
+}
+
+fn write(machine: &Machine, access: &Access, memory: &mut [u8], value: u64) {
+    for i in 0..access.size {
+        memory[address(machine, access, i) as usize] = (value as u128 / power(8 * i as u32) % 256) as u8;
+    }
+}
+
+/// What a load puts in rd.
+fn loaded(kind: LoadKind, raw: u64) -> u64 {
+    match kind {
+        LoadKind::Byte => wrap(signed(raw, 8)),
+        LoadKind::Half => wrap(signed(raw, 16)),
+        LoadKind::Word => wrap(signed(raw, 32)),
+        LoadKind::Double | LoadKind::ByteUnsigned | LoadKind::HalfUnsigned | LoadKind::WordUnsigned => raw,
+    }
+}
+
+fn low_word(a: u64) -> u64 {
+    (a as u128 % power(32)) as u64
+}
+
+fn shift_left(a: u64, amount: u64) -> u64 {
+    (a as u128 * power(amount as u32) % power(64)) as u64
+}
+
+fn shift_right(a: u64, amount: u64) -> u64 {
+    (a as u128 / power(amount as u32)) as u64
+}
+
+/// Right shift of a signed whole number: division rounded downward.
+fn shift_right_signed(a: i128, amount: u64) -> u64 {
+    wrap(a.div_euclid(power(amount as u32) as i128))
+}
+
+fn flag(test: bool) -> u64 {
+    if test {
+        1
+    } else {
+        0
+    }
+}
+
+fn immediate_value(kind: ImmediateKind, a: u64, value: i64) -> u64 {
+    let extended = wrap(value as i128);
+    match kind {
+        ImmediateKind::Addi => add(a, extended),
+        ImmediateKind::Slti => flag(signed(a, 64) < value as i128),
+        ImmediateKind::Sltiu => flag(a < extended),
+        ImmediateKind::Xori => a ^ extended,
+        ImmediateKind::Ori => a | extended,
+        ImmediateKind::Andi => a & extended,
+        ImmediateKind::Addiw => word_extended(add(a, extended)),
+    }
+}
+
+fn shift_value(kind: ShiftKind, a: u64, amount: u64) -> u64 {
+    match kind {
+        ShiftKind::Slli => shift_left(a, amount),
+        ShiftKind::Srli => shift_right(a, amount),
+        ShiftKind::Srai => shift_right_signed(signed(a, 64), amount),
+        ShiftKind::Slliw => word_extended(shift_left(low_word(a), amount)),
+        ShiftKind::Srliw => word_extended(shift_right(low_word(a), amount)),
+        ShiftKind::Sraiw => shift_right_signed(signed(a, 32), amount),
+    }
+}
+
+fn register_value(kind: RegisterKind, a: u64, b: u64) -> u64 {
+    match kind {
+        RegisterKind::Add => wrap(a as i128 + b as i128),
+        RegisterKind::Sub => wrap(a as i128 - b as i128),
+        RegisterKind::Sll => shift_left(a, b % 64),
+        RegisterKind::Slt => flag(signed(a, 64) < signed(b, 64)),
+        RegisterKind::Sltu => flag(a < b),
+        RegisterKind::Xor => a ^ b,
+        RegisterKind::Srl => shift_right(a, b % 64),
+        RegisterKind::Sra => shift_right_signed(signed(a, 64), b % 64),
+        RegisterKind::Or => a | b,
+        RegisterKind::And => a & b,
+        RegisterKind::Addw => word_extended(wrap(a as i128 + b as i128)),
+        RegisterKind::Subw => word_extended(wrap(a as i128 - b as i128)),
+        RegisterKind::Sllw => word_extended(shift_left(low_word(a), b % 32)),
+        RegisterKind::Srlw => word_extended(shift_right(low_word(a), b % 32)),
+        RegisterKind::Sraw => shift_right_signed(signed(a, 32), b % 32),
+    }
+}
+
+/// The effect of an instruction that passed every question.
+fn perform(machine: &mut Machine, memory: &mut [u8], instruction: &Instruction) {
+    let pc = machine.pc;
+    let next = add(pc, LENGTH);
+    let target = jump_target(machine, instruction);
+    let data = data_access(machine, instruction);
+
+    // The value that goes to rd, if one does.
+    let mut written: Option<(u64, u64)> = None;
+    match *instruction {
+        Instruction::Upper { kind, rd, field } => {
+            let upper = signed(field, 20) * 4096;
+            let value = match kind {
+                UpperKind::Lui => wrap(upper),
+                UpperKind::Auipc => wrap(pc as i128 + upper),
+            };
+            written = Some((rd, value));
+        }
+        Instruction::Jal { rd, .. } | Instruction::Jalr { rd, .. } => written = Some((rd, next)),
+        Instruction::Branch { .. } => {}
+        Instruction::Load { kind, rd, .. } | Instruction::HLoad { kind, rd, .. } => {
+            written = Some((rd, loaded(kind, read(machine, &data.unwrap(), memory))));
+        }
+        Instruction::Store { rs2, .. } | Instruction::HStore { rs2, .. } => {
+            write(machine, &data.unwrap(), memory, machine.get(rs2));
+        }
+        Instruction::Immediate { kind, rd, rs1, value } => {
+            written = Some((rd, immediate_value(kind, machine.get(rs1), value)));
+        }
+        Instruction::Shift { kind, rd, rs1, amount } => {
+            written = Some((rd, shift_value(kind, machine.get(rs1), amount)));
+        }
+        Instruction::Register { kind, rd, rs1, rs2 } => {
+            written = Some((rd, register_value(kind, machine.get(rs1), machine.get(rs2))));
+        }
+        Instruction::Fence { .. } => {}
+        Instruction::System { .. } => {
+            // Only a redirected ECALL comes here.
+            machine.mode = 0;
+            machine.reason = 2;
+            machine.exit_pc = pc;
+            machine.pc = machine.handler;
+            return;
+        }
+        Instruction::Hfi { kind, rd, rs1, .. } => {
+            let operand = machine.get(rs1);
+            let chosen = machine.selector as usize;
+            match kind {
+                HfiKind::Enter | HfiKind::EnterJump => {
+                    machine.mode = 1;
+                    machine.options = operand;
+                    machine.fault.occurred = 0;
+                }
+                HfiKind::Exit => {
+                    machine.mode = 0;
+                    machine.reason = 1;
+                    machine.exit_pc = pc;
+                    machine.pc =
+                        if bit(machine.options, OPTION_REDIRECT_EXITS) { machine.handler } else { next };
+                    return;
+                }
+                HfiKind::Select => machine.selector = operand,
+                HfiKind::SetBase => machine.regions[chosen - 1].base = operand,
+                HfiKind::GetBase => written = Some((rd, machine.regions[chosen - 1].base)),
+                HfiKind::SetBound => machine.regions[chosen - 1].bound = operand,
+                HfiKind::GetBound => written = Some((rd, machine.regions[chosen - 1].bound)),
+                HfiKind::SetPermission => machine.regions[chosen - 1].permission = operand,
+                HfiKind::GetPermission => written = Some((rd, machine.regions[chosen - 1].permission)),
+                HfiKind::SetHandler => machine.handler = clear_handler_bits(operand),
+                HfiKind::GetHandler => written = Some((rd, machine.handler)),
+                HfiKind::Reset => {
+                    machine.regions = [Region::default(); REGIONS];
+                    machine.selector = 0;
+                }
+            }
+        }
+    }
+    if let Some((rd, value)) = written {
+        machine.set(rd, value);
+    }
+    machine.pc = target.unwrap_or(next);
+}
+
+/// "Set handler clears bits 0, 1, 62, 63."
+fn clear_handler_bits(value: u64) -> u64 {
+    let mut kept = value;
+    for place in [0, 1, 62, 63] {
+        if bit(kept, place) {
+            kept -= 1u64 << place;
+        }
+    }
+    kept
+}

@@ -1,0 +1,598 @@
+//! Random machines, memories, words and sheets, with a bias to the edges.
+
+use crate::instruction::{
+    encode, ImmediateKind, Instruction, SystemKind, UpperKind, BRANCH_TABLE, HFI_TABLE, IMMEDIATE_TABLE, LOAD_TABLE, REGISTER_TABLE,
+    SHIFT_TABLE, STORE_TABLE,
+};
+use crate::machine::{Fault, Machine, Region};
+use crate::reach::{executable, readable};
+
+const ALL: u64 = u64::MAX;
+
+/// A small generator of random numbers; the same seed gives the same numbers.
+pub struct Supply {
+    state: u64,
+}
+
+impl Supply {
+    pub fn new(seed: u64) -> Supply {
+        Supply { state: seed }
+    }
+
+    pub fn next(&mut self) -> u64 {
+        self.state = self.state.wrapping_add(0x9e37_79b9_7f4a_7c15);
+        let mut z = self.state;
+        z = (z ^ (z >> 30)).wrapping_mul(0xbf58_476d_1ce4_e5b9);
+        z = (z ^ (z >> 27)).wrapping_mul(0x94d0_49bb_1331_11eb);
+        z ^ (z >> 31)
+    }
+
+    /// 0 to n - 1
+    pub fn below(&mut self, n: u64) -> u64 {
+        self.next() % n
+    }
+
+    /// True once in n.
+    pub fn once_in(&mut self, n: u64) -> bool {
+        self.below(n) == 0
+    }
+
+    pub fn pick<T: Copy>(&mut self, from: &[T]) -> T {
+        from[self.below(from.len() as u64) as usize]
+    }
+
+    /// A 64-bit number near an edge.
+    pub fn edge(&mut self) -> u64 {
+        let near = self.below(9).wrapping_sub(4);
+        match self.below(8) {
+            0 => self.below(16),
+            1 => (1u64 << self.below(64)).wrapping_add(near),
+            2 => (ALL << self.below(64)).wrapping_add(near),
+            3 => self.pick(&[0, 0x7fff_ffff, 0x8000_0000, 0xffff_ffff, 0x7fff_ffff_ffff_ffff, 1 << 63, ALL]).wrapping_add(near),
+            4 => self.next() >> self.below(64),
+            5 => (self.next() as u32) as i32 as i64 as u64,
+            6 => near,
+            _ => self.next(),
+        }
+    }
+
+    fn register(&mut self) -> u64 {
+        // A few registers often, so that values meet.
+        if self.once_in(3) {
+            self.below(32)
+        } else {
+            self.pick(&[0, 1, 5, 6, 7, 10, 11])
+        }
+    }
+
+    fn immediate(&mut self) -> i64 {
+        match self.below(4) {
+            0 => self.pick(&[-2048, -2047, -1, 0, 1, 2046, 2047]),
+            1 => self.below(32) as i64 - 16,
+            2 => (self.below(64) * 8) as i64 - 256,
+            _ => self.below(4096) as i64 - 2048,
+        }
+    }
+
+    /// A branch or jump offset, mostly short and a multiple of 4.
+    fn jump_offset(&mut self, width: u32) -> i64 {
+        let half = 1i64 << (width - 1);
+        match self.below(8) {
+            0 => (self.next() as i64).rem_euclid(2 * half) / 2 * 2 - half,
+            1 => self.below(64) as i64 * 2 - 64,
+            _ => self.below(32) as i64 * 4 - 48,
+        }
+    }
+
+    /// A legal instruction.
+    pub fn instruction(&mut self) -> Instruction {
+        let (rd, rs1, rs2) = (self.register(), self.register(), self.register());
+        let value = self.immediate();
+        match self.below(40) {
+            0 => Instruction::Upper { kind: UpperKind::Lui, rd, field: self.below(1 << 20) },
+            1 => Instruction::Upper { kind: UpperKind::Auipc, rd, field: self.pick(&[0, 1, 0xfffff, 0x80000]) },
+            2 => Instruction::Jal { rd, offset: self.jump_offset(21) },
+            3 => Instruction::Jalr { rd, rs1, offset: value },
+            4..=7 => {
+                let kind = self.pick(&BRANCH_TABLE).0;
+                Instruction::Branch { kind, rs1, rs2, offset: self.jump_offset(13) }
+            }
+            8..=12 => Instruction::Load { kind: self.pick(&LOAD_TABLE).0, rd, rs1, offset: value },
+            13..=16 => Instruction::Store { kind: self.pick(&STORE_TABLE).0, rs1, rs2, offset: value },
+            17..=20 => Instruction::HLoad { kind: self.pick(&LOAD_TABLE).0, rd, rs1, offset: value },
+            21..=23 => Instruction::HStore { kind: self.pick(&STORE_TABLE).0, rs1, rs2, offset: value },
+            24..=27 => Instruction::Immediate { kind: self.pick(&IMMEDIATE_TABLE).0, rd, rs1, value },
+            28..=29 => {
+                let row = self.pick(&SHIFT_TABLE);
+                Instruction::Shift { kind: row.0, rd, rs1, amount: self.below(1 << row.4) }
+            }
+            30..=34 => Instruction::Register { kind: self.pick(&REGISTER_TABLE).0, rd, rs1, rs2 },
+            35 => Instruction::Fence { rd, rs1, spare: self.below(4096) },
+            36 => Instruction::System { kind: self.pick(&[SystemKind::Ecall, SystemKind::Ebreak]) },
+            _ => {
+                let (kind, has_rd, has_rs1, has_rs2) = self.pick(&HFI_TABLE);
+                let keep = |has: bool, register: u64| if has { register } else { 0 };
+                Instruction::Hfi { kind, rd: keep(has_rd, rd), rs1: keep(has_rs1, rs1), rs2: keep(has_rs2, rs2) }
+            }
+        }
+    }
+
+    /// A word: mostly legal, sometimes a legal one with a bit changed,
+    /// sometimes any.
+    pub fn word(&mut self) -> u32 {
+        let instruction = self.instruction();
+        let legal = encode(&instruction).expect("in range");
+        match self.below(24) {
+            0 => legal ^ 1 << self.below(32),
+            1 => self.next() as u32,
+            2 => {
+                // any word of a known opcode
+                let opcode = self.pick(&[
+                    0x03u32, 0x0b, 0x0f, 0x13, 0x17, 0x1b, 0x23, 0x2b, 0x33, 0x37, 0x3b, 0x5b, 0x63, 0x67, 0x6f, 0x73,
+                ]);
+                (self.next() as u32) & !0x7f | opcode
+            }
+            _ => legal,
+        }
+    }
+
+    /// An instruction that keeps a run going: x1, x2 and x8 stay pointers into
+    /// region 2, x3 into region 3; offsets are small; few words stop.
+    fn steady_instruction(&mut self) -> Instruction {
+        let mut instruction = self.instruction();
+        let rd_steady = self.pick(&[5, 6, 7, 9, 10, 11, 12, 13, 14, 15, 16, 30, 31, 0]);
+        let pointer = self.pick(&[1, 2, 8]);
+        let near = self.below(96) as i64 - 48;
+        let ahead = if self.once_in(24) { self.below(2048) as i64 } else { self.below(48) as i64 };
+        let short = self.below(12) as i64 * 4 - 16;
+        match &mut instruction {
+            Instruction::Load { rd, rs1, offset, .. } => {
+                *rd = rd_steady;
+                *rs1 = pointer;
+                *offset = near;
+            }
+            Instruction::Store { rs1, offset, .. } => {
+                *rs1 = pointer;
+                *offset = near;
+            }
+            Instruction::HLoad { rd, offset, .. } => {
+                *rd = rd_steady;
+                *offset = ahead;
+            }
+            Instruction::HStore { offset, .. } => *offset = ahead,
+            Instruction::Jal { rd, offset } => {
+                *rd = rd_steady;
+                *offset = short;
+            }
+            Instruction::Jalr { rd, rs1, offset } => {
+                *rd = rd_steady;
+                *rs1 = 3;
+                *offset = self.below(64) as i64 * 4 + self.below(2) as i64;
+            }
+            Instruction::Branch { offset, .. } => *offset = short,
+            Instruction::System { .. } | Instruction::Hfi { .. } => {
+                if !self.once_in(6) {
+                    return Instruction::Register { kind: self.pick(&REGISTER_TABLE).0, rd: rd_steady, rs1: 5, rs2: 6 };
+                }
+            }
+            Instruction::Upper { rd, .. }
+            | Instruction::Immediate { rd, .. }
+            | Instruction::Shift { rd, .. }
+            | Instruction::Register { rd, .. } => *rd = rd_steady,
+            Instruction::Fence { .. } => {}
+        }
+        instruction
+    }
+
+    /// A machine in HFI mode and a memory in which runs go on for a while:
+    /// code in the lower half, ordinary data in a block of the upper half,
+    /// explicit data anywhere. Locked three times in four.
+    pub fn steady_world(&mut self) -> (Machine, Vec<u8>) {
+        let k = 7 + self.below(6); // half of 128 to 4,096 bytes each
+        let half = 1usize << k;
+        let length = 2 * half - if self.once_in(8) { self.below(16) as usize } else { 0 };
+        let mut memory: Vec<u8> = (0..length).map(|_| self.next() as u8).collect();
+        for at in (0..half / 4).map(|n| 4 * n) {
+            let word = if self.once_in(200) {
+                self.word()
+            } else {
+                let instruction = self.steady_instruction();
+                encode(&instruction).expect("in range")
+            };
+            memory[at..at + 4].copy_from_slice(&word.to_le_bytes());
+        }
+        let mut machine = loop {
+            let machine = self.machine(length);
+            if crate::machine::well_formed(&machine) {
+                break machine;
+            }
+        };
+        machine.mode = 1;
+        machine.options = self.below(16) | if self.once_in(2) { 1 } else { 0 };
+        machine.regions[2] = Region { base: 0, bound: ALL << k, permission: 4 };
+        let inner = k - self.below(2);
+        let base = half as u64 + if inner < k && self.once_in(2) { 1 << inner } else { 0 };
+        let permission = self.pick(&[3, 3, 3, 3, 3, 1, 2]);
+        machine.regions[1] = Region { base, bound: ALL << inner, permission };
+        if !self.once_in(8) {
+            let permission = self.pick(&[3, 3, 3, 3, 1, 2]);
+            let start = if self.once_in(2) { half as u64 } else { 0 };
+            let base = start + self.below(half as u64);
+            machine.regions[0] = Region { base, bound: 8 + self.below(half as u64), permission };
+        }
+        for pointer in [1, 2, 8] {
+            machine.x[pointer] = base + self.below(1 << inner);
+            if !self.once_in(8) {
+                machine.x[pointer] = base + 48 + self.below((1u64 << inner).saturating_sub(104).max(1));
+            }
+        }
+        machine.x[3] = self.below(half as u64 / 8) * 4;
+        machine.pc = self.below(half as u64 / 8) * 4;
+        (machine, memory)
+    }
+
+    /// A legal word of opcode 5b with x5 as rs1, x6 as rs2.
+    pub fn hfi_word(&mut self) -> u32 {
+        let (kind, has_rd, has_rs1, has_rs2) = self.pick(&HFI_TABLE);
+        let rd = if has_rd { self.register() } else { 0 };
+        let rs1 = if has_rs1 { 5 } else { 0 };
+        let rs2 = if has_rs2 { 6 } else { 0 };
+        encode(&Instruction::Hfi { kind, rd, rs1, rs2 }).expect("in range")
+    }
+
+    /// A mask of an implicit region with k trailing zeros.
+    fn mask(&mut self, k: u64) -> u64 {
+        if k >= 64 {
+            0
+        } else {
+            ALL << k
+        }
+    }
+
+    /// An implicit region, mostly good and mostly in or about the memory.
+    fn implicit_region(&mut self, length: usize, permission: u64) -> Region {
+        match self.below(16) {
+            0 => Region { base: self.edge(), bound: self.edge(), permission },
+            1 => {
+                let k = self.pick(&[0, 1, 2, 3, 47, 48, 49, 63, 64]);
+                Region { base: 0, bound: self.mask(k), permission }
+            }
+            2 => {
+                let k = self.below(49);
+                let base = (1u64 << 48).wrapping_sub(1 << k).wrapping_add(self.pick(&[0, 1, 1 << k]));
+                Region { base, bound: self.mask(k), permission }
+            }
+            3 => {
+                // a misaligned base or a mask with a hole
+                let k = self.below(16) + 1;
+                let base = self.below(length as u64 + 1);
+                let hole = if self.once_in(2) { 1 << (k + 1 + self.below(40)) } else { 0 };
+                Region { base, bound: self.mask(k) ^ hole, permission }
+            }
+            4 => Region { base: 0, bound: 0, permission },
+            _ => {
+                let most = (usize::BITS - length.leading_zeros()) as u64; // 2^most is above the length
+                let k = if most == 0 { self.below(4) } else { self.below(most + 2).max(most.saturating_sub(self.below(8))) };
+                let mask = self.mask(k);
+                Region { base: self.below(length as u64 + 8) & mask, bound: mask, permission }
+            }
+        }
+    }
+
+    /// The explicit region.
+    fn explicit_region(&mut self, length: usize) -> Region {
+        let permission = self.pick(&[3, 3, 3, 1, 2, 0, 8, 9, 10, 11, 11]);
+        if permission >= 8 {
+            match self.below(4) {
+                0 => Region { base: self.edge(), bound: self.edge(), permission },
+                1 => {
+                    let base = self.below(1 << 33) & !0xffff;
+                    Region { base, bound: (1 << 48) - base + self.pick(&[0, 65536]), permission }
+                }
+                _ => Region {
+                    base: self.below(3) * 65536 + if self.once_in(8) { self.below(65536) } else { 0 },
+                    bound: self.below(4) * 65536 + if self.once_in(8) { self.below(65536) } else { 0 },
+                    permission,
+                },
+            }
+        } else {
+            match self.below(8) {
+                0 => Region { base: self.edge(), bound: self.edge(), permission },
+                1 => {
+                    let multiple = self.below(1 << 16) << 32;
+                    let below = self.below(4096);
+                    Region { base: multiple.wrapping_sub(below), bound: below + self.below(3), permission }
+                }
+                2 => Region {
+                    base: (1u64 << 48).wrapping_sub(self.below(4)),
+                    bound: self.below(6),
+                    permission,
+                },
+                _ => {
+                    let base = self.below(length as u64 + 8);
+                    let bound = match self.below(4) {
+                        0 => self.below(17),
+                        1 => (length as u64).saturating_sub(base) + self.below(9),
+                        _ => self.below(4200),
+                    };
+                    Region { base, bound, permission }
+                }
+            }
+        }
+    }
+
+    /// Any machine: mostly well formed, mostly in HFI mode.
+    pub fn machine(&mut self, length: usize) -> Machine {
+        let mut machine = Machine::default();
+        machine.regions[0] = self.explicit_region(length);
+        let permission = self.pick(&[3, 3, 3, 1, 2, 0]);
+        machine.regions[1] = self.implicit_region(length, permission);
+        let permission = self.pick(&[4, 4, 4, 4, 4, 4, 4, 0]);
+        machine.regions[2] = self.implicit_region(length, permission);
+        machine.mode = if self.once_in(4) { 0 } else { 1 };
+        machine.options = self.below(16);
+        machine.reason = self.below(3);
+        machine.exit_pc = self.edge();
+        machine.handler = self.edge() & 0x3fff_ffff_ffff_fffc;
+        machine.selector = self.below(4);
+        if self.once_in(2) {
+            machine.fault =
+                Fault { occurred: self.below(2), region: self.below(4), op: self.below(4), address: self.edge() };
+        }
+        // Registers: edges, and places about the regions and the memory's end.
+        for n in 1..32 {
+            machine.x[n] = self.pointer(&machine, length);
+        }
+        machine.pc = match self.below(16) {
+            0 => self.edge(),
+            1 => self.edge() & !3,
+            2 => (length as u64).wrapping_sub(self.below(12)),
+            3 => machine.regions[2].base.wrapping_add(self.below(64) * 4),
+            _ => {
+                let inside = if length == 0 { 0 } else { self.below(length as u64) };
+                let region = machine.regions[2];
+                if machine.mode == 1 && region.bound != 0 && region.base < length as u64 {
+                    region.base.wrapping_add(inside & !region.bound) & !3
+                } else {
+                    inside & !3
+                }
+            }
+        };
+        if self.once_in(16) {
+            self.spoil(&mut machine);
+        }
+        machine
+    }
+
+    fn pointer(&mut self, machine: &Machine, length: usize) -> u64 {
+        let near = self.below(33).wrapping_sub(16);
+        match self.below(8) {
+            0 => (length as u64).wrapping_add(near),
+            1 | 2 => {
+                let region = machine.regions[1];
+                let end = region.base.wrapping_add(region.bound.wrapping_neg());
+                self.pick(&[region.base, end]).wrapping_add(near)
+            }
+            3 => {
+                let region = machine.regions[1];
+                let size = region.bound.wrapping_neg();
+                region.base.wrapping_add(if size == 0 { 0 } else { self.below(size) })
+            }
+            4 => self.below(length as u64 + 1),
+            5 => self.below(20),
+            6 => machine.regions[2].base.wrapping_add(self.below(64) * 4),
+            _ => self.edge(),
+        }
+    }
+
+    /// Breaks one condition of well formed, or sets an allowed bit.
+    fn spoil(&mut self, machine: &mut Machine) {
+        let bit = 1u64 << self.below(64);
+        match self.below(11) {
+            0 => machine.x[0] = bit,
+            1 => machine.mode = self.below(4),
+            2 => machine.reason = self.below(5),
+            3 => machine.options |= self.pick(&[16, 1 << 32, bit]),
+            4 => machine.handler |= self.pick(&[1, 2, 4, 1 << 61, 1 << 62, 1 << 63, bit]),
+            5 => machine.selector = self.below(6),
+            6 => machine.fault.occurred = self.below(4),
+            7 => machine.fault.region = self.below(6),
+            8 => machine.fault.op = self.below(6),
+            9 => machine.regions[self.below(3) as usize].permission ^= 1 << self.below(6),
+            _ => machine.regions[self.below(3) as usize].permission |= bit,
+        }
+    }
+
+    /// A length of memory: 0, 3, 64, 4,096 and others, now and then 65,536.
+    pub fn length(&mut self) -> usize {
+        match self.below(32) {
+            0 => 0,
+            1 => self.below(9) as usize,
+            2 => 3,
+            3 => 65_536,
+            4..=9 => self.below(4200) as usize,
+            10..=19 => 64 + self.below(64) as usize,
+            20..=24 => 1024,
+            _ => 4096,
+        }
+    }
+
+    /// Memory with words at every multiple of 4 that fits, other bytes random.
+    pub fn memory(&mut self, length: usize) -> Vec<u8> {
+        let mut bytes: Vec<u8> = (0..length).map(|_| self.next() as u8).collect();
+        for at in (0..length / 4).map(|n| 4 * n) {
+            let word = self.word();
+            bytes[at..at + 4].copy_from_slice(&word.to_le_bytes());
+        }
+        bytes
+    }
+
+    pub fn budget(&mut self) -> u64 {
+        match self.below(24) {
+            0 => 0,
+            1 => 1,
+            2 => 1_000_001,
+            3 => self.edge(),
+            4 => 1_000,
+            _ => self.below(200),
+        }
+    }
+
+    /// A machine in locked HFI mode for the isolation experiment, well formed.
+    pub fn locked_machine(&mut self, length: usize) -> Machine {
+        loop {
+            let mut machine = self.machine(length);
+            machine.mode = 1;
+            machine.options |= 1;
+            if crate::machine::well_formed(&machine) {
+                return machine;
+            }
+        }
+    }
+
+    /// A second memory that agrees on readable and executable bytes and
+    /// mostly differs elsewhere.
+    pub fn twin(&mut self, machine: &Machine, memory: &[u8]) -> Vec<u8> {
+        let mut other = memory.to_vec();
+        for (address, byte) in other.iter_mut().enumerate() {
+            if !readable(machine, address as u64) && !executable(machine, address as u64) {
+                *byte = self.next() as u8;
+            }
+        }
+        other
+    }
+
+    fn digits(&mut self, value: u64) -> String {
+        let plain = format!("{value:x}");
+        if self.once_in(12) {
+            let width = self.below(16) as usize + 1;
+            format!("{value:0width$x}")
+        } else {
+            plain
+        }
+    }
+
+    /// A valid sheet.
+    pub fn valid_sheet(&mut self) -> Vec<u8> {
+        let span = self.pick(&[64usize, 256, 256, 4096]);
+        let mut machine = self.machine(span);
+        let steady = !self.once_in(4);
+        if !self.once_in(16) {
+            machine.regions[2] = Region { base: 0, bound: ALL << 12, permission: 4 };
+            machine.pc = if steady { 0 } else { self.below(span as u64 / 8) * 4 };
+        }
+        if steady {
+            // Registers start at 0: the first words set the pointers.
+            machine.regions[0] = Region { base: self.below(64) * 8, bound: 2100, permission: 3 };
+            if !self.once_in(4) {
+                let k = if self.once_in(4) { 3 + self.below(14) } else { 13 };
+                machine.regions[1] = Region { base: 0, bound: ALL << k, permission: self.pick(&[1, 3, 3]) };
+            }
+        }
+        machine.options &= 0xff;
+        let mut fields = vec![machine.pc, machine.options, machine.handler];
+        for region in &machine.regions {
+            fields.extend([region.base, region.bound, region.permission & 0xff]);
+        }
+        let mut text = String::new();
+        for field in fields {
+            text.push_str(&self.digits(field));
+            text.push(',');
+        }
+        match self.below(12) {
+            0 => {}
+            1 if self.once_in(8) => text.push_str("f4240"),
+            2 if self.once_in(4) => text.push_str("f4241"),
+            3 if self.once_in(4) => text.push_str("ffffffff"),
+            4 if self.once_in(4) => text.push('0'),
+            _ => {
+                let budget = self.below(600);
+                text.push_str(&self.digits(budget));
+            }
+        }
+        text.push('\n');
+        let mut address = 0;
+        let lines = if self.once_in(8) { self.below(span as u64 / 4) } else { span as u64 / 4 };
+        for line in 0..lines {
+            let word = if steady && line < 4 {
+                let (rd, value) = ([1, 2, 8, 3][line as usize], if line == 3 { 0 } else { 48 + self.below(1900) as i64 });
+                encode(&Instruction::Immediate { kind: ImmediateKind::Addi, rd, rs1: 0, value }).expect("in range")
+            } else if steady && !self.once_in(60) {
+                let instruction = self.steady_instruction();
+                encode(&instruction).expect("in range")
+            } else {
+                self.word()
+            };
+            text.push_str(&self.digits(address));
+            text.push(',');
+            text.push_str(&self.digits(word as u64));
+            text.push('\n');
+            address += 4 * if self.once_in(if steady { 200 } else { 16 }) { 1 + self.below(8) } else { 1 };
+            if self.once_in(200) {
+                address = 0xfffc;
+            }
+            if address > 0xfffc {
+                break;
+            }
+        }
+        text.into_bytes()
+    }
+
+    /// A sheet with one to three damages; it may be valid still.
+    pub fn damaged_sheet(&mut self) -> Vec<u8> {
+        let mut bytes = self.valid_sheet();
+        for _ in 0..1 + self.below(3) {
+            if bytes.is_empty() {
+                break;
+            }
+            let at = self.below(bytes.len() as u64) as usize;
+            match self.below(12) {
+                0 => bytes[at] = self.next() as u8,
+                1 => bytes[at] = self.pick(b"0123456789abcdef,\ngAF \r/:`"),
+                2 => {
+                    bytes.remove(at);
+                }
+                3 => bytes.insert(at, self.pick(b"0123456789abcdef,,\n\n")),
+                4 => bytes.truncate(at),
+                5 => {
+                    // a copy of a stretch, so that addresses fall or lines repeat
+                    let end = (at + 40).min(bytes.len());
+                    let part = bytes[at..end].to_vec();
+                    let to = self.below(bytes.len() as u64) as usize;
+                    bytes.splice(to..to, part);
+                }
+                6 => {
+                    // a wide field
+                    let zeros = vec![b'0'; self.below(18) as usize];
+                    bytes.splice(at..at, zeros);
+                }
+                7 => {
+                    // a large number
+                    let digits = self.pick(&["100", "100000000", "10000", "2", "fffc", "ff", "3ffffffffffffffc"]);
+                    bytes.splice(at..at, digits.bytes());
+                }
+                8 => {
+                    bytes.pop();
+                }
+                9 => bytes.extend(b"\n"),
+                10 => {
+                    // swap two lines
+                    let mut lines: Vec<Vec<u8>> = bytes.split(|b| *b == b'\n').map(|l| l.to_vec()).collect();
+                    let (i, j) = (self.below(lines.len() as u64) as usize, self.below(lines.len() as u64) as usize);
+                    lines.swap(i, j);
+                    bytes = lines.join(&b'\n');
+                }
+                _ => {
+                    // about the longest length
+                    if self.once_in(4) {
+                        let target = 65_530 + self.below(12) as usize;
+                        while bytes.len() < target {
+                            bytes.insert(bytes.len() - 1, b'\n');
+                        }
+                    }
+                }
+            }
+        }
+        bytes
+    }
+}

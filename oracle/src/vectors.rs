@@ -1,0 +1,291 @@
+//! Checks against stored vectors: the published ones and our value cases.
+
+use crate::instruction::{decode, encode, BranchKind, Instruction, LoadKind, StoreKind, SystemKind};
+use crate::machine::Machine;
+use crate::run::run;
+
+#[derive(Default)]
+pub struct Report {
+    pub passed: usize,
+    pub failed: usize,
+    pub lines: Vec<String>,
+}
+
+impl Report {
+    fn note(&mut self, good: bool, text: String) {
+        if good {
+            self.passed += 1;
+        } else {
+            self.failed += 1;
+            self.lines.push(text);
+        }
+    }
+}
+
+const ABI: [&str; 32] = [
+    "zero", "ra", "sp", "gp", "tp", "t0", "t1", "t2", "s0", "s1", "a0", "a1", "a2", "a3", "a4", "a5", "a6", "a7",
+    "s2", "s3", "s4", "s5", "s6", "s7", "s8", "s9", "s10", "s11", "t3", "t4", "t5", "t6",
+];
+
+fn load_text(kind: LoadKind) -> &'static str {
+    match kind {
+        LoadKind::Byte => "lb",
+        LoadKind::Half => "lh",
+        LoadKind::Word => "lw",
+        LoadKind::Double => "ld",
+        LoadKind::ByteUnsigned => "lbu",
+        LoadKind::HalfUnsigned => "lhu",
+        LoadKind::WordUnsigned => "lwu",
+    }
+}
+
+fn store_text(kind: StoreKind) -> &'static str {
+    match kind {
+        StoreKind::Byte => "sb",
+        StoreKind::Half => "sh",
+        StoreKind::Word => "sw",
+        StoreKind::Double => "sd",
+    }
+}
+
+fn fence_set(set: u64) -> String {
+    let mut text = String::new();
+    for (place, letter) in [(3, 'i'), (2, 'o'), (1, 'r'), (0, 'w')] {
+        if set >> place & 1 == 1 {
+            text.push(letter);
+        }
+    }
+    text
+}
+
+/// Assembly text of an RV64I instruction, in the form of the LLVM rows.
+pub fn assembly(instruction: &Instruction) -> String {
+    let r = |n: u64| ABI[n as usize];
+    let lower = |kind: String| kind.to_lowercase();
+    match *instruction {
+        Instruction::Upper { kind, rd, field } => format!("{} {}, {}", lower(format!("{kind:?}")), r(rd), field),
+        Instruction::Jal { rd, offset } => format!("jal {}, {}", r(rd), offset),
+        Instruction::Jalr { rd, rs1, offset } => format!("jalr {}, {}({})", r(rd), offset, r(rs1)),
+        Instruction::Branch { kind, rs1, rs2, offset } => {
+            let text = match kind {
+                BranchKind::Beq => "beq",
+                BranchKind::Bne => "bne",
+                BranchKind::Blt => "blt",
+                BranchKind::Bge => "bge",
+                BranchKind::Bltu => "bltu",
+                BranchKind::Bgeu => "bgeu",
+            };
+            format!("{} {}, {}, {}", text, r(rs1), r(rs2), offset)
+        }
+        Instruction::Load { kind, rd, rs1, offset } => {
+            format!("{} {}, {}({})", load_text(kind), r(rd), offset, r(rs1))
+        }
+        Instruction::Store { kind, rs1, rs2, offset } => {
+            format!("{} {}, {}({})", store_text(kind), r(rs2), offset, r(rs1))
+        }
+        Instruction::Immediate { kind, rd, rs1, value } => {
+            format!("{} {}, {}, {}", lower(format!("{kind:?}")), r(rd), r(rs1), value)
+        }
+        Instruction::Shift { kind, rd, rs1, amount } => {
+            format!("{} {}, {}, {}", lower(format!("{kind:?}")), r(rd), r(rs1), amount)
+        }
+        Instruction::Register { kind, rd, rs1, rs2 } => {
+            format!("{} {}, {}, {}", lower(format!("{kind:?}")), r(rd), r(rs1), r(rs2))
+        }
+        Instruction::Fence { spare: 0x833, .. } => "fence.tso".to_string(),
+        Instruction::Fence { spare, .. } => {
+            format!("fence {}, {}", fence_set(spare / 16 % 16), fence_set(spare % 16))
+        }
+        Instruction::System { kind: SystemKind::Ecall } => "ecall".to_string(),
+        Instruction::System { kind: SystemKind::Ebreak } => "ebreak".to_string(),
+        Instruction::HLoad { .. } | Instruction::HStore { .. } | Instruction::Hfi { .. } => String::new(),
+    }
+}
+
+fn hex(text: &str) -> u64 {
+    u64::from_str_radix(text, 16).expect(text)
+}
+
+fn byte_list(text: &str) -> Vec<u8> {
+    (0..text.len() / 2).map(|i| hex(&text[2 * i..2 * i + 2]) as u8).collect()
+}
+
+/// LLVM rows: file, assembly text, bytes. RV64I rows decode to that text and
+/// encode back; CSR words, FENCE.I, RV64M words and half-words are illegal.
+pub fn check_llvm(text: &str) -> Report {
+    let mut report = Report::default();
+    let (mut legal, mut illegal) = (0, 0);
+    for row in text.lines() {
+        let fields: Vec<&str> = row.split('\t').collect();
+        let bytes = byte_list(fields[2]);
+        if bytes.len() == 2 {
+            let half = bytes[0] as u32 + bytes[1] as u32 * 256;
+            let good = [0u32, 0xffff, 0x0013, half].iter().all(|upper| decode(half + upper * 65536).is_none());
+            report.note(good, format!("a half-word passes: {row}"));
+            illegal += 1;
+            continue;
+        }
+        let word = u32::from_le_bytes([bytes[0], bytes[1], bytes[2], bytes[3]]);
+        let outside = fields[0].ends_with("m-valid")
+            || fields[1].starts_with("csr")
+            || fields[1] == "fence.i"
+            || fields[1] == "unimp";
+        if outside {
+            report.note(decode(word).is_none(), format!("passes: {row}"));
+            illegal += 1;
+        } else {
+            let good = match decode(word) {
+                None => false,
+                Some(instruction) => {
+                    encode(&instruction) == Some(word) && assembly(&instruction) == fields[1]
+                }
+            };
+            report.note(good, format!("{row}: {:?}", decode(word)));
+            legal += 1;
+        }
+    }
+    report.lines.push(format!("{legal} rows legal, {illegal} rows illegal"));
+    report
+}
+
+fn assignments(text: &str) -> Vec<(usize, u64)> {
+    text.split(',')
+        .filter(|part| !part.is_empty())
+        .map(|part| {
+            let (register, value) = part.split_once('=').unwrap();
+            (register[1..].parse().unwrap(), hex(value))
+        })
+        .collect()
+}
+
+/// Dart rows, run outside HFI mode in 2 MiB. An ECALL at the return address
+/// ends the run with 18. Rows that need more than RV64I stop with 13 (or 15).
+pub fn check_dart(text: &str) -> Report {
+    let mut report = Report::default();
+    let (mut plain, mut beyond, mut halves) = (0, 0, 0);
+    for row in text.lines() {
+        let fields: Vec<&str> = row.split('\t').collect();
+        let mut memory = vec![0u8; 0x20_0000];
+        let pc = hex(fields[3]);
+        let code = byte_list(fields[2]);
+        memory[pc as usize..pc as usize + code.len()].copy_from_slice(&code);
+        let after = hex(fields[6]);
+        memory[after as usize..after as usize + 4].copy_from_slice(&0x0000_0073u32.to_le_bytes());
+        let mut machine = Machine { pc, ..Machine::default() };
+        for (register, value) in assignments(fields[4]) {
+            machine.x[register] = value;
+        }
+        let (stop, _, _) = run(&mut machine, &mut memory, 1000);
+        if fields[1] == "I" {
+            let values = assignments(fields[7]).iter().all(|(register, value)| machine.x[*register] == *value);
+            let good = stop == 18 && machine.pc == after && values;
+            report.note(good, format!("{row}: stop {stop} pc {:x} x10 {:x}", machine.pc, machine.x[10]));
+            plain += 1;
+        } else {
+            // Four rows take a branch to a half-word before they reach one: 15.
+            let to_half_word = stop == 15 && machine.pc == pc + 12 && fields[0].contains("BranchOverflow");
+            report.note(stop == 13 || to_half_word, format!("{row}: stop {stop} pc {:x}", machine.pc));
+            beyond += 1;
+            halves += to_half_word as u32;
+        }
+    }
+    report.lines.push(format!("{plain} rows of RV64I, {beyond} rows beyond, {halves} of them stopped with 15"));
+    report
+}
+
+pub const CODE: u64 = 0x1000;
+pub const DATA: u64 = 0x2000;
+pub const RECORD: usize = 256;
+
+/// One fixed-column record; see vectors/README.md for the offsets.
+pub struct Record {
+    pub name: String,
+    pub before: [u64; 4],
+    pub data_before: u64,
+    pub after: [u64; 4],
+    pub data_after: u64,
+    pub final_pc: u64,
+    pub steps: u64,
+    pub code: [u32; 5],
+}
+
+pub const REGISTERS: [usize; 4] = [5, 6, 7, 10];
+
+pub fn read_record(line: &str) -> Record {
+    let sixteen = |at: usize| hex(&line[at..at + 16]);
+    let eight = |at: usize| hex(&line[at..at + 8]);
+    Record {
+        name: line[0..31].trim_end().to_string(),
+        before: [sixteen(32), sixteen(48), sixteen(64), sixteen(80)],
+        data_before: sixteen(96),
+        after: [sixteen(112), sixteen(128), sixteen(144), sixteen(160)],
+        data_after: sixteen(176),
+        final_pc: eight(192),
+        steps: eight(200),
+        code: [208, 216, 224, 232, 240].map(|at| eight(at) as u32),
+    }
+}
+
+/// A run call: machine, memory, budget; stop, count, address.
+pub type Run<'a> = dyn FnMut(&mut Machine, &mut [u8], u64) -> (u64, u64, u64) + 'a;
+
+/// The fixed-column value cases, run by the oracle.
+pub fn check_columns(text: &str) -> Report {
+    check_columns_with(text, &mut run)
+}
+
+/// The fixed-column value cases, run by a given run call.
+pub fn check_columns_with(text: &str, run: &mut Run) -> Report {
+    let mut report = Report::default();
+    report.note(text.len() % RECORD == 0, "length is no multiple of 256".to_string());
+    for line in text.lines() {
+        if line.len() != RECORD - 1 {
+            report.note(false, format!("length {}: {line}", line.len()));
+            continue;
+        }
+        let record = read_record(line);
+        let mut memory = vec![0u8; 65_536];
+        for (i, word) in record.code.iter().enumerate() {
+            let at = CODE as usize + 4 * i;
+            memory[at..at + 4].copy_from_slice(&word.to_le_bytes());
+        }
+        let at = DATA as usize;
+        memory[at..at + 8].copy_from_slice(&record.data_before.to_le_bytes());
+        let mut machine = Machine { pc: CODE, ..Machine::default() };
+        for (place, register) in REGISTERS.iter().enumerate() {
+            machine.x[*register] = record.before[place];
+        }
+        let before = memory.clone();
+        let (stop, count, _) = run(&mut machine, &mut memory, record.steps);
+        let values = (0..4).all(|place| machine.x[REGISTERS[place]] == record.after[place]);
+        let data = u64::from_le_bytes(memory[at..at + 8].try_into().unwrap());
+        let elsewhere = memory[..at] == before[..at] && memory[at + 8..] == before[at + 8..];
+        let others = (0..32).all(|n| REGISTERS.contains(&n) || machine.x[n] == 0);
+        let good = stop == 21
+            && count == record.steps
+            && values
+            && data == record.data_after
+            && machine.pc == record.final_pc
+            && elsewhere
+            && others;
+        report.note(
+            good,
+            format!(
+                "{}: stop {stop} count {count} pc {:x} x5 {:x} x6 {:x} x7 {:x} x10 {:x} data {data:x}",
+                record.name, machine.pc, machine.x[5], machine.x[6], machine.x[7], machine.x[10]
+            ),
+        );
+    }
+    report
+}
+
+/// words.columns: a word and whether it is legal RV64I, 16 bytes a line.
+pub fn check_words(text: &str) -> Report {
+    let mut report = Report::default();
+    for line in text.lines() {
+        let word = hex(&line[0..8]) as u32;
+        let legal = &line[9..10] == "1";
+        report.note(decode(word).is_some() == legal, format!("{line}: {:?}", decode(word)));
+    }
+    report
+}

@@ -1,0 +1,97 @@
+//! Decoding and encoding.
+
+use oracle::instruction::*;
+
+/// Every legal word encodes back to itself, over a spread of words that has
+/// each opcode, funct3, funct7 and edge values of the other fields.
+#[test]
+fn words_round_trip() {
+    let edges = [0u32, 1, 2, 15, 16, 30, 31];
+    let mut legal = 0u32;
+    for opcode in 0..128u32 {
+        for funct3 in 0..8u32 {
+            for funct7 in 0..128u32 {
+                for rd in edges {
+                    for rs1 in [0u32, 1, 31] {
+                        for rs2 in edges {
+                            let code = funct7 << 25 | rs2 << 20 | rs1 << 15 | funct3 << 12 | rd << 7 | opcode;
+                            if let Some(instruction) = decode(code) {
+                                assert_eq!(encode(&instruction), Some(code), "{code:08x}");
+                                legal += 1;
+                            }
+                        }
+                    }
+                }
+            }
+        }
+    }
+    assert!(legal > 1_000_000);
+}
+
+fn good(instruction: Instruction) {
+    let code = encode(&instruction).unwrap_or_else(|| panic!("{instruction:?}"));
+    assert_eq!(decode(code), Some(instruction));
+}
+
+fn bad(instruction: Instruction) {
+    assert_eq!(encode(&instruction), None, "{instruction:?}");
+}
+
+/// Fields at and beyond the ends of their ranges.
+#[test]
+fn ranges() {
+    for (value, fits) in [(-2049, false), (-2048, true), (-1, true), (2047, true), (2048, false), (i64::MIN, false), (i64::MAX, false), (1 << 32, false)]
+    {
+        let check = if fits { good } else { bad };
+        check(Instruction::Immediate { kind: ImmediateKind::Addi, rd: 1, rs1: 2, value });
+        check(Instruction::Immediate { kind: ImmediateKind::Addiw, rd: 1, rs1: 2, value });
+        check(Instruction::Load { kind: LoadKind::Double, rd: 1, rs1: 2, offset: value });
+        check(Instruction::HLoad { kind: LoadKind::Half, rd: 1, rs1: 2, offset: value });
+        check(Instruction::Store { kind: StoreKind::Word, rs1: 1, rs2: 2, offset: value });
+        check(Instruction::HStore { kind: StoreKind::Byte, rs1: 1, rs2: 2, offset: value });
+        check(Instruction::Jalr { rd: 1, rs1: 2, offset: value });
+    }
+    for (offset, fits) in [(-4098, false), (-4097, false), (-4096, true), (-2, true), (-1, false), (0, true), (1, false), (4094, true), (4095, false), (4096, false)]
+    {
+        let check = if fits { good } else { bad };
+        check(Instruction::Branch { kind: BranchKind::Bgeu, rs1: 1, rs2: 2, offset });
+    }
+    for (offset, fits) in [(-1048578, false), (-1048577, false), (-1048576, true), (-1, false), (1048574, true), (1048575, false), (1048576, false)]
+    {
+        let check = if fits { good } else { bad };
+        check(Instruction::Jal { rd: 31, offset });
+    }
+    for (amount, long, short) in [(0, true, true), (31, true, true), (32, true, false), (63, true, false), (64, false, false), (1 << 32, false, false)]
+    {
+        for (kind, _, _, _, width) in SHIFT_TABLE {
+            let check = if (width == 6 && long) || (width == 5 && short) { good } else { bad };
+            check(Instruction::Shift { kind, rd: 1, rs1: 2, amount });
+        }
+    }
+    for (number, fits) in [(0, true), (31, true), (32, false), (u64::MAX, false)] {
+        let check = if fits { good } else { bad };
+        check(Instruction::Register { kind: RegisterKind::Sub, rd: number, rs1: 1, rs2: 2 });
+        check(Instruction::Register { kind: RegisterKind::Sub, rd: 1, rs1: number, rs2: 2 });
+        check(Instruction::Register { kind: RegisterKind::Sraw, rd: 1, rs1: 2, rs2: number });
+        check(Instruction::Fence { rd: number, rs1: 0, spare: 0 });
+        check(Instruction::Fence { rd: 0, rs1: number, spare: 0 });
+        check(Instruction::Hfi { kind: HfiKind::EnterJump, rd: 0, rs1: number, rs2: 0 });
+        check(Instruction::Hfi { kind: HfiKind::EnterJump, rd: 0, rs1: 0, rs2: number });
+        check(Instruction::Hfi { kind: HfiKind::GetBase, rd: number, rs1: 0, rs2: 0 });
+    }
+    for (field, fits) in [(0, true), (0xfffff, true), (0x100000, false), (u64::MAX, false)] {
+        let check = if fits { good } else { bad };
+        check(Instruction::Upper { kind: UpperKind::Lui, rd: 1, field });
+        check(Instruction::Upper { kind: UpperKind::Auipc, rd: 1, field });
+    }
+    for (spare, fits) in [(0, true), (0xfff, true), (0x1000, false)] {
+        let check = if fits { good } else { bad };
+        check(Instruction::Fence { rd: 3, rs1: 4, spare });
+    }
+    for (kind, rd, rs1, rs2) in HFI_TABLE {
+        good(Instruction::Hfi { kind, rd: 0, rs1: 0, rs2: 0 });
+        (if rd { good } else { bad })(Instruction::Hfi { kind, rd: 31, rs1: 0, rs2: 0 });
+        (if rs1 { good } else { bad })(Instruction::Hfi { kind, rd: 0, rs1: 31, rs2: 0 });
+        (if rs2 { good } else { bad })(Instruction::Hfi { kind, rd: 0, rs1: 0, rs2: 31 });
+    }
+}

@@ -1,0 +1,75 @@
+//! The stored sheets and vectors of this repository.
+
+use std::path::PathBuf;
+
+fn root() -> PathBuf {
+    PathBuf::from(env!("CARGO_MANIFEST_DIR")).join("..")
+}
+
+fn text(path: &str) -> String {
+    String::from_utf8(std::fs::read(root().join(path)).expect(path)).expect("text")
+}
+
+/// Sheets worked out by hand, and random programs whose registers and steps are QEMU's.
+#[test]
+fn sheets() {
+    let index = text("crates/sheets/data/index");
+    let mut printed: Vec<u8> = Vec::new();
+    for name in index.lines().map(|line| line.trim_end()) {
+        let input = std::fs::read(root().join("crates/sheets/data").join(name)).unwrap();
+        printed.extend(format!("{name}\n").into_bytes());
+        printed.extend(oracle::respond(&input));
+    }
+    assert!(index.lines().count() >= 513);
+    assert_eq!(String::from_utf8(printed).unwrap(), text("crates/sheets/stdout"));
+}
+
+/// The four programs of bench/ end as its table says.
+#[test]
+fn bench_programs() {
+    for (name, first, x10) in [
+        ("crc-32", "18,3e20e,8c,0,0,0,0,0,0", "10,7985cbae"),
+        ("sieve", "18,3ddd4,6c,0,0,0,0,0,0", "10,8d6"),
+        ("matrix", "18,70471,dc,0,0,0,0,0,0", "10,b6f65514b410d546"),
+        ("copy", "20,61a1c,1238,1,1234,0,0,0,0", "10,2da925fcaacf0d49"),
+    ] {
+        let printed = oracle::respond(text(&format!("bench/programs/{name}.sheet")).as_bytes());
+        let printed = String::from_utf8(printed).unwrap();
+        assert_eq!(printed.lines().next(), Some(first));
+        assert!(printed.lines().any(|line| line == x10));
+    }
+}
+
+/// Each first line of the index is the one printed.
+#[test]
+fn index() {
+    let expected = text("crates/sheets/stdout");
+    let lines: Vec<&str> = expected.lines().collect();
+    let mut seen = 0;
+    for row in text("oracle/authoring/sheets.md").lines().filter(|row| row.starts_with("| ")) {
+        let cells: Vec<&str> = row.split(" | ").collect();
+        let name = cells[0].trim_start_matches("| ");
+        if name == "sheet" {
+            continue;
+        }
+        let first = cells[cells.len() - 1].trim_end_matches(" |").trim_matches('`');
+        let at = lines.iter().position(|line| *line == name).expect(name);
+        assert_eq!(lines[at + 1], first, "{name}");
+        seen += 1;
+    }
+    assert!(seen > 300);
+}
+
+#[test]
+fn values() {
+    let report = oracle::vectors::check_columns(&text("crates/values/data/values.columns"));
+    assert_eq!(report.failed, 0, "{:?}", report.lines);
+    assert!(report.passed > 1000);
+}
+
+#[test]
+fn words() {
+    let report = oracle::vectors::check_words(&text("crates/decode_words/data/words.columns"));
+    assert_eq!(report.failed, 0, "{:?}", report.lines);
+    assert!(report.passed > 5000);
+}
