@@ -1,5 +1,8 @@
 // The cases of the Dart SDK: code at 100000, called with the return address 180000 and the stack at 1f0000. An ECALL at
 // the return address ends a run with 18, and x10 is then the result. Code beyond RV64I must stop with the number stored.
+ghost use mathlib.Core.Path.{_≡_};
+ghost use Prim.Native.Nat.{_+_, _/_, _≤_};
+ghost use lib.ListN.{length};
 use crate::setting::machine;
 use crate::setting::place_words;
 use columns::Tally;
@@ -42,7 +45,8 @@ fn as_stored(r: &[u8], o: Ran) -> bool {
     (o.stop == decimal_at(r, 68, 2)) & ((o.stop != 18) | returned)
 }
 
-fn case(r: &[u8], t: Tally) -> Tally {
+// Does the record end as stored? If not, it is told.
+fn case(r: &[u8]) -> bool {
     let mut mem = [0u8; 2097152];
     fill(r, &mut mem);
     let o = run_in(machine(registers(r), 0x100000), &mut mem, 1000);
@@ -52,21 +56,28 @@ fn case(r: &[u8], t: Tally) -> Tally {
         print_number(o.stop);
         print(b" WRONG\n");
     }
-    counted(t, right)
+    right
 }
 
-fn cases(s: &[u8]) -> Tally {
+// Each whole record is counted once.
+fn cases(s: &[u8]) -> Tally
+    ensures { λ r. ⌜ r .right + r .wrong ≡ length (now (s .entry)) / 289 ⌝ }
+{
     let mut t = nothing();
     let mut at = 0;
     while 289 <= s.len() - at {
-        t = case(column(s, at, 289), t);
+        let right = case(column(s, at, 289));
+        t = counted(t, right);
         at += 289;
     }
     t
 }
 
-// What a file's cases come to, printed and answered. The counts are left free: a test program's result is what it prints.
-pub fn cases_of(path: &[u8]) -> Tally {
+// What a file's cases come to, printed and answered: one for each record that there is room for. How many of them are
+// right is left free, since no contract can speak of what a file holds; the stored output says it.
+pub fn cases_of(path: &[u8]) -> Tally
+    ensures { λ r. ⌜ r .right + r .wrong ≤ 262144 / 289 ⌝ }
+{
     let mut room = [0u8; 262144];
     let n = read_file(path, &mut room);
     let t = cases(&room[..n]);

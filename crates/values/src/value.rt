@@ -2,8 +2,8 @@
 // says. Registers, pc and every byte of memory must be as stored.
 ghost use mathlib.Core.Path.{_≡_};
 ghost use mathlib.Core.Bool.{true};
-ghost use Prim.Native.Nat.{ℕ, _<_, _≤_};
-ghost use lib.ListN.{getD};
+ghost use Prim.Native.Nat.{ℕ, _+_, _/_, _<_, _≤_};
+ghost use lib.ListN.{length, getD};
 use crate::setting::machine;
 use crate::setting::place_words;
 use check::same;
@@ -68,7 +68,8 @@ fn as_stored(r: &[u8], o: Ran) -> bool {
     ended & ((m.pc == hexadecimal_at(r, 192, 8)) & same_registers(&x, &wanted))
 }
 
-fn case(r: &[u8], t: Tally) -> Tally {
+// Does the record end as stored? If not, it is told.
+fn case(r: &[u8]) -> bool {
     let mut mem = [0u8; 65536];
     fill(r, 96, &mut mem);
     let steps = hexadecimal_at(r, 200, 8);
@@ -81,21 +82,28 @@ fn case(r: &[u8], t: Tally) -> Tally {
         print_number(o.stop);
         print(b" WRONG\n");
     }
-    counted(t, right)
+    right
 }
 
-fn cases(s: &[u8]) -> Tally {
+// Each whole record is counted once.
+fn cases(s: &[u8]) -> Tally
+    ensures { λ r. ⌜ r .right + r .wrong ≡ length (now (s .entry)) / 256 ⌝ }
+{
     let mut t = nothing();
     let mut at = 0;
     while 256 <= s.len() - at {
-        t = case(column(s, at, 256), t);
+        let right = case(column(s, at, 256));
+        t = counted(t, right);
         at += 256;
     }
     t
 }
 
-// What a file's cases come to, printed and answered. The counts are left free: a test program's result is what it prints.
-pub fn cases_of(path: &[u8]) -> Tally {
+// What a file's cases come to, printed and answered: one for each record that there is room for. How many of them are
+// right is left free, since no contract can speak of what a file holds; the stored output says it.
+pub fn cases_of(path: &[u8]) -> Tally
+    ensures { λ r. ⌜ r .right + r .wrong ≤ 524288 / 256 ⌝ }
+{
     let mut room = [0u8; 524288];
     let n = read_file(path, &mut room);
     let t = cases(&room[..n]);
