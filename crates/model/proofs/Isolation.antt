@@ -9,6 +9,7 @@ use native.Mathlib.Omega.{arith}
 use lib.ListN.{length, getD}
 use lib.Dec.{eqb, ltb}
 use borrow.Author.Tests.{eqb-true, eq-eqb}
+use Rattle.words.specs.Word.{field}
 use Rattle.instructions.specs.Decode.{decodeWord}
 use Rattle.instructions.specs.declared.kind.UpperKind.the-variants.{Lui, Auipc}
 use Rattle.instructions.specs.declared.kind.LoadKind.{LoadKind}
@@ -30,18 +31,34 @@ use Rattle.model.specs.Hfi.{modeForbids, hfiForbids, hWordForbids, hfiPe
 use Rattle.model.specs.Step.{load, store, jump, branch, perform, executeWord, advance, longest}
 use Rattle.model.specs.Run.{Ended, ended, run, runCall, largestBudget}
 use Rattle.model.specs.Isolation.{Locked, Agree, Isolated, Isolation}
-use Rattle.model.specs.declared.HfiState.{HfiState}
+use Rattle.model.specs.declared.Region.{Region}
 use Rattle.model.specs.declared.Machine.{Machine}
-use Rattle.model.specs.declared.Stepped.{Stepped}
+use Rattle.model.specs.declared.Ran.{Ran}
 use Rattle.model.specs.declared.Verdict.{Verdict}
 use Rattle.model.specs.declared.Verdict.the-variants.{Passed, Refused, Absent}
 use Rattle.model.proofs.Bytes.{value-same, length-written, written-same, written-other}
 use Rattle.model.proofs.Cleared.{Cleared, cleared}
 
--- what a step of a locked machine keeps of it
-pub record Frame (m k : Machine) : Type 0 where
-  pub regions : k .hfi .regions ≡ m .hfi .regions
-  pub options : k .hfi .options ≡ m .hfi .options
+-- what a locked machine cannot change, its leaving step included
+pub record Settings : Type 0 where
+  pub regions : List Region
+  pub options : ℕ
+  pub handler : ℕ
+  pub selector : ℕ
+
+abbrev pub settings : Machine → Settings
+settings m =
+    record { regions = m .hfi .regions; options = m .hfi .options; handler = m .hfi .handler; selector = m .hfi .selector }
+
+-- k has the settings of m
+abbrev pub Keeps : Machine → Machine → Type 0
+Keeps m k = settings k ≡ settings m
+
+kept-regions : (m k : Machine) → Keeps m k → k .hfi .regions ≡ m .hfi .regions
+kept-regions m k e = ap (λ (s : Settings). s .regions) e
+
+kept-options : (m k : Machine) → Keeps m k → k .hfi .options ≡ m .hfi .options
+kept-options m k e = ap (λ (s : Settings). s .options) e
 
 -- what a step does over s and over t
 pub record Related (m : Machine) (s t : List ℕ) (o p : Outcome) : Type 0 where
@@ -50,18 +67,18 @@ pub record Related (m : Machine) (s t : List ℕ) (o p : Outcome) : Type 0 where
   pub unwritten : (b : ℕ) → (Writable (m .hfi .regions) b → ⊥) → getD (o .memory) b 0 ≡ getD s b 0
   pub long : length (o .memory) ≡ length s
   pub long′ : length (p .memory) ≡ length t
-  pub frame : Frame m (o .result .machine)
+  pub kept : Keeps m (o .result .machine)
 
 module _ (m : Machine) (s t : List ℕ) where
   -- a step that leaves the memory alone
-  quiet : (stop at : ℕ) (k : Machine) → Frame m k → Related m s t (outcome stop at k s) (outcome stop at k t)
+  quiet : (stop at : ℕ) (k : Machine) → Keeps m k → Related m s t (outcome stop at k s) (outcome stop at k t)
   quiet stop at k f =
-      record { result = refl; agreeing = λ b e. e; unwritten = λ b w. refl; long = refl; long′ = refl; frame = f }
+      record { result = refl; agreeing = λ b e. e; unwritten = λ b w. refl; long = refl; long′ = refl; kept = f }
 
   -- one whose state is the same
   still : (stop at : ℕ) (x : List ℕ) (pc : ℕ)
       → Related m s t (outcome stop at (record { x = x; pc = pc; hfi = m .hfi }) s) (outcome stop at (record { x = x; pc = pc; hfi = m .hfi }) t)
-  still stop at x pc = quiet stop at _ (record { regions = refl; options = refl })
+  still stop at x pc = quiet stop at _ refl
 
   by-test : (b : Bool) {o p o′ p′ : Outcome} → (b ≡ true → Related m s t o p) → (b ≡ false → Related m s t o′ p′)
       → Related m s t (cond b o o′) (cond b p p′)
@@ -84,7 +101,7 @@ module _ (m : Machine) (s t : List ℕ) where
   settle-related : (op refused absent : ℕ) (v : Verdict) (o p : Outcome) → (v ≡ Passed → Related m s t o p)
       → Related m s t (settle m s op refused absent v o) (settle m t op refused absent v p)
   unfolding settle
-  settle-related op refused absent (Refused at region) o p r = quiet refused 0 _ (record { regions = refl; options = refl })
+  settle-related op refused absent (Refused at region) o p r = quiet refused 0 _ refl
   settle-related op refused absent (Absent at) o p r = still absent at (m .x) (m .pc)
   settle-related op refused absent Passed o p r = r refl
 
@@ -124,7 +141,7 @@ module _ (m : Machine) (s t : List ℕ) (l : Locked m) (g : Agree m s t) where
             (λ j p q e. w (subst (Writable (m .hfi .regions)) (sym e) (reach _ (passing a h j (omega arith)))));
         long = length-written (a .count) 0 s (a .first) v;
         long′ = length-written (a .count) 0 t (a .first) v;
-        frame = record { regions = refl; options = refl };
+        kept = refl;
       }))
 
   mode-on : inside (m .hfi) ≡ true
@@ -145,7 +162,7 @@ module _ (m : Machine) (s t : List ℕ) (l : Locked m) (g : Agree m s t) where
   unfolding hfiPerform
   hfi-related next Enter a rd rs1 rs2 = barred Enter a _ _ mode-on
   hfi-related next EnterJump a rd rs1 rs2 = barred EnterJump a _ _ mode-on
-  hfi-related next Exit a rd rs1 rs2 = allowed-related m s t _ _ _ (quiet m s t 0 0 _ (record { regions = refl; options = refl }))
+  hfi-related next Exit a rd rs1 rs2 = allowed-related m s t _ _ _ (quiet m s t 0 0 _ refl)
   hfi-related next SelectRegion a rd rs1 rs2 = barred SelectRegion a _ _ lock-on
   hfi-related next SetBase a rd rs1 rs2 = barred SetBase a _ _ lock-on
   hfi-related next GetBase a rd rs1 rs2 = barred GetBase a _ _ lock-on
@@ -177,7 +194,7 @@ module _ (m : Machine) (s t : List ℕ) (l : Locked m) (g : Agree m s t) where
   perform-related w next (RegisterWord k rd rs1 rs2) d = still m s t 0 0 _ next
   perform-related w next (Fence fm pred succ rs1 rd) d = still m s t 0 0 _ next
   perform-related w next (System Ecall) d =
-      by-test m s t (redirectsCalls (m .hfi)) (λ e. quiet m s t 0 0 _ (record { regions = refl; options = refl })) (λ e. still m s t 18 0 _ _)
+      by-test m s t (redirectsCalls (m .hfi)) (λ e. quiet m s t 0 0 _ refl) (λ e. still m s t 18 0 _ _)
   perform-related w next (System Ebreak) d = still m s t 19 0 _ _
   perform-related w next (HLoad k rd rs1 imm) d =
       allowed-related m s t _ _ _
@@ -214,7 +231,7 @@ record Ends (m : Machine) (s t : List ℕ) (o p : Ended) : Type 0 where
   agreeing : (b : ℕ) → getD s b 0 ≡ getD t b 0 → getD (o .memory) b 0 ≡ getD (p .memory) b 0
   unwritten : (b : ℕ) → (Writable (m .hfi .regions) b → ⊥) → getD (o .memory) b 0 ≡ getD s b 0
   long : length (o .memory) ≡ length s
-  frame : Frame m (o .result .machine)
+  kept : Keeps m (o .result .machine)
 
 ends-by-test : (m : Machine) (s t : List ℕ) (b : Bool) {o p o′ p′ : Ended} → (b ≡ true → Ends m s t o p) → (b ≡ false → Ends m s t o′ p′)
     → Ends m s t (cond b o o′) (cond b p p′)
@@ -224,23 +241,23 @@ ends-by-test m s t false f g = g refl
 -- a run that is refused, or has no step left
 unmoved : (m : Machine) (s t : List ℕ) (stop count : ℕ) → Ends m s t (ended stop count 0 m s) (ended stop count 0 m t)
 unmoved m s t stop count =
-    record { result = refl; agreeing = λ b e. e; unwritten = λ b w. refl; long = refl; frame = record { regions = refl; options = refl } }
+    record { result = refl; agreeing = λ b e. e; unwritten = λ b w. refl; long = refl; kept = refl }
 
 module _ (m : Machine) (s t : List ℕ) (o p : Outcome) (r : Related m s t o p) where
   -- the run ends with the step
   last : (stop count at : ℕ)
       → Ends m s t (ended stop count at (o .result .machine) (o .memory)) (ended stop count at (o .result .machine) (p .memory))
-  last stop count at = record { result = refl; agreeing = r .agreeing; unwritten = r .unwritten; long = r .long; frame = r .frame }
+  last stop count at = record { result = refl; agreeing = r .agreeing; unwritten = r .unwritten; long = r .long; kept = r .kept }
 
   still-locked : Locked m → o .result .machine .hfi .mode ≡ 1 → Locked (o .result .machine)
-  still-locked l e = record { mode = e; lock = rw (r .frame .options) (l .lock) }
+  still-locked l e = record { mode = e; lock = rw (kept-options m (o .result .machine) (r .kept)) (l .lock) }
 
   still-agree : Agree m s t → Agree (o .result .machine) (o .memory) (p .memory)
   still-agree a =
       record {
         long = r .long ∙ a .long ∙ sym (r .long′);
-        readable = λ b h. r .agreeing b (a .readable b (rw (r .frame .regions) at h));
-        executable = λ b h. r .agreeing b (a .executable b (rw (r .frame .regions) at h));
+        readable = λ b h. r .agreeing b (a .readable b (rw (kept-regions m (o .result .machine) (r .kept)) at h));
+        executable = λ b h. r .agreeing b (a .executable b (rw (kept-regions m (o .result .machine) (r .kept)) at h));
       }
 
   -- the run goes on from the step
@@ -249,10 +266,9 @@ module _ (m : Machine) (s t : List ℕ) (o p : Outcome) (r : Related m s t o p) 
       record {
         result = h .result;
         agreeing = λ b q. h .agreeing b (r .agreeing b q);
-        unwritten = λ b w. h .unwritten b (λ v. w (rw (r .frame .regions) at v)) ∙ r .unwritten b w;
+        unwritten = λ b w. h .unwritten b (λ v. w (rw (kept-regions m (o .result .machine) (r .kept)) at v)) ∙ r .unwritten b w;
         long = h .long ∙ r .long;
-        frame =
-            record { regions = h .frame .regions ∙ r .frame .regions; options = h .frame .options ∙ r .frame .options };
+        kept = h .kept ∙ r .kept;
       }
 
 not-false : (b : Bool) → not b ≡ false → b ≡ true
@@ -303,15 +319,46 @@ isolation m s t budget l a =
 
 -- ---- what follows at once
 
--- the regions and options of a locked machine do not change in a run, its leaving step included
-pub locked-keeps : (m : Machine) (s : List ℕ) (budget : ℕ) → Locked m → Frame m (runCall m s budget .result .machine)
-locked-keeps m s budget l = call-related m s s budget l (record { long = refl; readable = λ b h. refl; executable = λ b h. refl }) .frame
+-- a locked machine's regions, options, handler and selector do not change in a run, its leaving step included
+pub locked-keeps : (m : Machine) (s : List ℕ) (budget : ℕ) → Locked m → Keeps m (runCall m s budget .result .machine)
+locked-keeps m s budget l = call-related m s s budget l (record { long = refl; readable = λ b h. refl; executable = λ b h. refl }) .kept
 
 -- nor in a step that is no run's
-pub locked-step-keeps : (m : Machine) (s : List ℕ) → Locked m → Frame m (advance m s .result .machine)
-locked-step-keeps m s l = step-related m s s l (record { long = refl; readable = λ b h. refl; executable = λ b h. refl }) .frame
+pub locked-step-keeps : (m : Machine) (s : List ℕ) → Locked m → Keeps m (advance m s .result .machine)
+locked-step-keeps m s l = step-related m s s l (record { long = refl; readable = λ b h. refl; executable = λ b h. refl }) .kept
 
 -- what a locked run leaves alone, of one memory by itself
 pub locked-unwritten : (m : Machine) (s : List ℕ) (budget a : ℕ) → Locked m → (Writable (m .hfi .regions) a → ⊥)
     → getD (runCall m s budget .memory) a 0 ≡ getD s a 0
 locked-unwritten m s budget a l w = call-related m s s budget l (record { long = refl; readable = λ b h. refl; executable = λ b h. refl }) .unwritten a w
+
+-- ---- the same from plain facts and in plain terms: each half-sentence of the demand for itself
+
+-- e and f are what the two runs answered and left
+pub runs-isolated : (m : Machine) (s t : List ℕ) (budget : ℕ) (e f : Ended) → e ≡ runCall m s budget → f ≡ runCall m t budget
+    → m .hfi .mode ≡ 1 → field (m .hfi .options) 0 1 ≡ 1 → length s ≡ length t
+    → ((a : ℕ) → Readable (m .hfi .regions) a → getD s a 0 ≡ getD t a 0)
+    → ((a : ℕ) → Executable (m .hfi .regions) a → getD s a 0 ≡ getD t a 0)
+    → (e .result .stop ≡ f .result .stop)
+    × (e .result .count ≡ f .result .count)
+    × (e .result .address ≡ f .result .address)
+    × (e .result .machine ≡ f .result .machine)
+    × (length (e .memory) ≡ length s)
+    × (length (f .memory) ≡ length t)
+    × ((a : ℕ) → getD s a 0 ≡ getD t a 0 → getD (e .memory) a 0 ≡ getD (f .memory) a 0)
+    × ((a : ℕ) → (Writable (m .hfi .regions) a → ⊥) → getD (e .memory) a 0 ≡ getD s a 0)
+    × ((a : ℕ) → (Writable (m .hfi .regions) a → ⊥) → getD (f .memory) a 0 ≡ getD t a 0)
+runs-isolated m s t budget e f p q mode lock long readable executable =
+    let l : Locked m = record { mode = mode; lock = lock } in
+    let a : Agree m s t = record { long = long; readable = readable; executable = executable } in
+    let i : Isolated m s t e f = rw (p, q) (isolation m s t budget l a) in (
+      ap (λ (r : Ran). r .stop) (i .answers),
+      ap (λ (r : Ran). r .count) (i .answers),
+      ap (λ (r : Ran). r .address) (i .answers),
+      ap (λ (r : Ran). r .machine) (i .answers),
+      i .long .0,
+      i .long .1,
+      i .agreeing,
+      (λ b w. i .unwritten b w .0),
+      (λ b w. i .unwritten b w .1),
+    )

@@ -3,8 +3,11 @@ pub mod Cleared
 pub mod Bytes
 pub mod Offset
 pub mod Intervals
+pub mod Rows
 pub mod Cases
+pub mod Clauses
 pub mod Isolation
 pub mod Reach
+pub mod Witness
 pub mod Runs
 pub mod WellKept

@@ -1,14 +1,18 @@
 -- Demand 3 read off the contract of the code's run, so that nobody has to join the two: two calls of `run`, each of which
--- met its contract, from one locked machine over memories that agree on what it may read or execute.
+-- met its contract, from one machine in HFI mode with regions locked, over memories of one length that agree wherever it may
+-- read or execute.
 -- Assumes nothing.
-use mathlib.Core.Path.{_≡_, ap, sym, subst}
+use mathlib.Core.Path.{_≡_, ap, _∙_}
 use mathlib.Core.List.{List}
 use Prim.Native.Nat.{ℕ, _≤_}
-use Rattle.model.specs.Run.{runCall}
-use Rattle.model.specs.Isolation.{Locked, Agree, Isolated}
+use lib.ListN.{length, getD}
+use Rattle.words.specs.Word.{field}
+use Rattle.model.specs.Reach.{Readable, Writable, Executable}
+use Rattle.model.specs.Run.{Ended, runCall}
+use Rattle.model.specs.Isolation.{Locked}
 use Rattle.model.specs.declared.Machine.{Machine}
 use Rattle.model.specs.declared.Ran.{Ran}
-use Rattle.model.proofs.Isolation.{isolation}
+use Rattle.model.proofs.Isolation.{Settings, settings, locked-keeps, runs-isolated}
 use Rattle.model.proofs.Runs.{count-at-most}
 use Rattle.run.specs.Answer.{answer}
 
@@ -16,11 +20,29 @@ use Rattle.run.specs.Answer.{answer}
 abbrev pub Called : Machine → List ℕ → ℕ → Ran → List ℕ → Type 0
 Called m s budget r s′ = answer r s′ ≡ runCall m s budget
 
--- the same isolation, of what the two calls answered and left
 pub calls-isolated : (m : Machine) (s t : List ℕ) (budget : ℕ) (r q : Ran) (s′ t′ : List ℕ) → Called m s budget r s′ → Called m t budget q t′
-    → Locked m → Agree m s t → Isolated m s t (answer r s′) (answer q t′)
-calls-isolated m s t budget r q s′ t′ e f l a =
-    subst (λ o. Isolated m s t o (answer q t′)) (sym e) (subst (λ o. Isolated m s t (runCall m s budget) o) (sym f) (isolation m s t budget l a))
+    → m .hfi .mode ≡ 1 → field (m .hfi .options) 0 1 ≡ 1 → length s ≡ length t
+    → ((a : ℕ) → Readable (m .hfi .regions) a → getD s a 0 ≡ getD t a 0)
+    → ((a : ℕ) → Executable (m .hfi .regions) a → getD s a 0 ≡ getD t a 0)
+    -- "both runs give the same stop, count, address and final machine"
+    → (r .stop ≡ q .stop)
+    × (r .count ≡ q .count)
+    × (r .address ≡ q .address)
+    × (r .machine ≡ q .machine)
+    -- "Each run has its own memory, compared at every address in it"
+    × (length s′ ≡ length s)
+    × (length t′ ≡ length t)
+    -- "every byte that agreed at the start agrees at the end"
+    × ((a : ℕ) → getD s a 0 ≡ getD t a 0 → getD s′ a 0 ≡ getD t′ a 0)
+    -- "no byte that the recipe may not write has changed"
+    × ((a : ℕ) → (Writable (m .hfi .regions) a → ⊥) → getD s′ a 0 ≡ getD s a 0)
+    × ((a : ℕ) → (Writable (m .hfi .regions) a → ⊥) → getD t′ a 0 ≡ getD t a 0)
+calls-isolated m s t budget r q s′ t′ e f = runs-isolated m s t budget (answer r s′) (answer q t′) e f
+
+-- a call from a locked machine leaves its regions, options, handler and selector as they were
+pub call-keeps : (m : Machine) (s : List ℕ) (budget : ℕ) (r : Ran) (s′ : List ℕ) → Called m s budget r s′ → Locked m
+    → settings (r .machine) ≡ settings m
+call-keeps m s budget r s′ e l = ap (λ (o : Ended). settings (o .result .machine)) e ∙ locked-keeps m s budget l
 
 -- a call's count is at most its budget
 pub call-count : (m : Machine) (s : List ℕ) (budget : ℕ) (r : Ran) (s′ : List ℕ) → Called m s budget r s′ → r .count ≤ budget

@@ -1,0 +1,352 @@
+-- Clauses of document 01 that no sheet can reach, since a sheet starts in HFI mode and ends when it leaves: rows of one
+-- table that one computed check covers, each with the whole machine and memory that the call leaves. Sentences of document
+-- 01 are quoted above their rows.
+-- Assumes nothing.
+use mathlib.Core.Path.{_≡_, refl}
+use mathlib.Core.Bool.{true, false}
+use mathlib.Core.List.{List, [], _∷_, _++_}
+use Prim.Native.Nat.{ℕ, _+_, _-_, _^_}
+use lib.Count.{trailingZeros}
+use lib.Dec.{ltb}
+use lib.ListN.{length}
+use Rattle.words.specs.Word.{sext}
+use Rattle.instructions.specs.Decode.{decodeWord}
+use Rattle.model.specs.Bytes.{value, written}
+use Rattle.model.specs.Outcome.{stopped, allowed, aligned, settle}
+use Rattle.model.specs.WellFormed.{stateFits, wellFormed}
+use Rattle.model.specs.Hfi.{hfiForbids, hWordForbids, hfiPerform}
+use Rattle.model.specs.Regions.{explicitRule, matches, firstMatch, implicitGrants, explicitGrants}
+use Rattle.model.specs.Access.{scan, firstRefused, firstAbsent, verdict}
+use Rattle.model.specs.Step.{load, store, perform, executeWord, advance, step, resume}
+use Rattle.model.specs.Run.{ended, run, runCall}
+use Rattle.model.specs.declared.Machine.{Machine}
+use Rattle.model.proofs.Rows.{Row, Question, Answer, found, stated, x, pc, mode, reason, epc, options, handler, selector, base, bound, permission, occurred, blamed, op, faulting, with, bytes}
+use Rattle.model.proofs.Rows.Question.{judging, stepping, running, resuming}
+use Rattle.model.proofs.Rows.Answer.{told, gave}
+
+-- ---- words; those that read a register read x5 (and x6), those that write one write x6
+
+abbrev enter : ℕ
+enter = 0x0002805b
+
+-- options in x5, target in x6
+abbrev enterJump : ℕ
+enterJump = 0x0262805b
+
+abbrev exit : ℕ
+exit = 0x0400005b
+
+abbrev select : ℕ
+select = 0x0602805b
+
+abbrev setBase : ℕ
+setBase = 0x0802805b
+
+abbrev getBase : ℕ
+getBase = 0x0a00035b
+
+abbrev setBound : ℕ
+setBound = 0x0c02805b
+
+abbrev getBound : ℕ
+getBound = 0x0e00035b
+
+abbrev setPermission : ℕ
+setPermission = 0x1002805b
+
+abbrev getPermission : ℕ
+getPermission = 0x1200035b
+
+abbrev setHandler : ℕ
+setHandler = 0x1402805b
+
+abbrev getHandler : ℕ
+getHandler = 0x1600035b
+
+abbrev reset : ℕ
+reset = 0x1800005b
+
+abbrev ecall : ℕ
+ecall = 0x00000073
+
+abbrev ebreak : ℕ
+ebreak = 0x00100073
+
+-- addi x7, x0, 7
+abbrev seven : ℕ
+seven = 0x00700393
+
+-- hlb x6 at 0, hsb x6 at 0, hld x6 at 0, ld x6, 0(x5), sd x6, 0(x5)
+abbrev hlb : ℕ
+hlb = 0x0000030b
+
+abbrev hsb : ℕ
+hsb = 0x0060002b
+
+abbrev hld : ℕ
+hld = 0x0000330b
+
+abbrev ld : ℕ
+ld = 0x0002b303
+
+abbrev sd : ℕ
+sd = 0x0062b023
+
+-- ---- machines: outside or in HFI mode with these options, and something in every place that a word might change
+
+abbrev busy : List (ℕ × ℕ)
+busy =
+    (reason, 2) ∷ (epc, 0x88) ∷ (handler, 0x40) ∷ (selector, 2)
+    ∷ (base 1, 0x10) ∷ (bound 1, 8) ∷ (permission 1, 3)
+    ∷ (base 2, 0x40) ∷ (bound 2, 0xffffffffffffffc0) ∷ (permission 2, 1)
+    ∷ (bound 3, 0xffffffffffffffe0) ∷ (permission 3, 4)
+    ∷ (occurred, 1) ∷ (blamed, 2) ∷ (op, 1) ∷ (faulting, 0x99) ∷ []
+
+abbrev outside : ℕ → List (ℕ × ℕ)
+outside o = busy ++ ((options, o) ∷ [])
+
+abbrev inside : ℕ → List (ℕ × ℕ)
+inside o = busy ++ ((mode, 1) ∷ (options, o) ∷ [])
+
+-- what x5 and x6 hold
+abbrev operands : ℕ → ℕ → List (ℕ × ℕ)
+operands a b = (x 5, a) ∷ (x 6, b) ∷ []
+
+-- ---- rows
+
+-- a step over these bytes, its stop and address, and the places of the machine that it changes; the memory stays
+abbrev stepsOver : List (ℕ × ℕ) → List ℕ → ℕ → ℕ → List (ℕ × ℕ) → Row
+stepsOver start mem stop address changes = (stepping (with start) mem, gave stop 0 address (with (start ++ changes)) mem)
+
+abbrev steps : List (ℕ × ℕ) → ℕ → ℕ → List (ℕ × ℕ) → Row
+steps start w stop changes = stepsOver start (bytes (w ∷ [])) stop 0 changes
+
+-- a step that completes and goes to the next word
+abbrev goes : List (ℕ × ℕ) → ℕ → List (ℕ × ℕ) → Row
+goes start w changes = steps start w 0 ((pc, 4) ∷ changes)
+
+-- a step that question 8 stops
+abbrev forbidden : List (ℕ × ℕ) → ℕ → Row
+forbidden start w = steps start w 14 []
+
+-- a run over words: its budget, stop, count and address, and the places that it changes
+abbrev runs : List (ℕ × ℕ) → List ℕ → ℕ → ℕ → ℕ → ℕ → List (ℕ × ℕ) → Row
+runs start ws budget stop count address changes =
+    (running (with start) (bytes ws) budget, gave stop count address (with (start ++ changes)) (bytes ws))
+
+abbrev resumes : List (ℕ × ℕ) → ℕ → ℕ → List (ℕ × ℕ) → Row
+resumes start v stop changes = (resuming (with start) v, gave stop 0 0 (with (start ++ changes)) [])
+
+unfoldable pub entering : List Row
+entering =
+    -- "Enter: mode 1, options stored, occurred cleared."
+    goes (outside 6 ++ operands 15 0) enter ((mode, 1) ∷ (options, 15) ∷ (occurred, 0) ∷ [])
+    ∷ goes (outside 6 ++ operands 0 0) enter ((mode, 1) ∷ (options, 0) ∷ (occurred, 0) ∷ [])
+    -- "The jump form sets pc to rs2."
+    ∷ steps (outside 6 ++ operands 9 0x100) enterJump 0 ((pc, 0x100) ∷ (mode, 1) ∷ (options, 9) ∷ (occurred, 0) ∷ [])
+    -- "Is the target of .. an enter with jump a multiple of 4?"
+    ∷ steps (outside 6 ++ operands 9 0x102) enterJump 15 []
+    -- "an options operand above 15", before the target
+    ∷ forbidden (outside 6 ++ operands 16 0) enter
+    ∷ forbidden (outside 6 ++ operands (2 ^ 32) 0) enter
+    ∷ forbidden (outside 6 ++ operands 16 0x102) enterJump
+    ∷ forbidden (outside 6 ++ operands (2 ^ 32) 0x100) enterJump
+    -- "enter in HFI mode"
+    ∷ forbidden (inside 0 ++ operands 0 0) enter
+    ∷ forbidden (inside 0 ++ operands 0 0x100) enterJump
+    ∷ []
+
+unfoldable pub leaving : List Row
+leaving =
+    -- "exit or an h-word outside it"
+    forbidden (outside 0) exit
+    ∷ forbidden (outside 4) exit
+    ∷ forbidden (outside 0) hlb
+    ∷ forbidden (outside 0) hsb
+    -- "Exit: mode 0, reason 1, exit pc is this pc; then pc is the handler if exits are redirected, else pc + 4."
+    ∷ goes (inside 0xb) exit ((mode, 0) ∷ (reason, 1) ∷ (epc, 0) ∷ [])
+    ∷ steps (inside 4) exit 0 ((pc, 0x40) ∷ (mode, 0) ∷ (reason, 1) ∷ (epc, 0) ∷ [])
+    -- "ECALL in HFI mode with bit 1 set: mode 0, reason 2, exit pc is this pc, pc is the handler."
+    ∷ steps (inside 2) ecall 0 ((pc, 0x40) ∷ (mode, 0) ∷ (reason, 2) ∷ (epc, 0) ∷ [])
+    ∷ steps (inside 0xd) ecall 18 []
+    ∷ steps (outside 2) ecall 18 []
+    ∷ []
+
+-- the region words and get handler, where nothing forbids them: x5 is 3
+abbrev manipulating : List (ℕ × ℕ) → List Row
+manipulating start =
+    goes start select ((selector, 3) ∷ [])
+    ∷ goes start setBase ((base 2, 3) ∷ [])
+    ∷ goes start getBase ((x 6, 0x40) ∷ [])
+    ∷ goes start setBound ((bound 2, 3) ∷ [])
+    ∷ goes start getBound ((x 6, 0xffffffffffffffc0) ∷ [])
+    ∷ goes start setPermission ((permission 2, 3) ∷ [])
+    ∷ goes start getPermission ((x 6, 1) ∷ [])
+    ∷ goes start getHandler ((x 6, 0x40) ∷ [])
+    -- "Reset zeroes regions and selector."
+    ∷ goes start reset
+    ((selector, 0) ∷ (base 1, 0) ∷ (bound 1, 0) ∷ (permission 1, 0) ∷ (base 2, 0) ∷ (bound 2, 0) ∷ (permission 2, 0)
+    ∷ (base 3, 0) ∷ (bound 3, 0) ∷ (permission 3, 0) ∷ [])
+    ∷ []
+
+unfoldable pub locking : List Row
+locking =
+    -- "Bit 0 lock regions" is asked in HFI mode only; "set handler in HFI mode, locked or unlocked"
+    manipulating (outside 1 ++ operands 3 0)
+    ++ manipulating (inside 0xe ++ operands 3 0)
+    -- "Set handler clears bits 0, 1, 62, 63."
+    ++ (goes (outside 1 ++ operands (2 ^ 64 - 1) 0) setHandler ((handler, 0x3ffffffffffffffc) ∷ [])
+    ∷ forbidden (inside 0xe ++ operands 3 0) setHandler
+    -- "funct7 3 to 9, 11 or 12 in HFI mode when locked"
+    ∷ forbidden (inside 1 ++ operands 3 0) select
+    ∷ forbidden (inside 1 ++ operands 3 0) setBase
+    ∷ forbidden (inside 1) getBase
+    ∷ forbidden (inside 1 ++ operands 3 0) setBound
+    ∷ forbidden (inside 1) getBound
+    ∷ forbidden (inside 1 ++ operands 3 0) setPermission
+    ∷ forbidden (inside 1) getPermission
+    ∷ forbidden (inside 1 ++ operands 3 0) setHandler
+    ∷ forbidden (inside 1) getHandler
+    ∷ forbidden (inside 1) reset
+    -- "a selected number not 1 to 3": the whole register
+    ∷ forbidden (outside 0 ++ operands 0 0) select
+    ∷ forbidden (outside 0 ++ operands 4 0) select
+    ∷ forbidden (outside 0 ++ operands (2 ^ 32 + 1) 0) select
+    -- "funct7 4 to 9 with selector 0"
+    ∷ forbidden (outside 0 ++ ((selector, 0) ∷ [])) setBase
+    ∷ forbidden (outside 0 ++ ((selector, 0) ∷ [])) getBase
+    ∷ forbidden (outside 0 ++ ((selector, 0) ∷ [])) setBound
+    ∷ forbidden (outside 0 ++ ((selector, 0) ∷ [])) getBound
+    ∷ forbidden (outside 0 ++ ((selector, 0) ∷ [])) setPermission
+    ∷ forbidden (outside 0 ++ ((selector, 0) ∷ [])) getPermission
+    -- "a permission bit the region lacks"
+    ∷ forbidden (outside 0 ++ ((selector, 1) ∷ (x 5, 4) ∷ [])) setPermission
+    ∷ forbidden (outside 0 ++ ((selector, 2) ∷ (x 5, 8) ∷ [])) setPermission
+    ∷ forbidden (outside 0 ++ ((selector, 3) ∷ (x 5, 1) ∷ [])) setPermission
+    ∷ [])
+
+unfoldable pub running-on : List Row
+running-on =
+    -- "After a step of a run that began in HFI mode: is the mode still on?" A run that began outside goes on.
+    runs (outside 0 ++ operands 0 0) (enter ∷ exit ∷ seven ∷ []) 3 21 3 0
+    ((pc, 12) ∷ (x 7, 7) ∷ (reason, 1) ∷ (epc, 4) ∷ (options, 0) ∷ (occurred, 0) ∷ [])
+    ∷ runs (outside 0 ++ operands 0 0) (enter ∷ exit ∷ enter ∷ exit ∷ ebreak ∷ []) 9 19 4 0
+    ((pc, 16) ∷ (reason, 1) ∷ (epc, 12) ∷ (options, 0) ∷ (occurred, 0) ∷ [])
+    ∷ runs (outside 0 ++ operands 0 0) (enter ∷ seven ∷ ecall ∷ []) 9 18 2 0 ((pc, 8) ∷ (x 7, 7) ∷ (mode, 1) ∷ (occurred, 0) ∷ [])
+    ∷ runs (inside 0) (seven ∷ exit ∷ seven ∷ []) 9 20 2 0 ((pc, 8) ∷ (x 7, 7) ∷ (mode, 0) ∷ (reason, 1) ∷ (epc, 4) ∷ [])
+    ∷ runs (inside 6) (exit ∷ []) 1 20 1 0 ((pc, 0x40) ∷ (mode, 0) ∷ (reason, 1) ∷ (epc, 0) ∷ [])
+    ∷ runs (inside 6) (ecall ∷ []) 9 20 1 0 ((pc, 0x40) ∷ (mode, 0) ∷ (reason, 2) ∷ (epc, 0) ∷ [])
+    -- "Before each step of a run: does the budget have a step left?"
+    ∷ runs (inside 0) (ebreak ∷ []) 0 21 0 0 []
+    -- 2 and 3, in that order and before 21
+    ∷ runs (inside 0) (0 ∷ []) 1000000 13 0 0 []
+    ∷ runs (inside 0) (0 ∷ []) 1000001 2 0 0 []
+    ∷ runs (inside 16) (0 ∷ []) 1000001 2 0 0 []
+    ∷ runs (inside 16) (0 ∷ []) 0 3 0 0 []
+    ∷ []
+
+unfoldable pub absent : List Row
+absent =
+    -- "12 and 17 also give the first absent address, counted from the access's start": here it is not the first byte
+    stepsOver (outside 0 ++ ((pc, 8) ∷ [])) (bytes (0 ∷ 0 ∷ []) ++ (0 ∷ 0 ∷ [])) 12 10 []
+    ∷ stepsOver (inside 0 ++ ((pc, 8) ∷ [])) (bytes (0 ∷ 0 ∷ []) ++ (0 ∷ [])) 12 9 []
+    ∷ stepsOver (outside 0 ++ operands 1 0) (bytes (ld ∷ []) ++ (0 ∷ [])) 17 5 []
+    ∷ stepsOver (outside 0 ++ operands 2 0) (bytes (sd ∷ [])) 17 4 []
+    ∷ stepsOver (inside 0 ++ ((base 1, 1) ∷ [])) (bytes (hld ∷ []) ++ (0 ∷ 0 ∷ [])) 17 6 []
+    -- and here it is
+    ∷ stepsOver (outside 0 ++ ((pc, 0x44) ∷ [])) (bytes (0 ∷ [])) 12 0x44 []
+    ∷ stepsOver (outside 0 ++ operands (2 ^ 64 - 1) 0) (bytes (ld ∷ [])) 17 (2 ^ 64 - 1) []
+    -- every byte is asked for its region before any for memory's end
+    ∷ stepsOver (inside 0 ++ operands 0x7c 0) (bytes (ld ∷ [])) 16 0 ((occurred, 1) ∷ (blamed, 0) ∷ (op, 1) ∷ (faulting, 0x80) ∷ [])
+    ∷ []
+
+unfoldable pub going-on : List Row
+going-on =
+    -- "Resuming .. puts a given value in x10 and adds 4 to pc; it asks question 3 only."
+    resumes (outside 6 ++ ((x 10, 5) ∷ (x 11, 6) ∷ (pc, 6) ∷ [])) 9 0 ((x 10, 9) ∷ (pc, 10) ∷ [])
+    ∷ resumes (inside 1 ++ ((pc, 2 ^ 64 - 4) ∷ [])) (2 ^ 64 - 1) 0 ((x 10, 2 ^ 64 - 1) ∷ (pc, 0) ∷ [])
+    ∷ resumes (inside 16) 9 3 []
+    ∷ []
+
+-- a machine with v in a place, and whether it is well formed
+abbrev judged : ℕ → ℕ → Row
+judged place v = (judging (with (busy ++ ((place, v) ∷ []))), told true)
+
+abbrev misjudged : ℕ → ℕ → Row
+misjudged place v = (judging (with (busy ++ ((place, v) ∷ []))), told false)
+
+unfoldable pub forming : List Row
+forming =
+    -- "x0 is 0"
+    misjudged (x 0) 1
+    -- "mode at most 1, reason at most 2, options at most 15"
+    ∷ judged mode 1
+    ∷ misjudged mode 2
+    ∷ judged reason 2
+    ∷ misjudged reason 3
+    ∷ judged options 15
+    ∷ misjudged options 16
+    -- "handler bits 0, 1, 62, 63 clear"
+    ∷ judged handler 0x3ffffffffffffffc
+    ∷ misjudged handler 1
+    ∷ misjudged handler 2
+    ∷ misjudged handler (2 ^ 62)
+    ∷ misjudged handler (2 ^ 63)
+    -- "selector 0 to 3, 0 for none"
+    ∷ judged selector 0
+    ∷ judged selector 3
+    ∷ misjudged selector 4
+    -- "only the permission bits listed"
+    ∷ judged (permission 1) 0xb
+    ∷ misjudged (permission 1) 4
+    ∷ misjudged (permission 1) 16
+    ∷ judged (permission 2) 3
+    ∷ misjudged (permission 2) 4
+    ∷ misjudged (permission 2) 8
+    ∷ judged (permission 3) 4
+    ∷ misjudged (permission 3) 1
+    ∷ misjudged (permission 3) 2
+    ∷ misjudged (permission 3) 8
+    -- "occurred at most 1, fault region and op at most 3"
+    ∷ misjudged occurred 2
+    ∷ judged blamed 3
+    ∷ misjudged blamed 4
+    ∷ judged op 3
+    ∷ misjudged op 4
+    -- nothing is asked of the others
+    ∷ judged (x 31) (2 ^ 64 - 1)
+    ∷ judged pc (2 ^ 64 - 1)
+    ∷ judged epc (2 ^ 64 - 1)
+    ∷ judged (base 1) (2 ^ 64 - 1)
+    ∷ judged (bound 3) (2 ^ 64 - 1)
+    ∷ judged faulting (2 ^ 64 - 1)
+    -- each call asks it, and "For 1 to 3 nothing changes"
+    ∷ steps (outside 16) seven 3 []
+    ∷ runs (outside 16) (seven ∷ []) 1 3 0 0 []
+    ∷ resumes (outside 16) 7 3 []
+    ∷ []
+
+abbrev pub rows : List Row
+rows = entering ++ leaving ++ locking ++ running-on ++ absent ++ going-on ++ forming
+
+pub clauses : found rows ≡ stated rows
+unfolding entering leaving locking running-on absent going-on forming trailingZeros sext decodeWord matches explicitRule firstMatch implicitGrants explicitGrants scan firstRefused firstAbsent verdict value written allowed aligned settle stateFits wellFormed hfiForbids hWordForbids hfiPerform load store perform executeWord advance step resume run runCall
+clauses = refl
+
+-- ---- "Is memory no longer than 16,777,216?" of memories that are too long to write down
+
+pub longest-step : (m : Machine) (mem : List ℕ) → length mem ≡ 16777216 → wellFormed m ≡ true → step m mem ≡ advance m mem
+unfolding step
+longest-step m mem e w = rw (e, w) refl
+
+pub too-long-step : (m : Machine) (mem : List ℕ) → length mem ≡ 16777217 → step m mem ≡ stopped 1 m mem
+unfolding step
+too-long-step m mem e = rw e refl
+
+pub longest-run : (m : Machine) (mem : List ℕ) → length mem ≡ 16777216 → wellFormed m ≡ true → runCall m mem 0 ≡ ended 21 0 0 m mem
+unfolding runCall run
+longest-run m mem e w = rw (e, w) refl
+
+pub too-long-run : (m : Machine) (mem : List ℕ) (budget : ℕ) → length mem ≡ 16777217 → runCall m mem budget ≡ ended 1 0 0 m mem
+unfolding runCall
+too-long-run m mem budget e = rw e refl

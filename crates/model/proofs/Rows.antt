@@ -1,0 +1,145 @@
+-- Questions put to the definitions, and their answers: the rows of the tables in Cases.antt and Clauses.antt.
+-- Assumes nothing.
+use mathlib.Core.Bool.{Bool}
+use mathlib.Core.List.{List, [], _∷_, _++_}
+use Prim.Native.Nat.{ℕ, _+_, _*_, _/_, _%_}
+use lib.ListN.{getD, set, take, replicate}
+use Rattle.instructions.specs.Decode.{decodeWord}
+use Rattle.instructions.specs.declared.instruction.Decoded.{Decoded}
+use Rattle.model.specs.Machine.{machine}
+use Rattle.model.specs.Regions.{matches, explicitRule}
+use Rattle.model.specs.WellFormed.{wellFormed}
+use Rattle.model.specs.Step.{step, resume}
+use Rattle.model.specs.Run.{runCall}
+use Rattle.model.specs.declared.Region.{Region}
+use Rattle.model.specs.declared.Machine.{Machine}
+
+-- ---- machines, by what they have in the places of the record that are not 0
+
+abbrev pub x : ℕ → ℕ
+x n = n
+
+abbrev pub pc : ℕ
+pc = 32
+
+abbrev pub mode : ℕ
+mode = 33
+
+abbrev pub reason : ℕ
+reason = 34
+
+abbrev pub epc : ℕ
+epc = 35
+
+abbrev pub options : ℕ
+options = 36
+
+abbrev pub handler : ℕ
+handler = 37
+
+abbrev pub selector : ℕ
+selector = 38
+
+-- region n's three numbers
+abbrev pub base : ℕ → ℕ
+base n = 36 + 3 * n
+
+abbrev pub bound : ℕ → ℕ
+bound n = 37 + 3 * n
+
+abbrev pub permission : ℕ → ℕ
+permission n = 38 + 3 * n
+
+-- the fault record's four
+abbrev pub occurred : ℕ
+occurred = 48
+
+abbrev pub blamed : ℕ
+blamed = 49
+
+abbrev pub op : ℕ
+op = 50
+
+abbrev pub faulting : ℕ
+faulting = 51
+
+-- numbers with v put in place n, for each pair (n, v); a later pair counts
+abbrev pub puts : List ℕ → List (ℕ × ℕ) → List ℕ
+puts ns [] = ns
+puts ns (p ∷ ps) = puts (set ns (p .0) (p .1)) ps
+
+abbrev pub regionOf : ℕ → ℕ → ℕ → Region
+regionOf b n p = record { base = b; bound = n; permission = p }
+
+abbrev regionIn : List ℕ → ℕ → Region
+regionIn ns n = regionOf (getD ns (base n) 0) (getD ns (bound n) 0) (getD ns (permission n) 0)
+
+abbrev machineIn : List ℕ → Machine
+machineIn ns =
+    machine (take 32 ns) (getD ns pc 0)
+    (record {
+      mode = getD ns mode 0;
+      reason = getD ns reason 0;
+      epc = getD ns epc 0;
+      options = getD ns options 0;
+      handler = getD ns handler 0;
+      selector = getD ns selector 0;
+      regions = regionIn ns 1 ∷ regionIn ns 2 ∷ regionIn ns 3 ∷ [];
+      fault = record { occurred = getD ns occurred 0; region = getD ns blamed 0; op = getD ns op 0; address = getD ns faulting 0 };
+    })
+
+-- the machine that is all 0 but for these places
+abbrev pub with : List (ℕ × ℕ) → Machine
+with ps = machineIn (puts (replicate 52 0) ps)
+
+-- ---- memories
+
+-- the bytes of words, one word after another from address 0 on
+abbrev pub bytes : List ℕ → List ℕ
+bytes [] = []
+bytes (w ∷ ws) = w % 256 ∷ w / 256 % 256 ∷ w / 65536 % 256 ∷ w / 16777216 ∷ bytes ws
+
+-- ---- questions and answers
+
+pub data Question : Type 0 where
+  -- what a word is
+  decoding : ℕ → Question
+  -- does an implicit region match the byte at an address?
+  matching : Region → ℕ → Question
+  -- does an explicit region keep its rule?
+  ruling : Region → Question
+  -- is a machine well formed?
+  judging : Machine → Question
+  -- the calls: a step, a run with its budget, a resumption with its value
+  stepping : Machine → List ℕ → Question
+  running : Machine → List ℕ → ℕ → Question
+  resuming : Machine → ℕ → Question
+
+pub data Answer : Type 0 where
+  decoded : Decoded → Answer
+  told : Bool → Answer
+  -- stop, count, address, machine and memory; a step and a resumption have no count, a resumption no memory
+  gave : ℕ → ℕ → ℕ → Machine → List ℕ → Answer
+
+abbrev pub answered : Question → Answer
+answered (decoding w) = decoded (decodeWord w)
+answered (matching r a) = told (matches r a)
+answered (ruling r) = told (explicitRule r)
+answered (judging m) = told (wellFormed m)
+answered (stepping m mem) = let o = step m mem in gave (o .result .stop) 0 (o .result .address) (o .result .machine) (o .memory)
+answered (running m mem budget) =
+    let e = runCall m mem budget in gave (e .result .stop) (e .result .count) (e .result .address) (e .result .machine) (e .memory)
+answered (resuming m v) = let r = resume m v in gave (r .stop) 0 (r .address) (r .machine) []
+
+-- a question with the answer that it must have
+abbrev pub Row : Type 0
+Row = Question × Answer
+
+-- what the definitions answer to the questions of a table, and what the table says; a check is that the two lists are one
+abbrev pub found : List Row → List Answer
+found [] = []
+found (r ∷ rs) = answered (r .0) ∷ found rs
+
+abbrev pub stated : List Row → List Answer
+stated [] = []
+stated (r ∷ rs) = r .1 ∷ stated rs

@@ -1,0 +1,100 @@
+-- Demand 3 is not empty: a locked machine, two different memories that agree on what it may read or execute, and what its
+-- runs over them do, computed. The guest stores a byte, loads one and leaves.
+-- Assumes nothing.
+use mathlib.Core.Path.{_≡_, refl, ap, sym, _∙_}
+use mathlib.Core.Bool.{true, false≢true}
+use mathlib.Core.List.{List, [], _∷_, _++_}
+use mathlib.Core.Logic.{inl, inr}
+use Prim.Native.Nat.{ℕ, _<_}
+use native.Mathlib.Omega.{arith}
+use lib.Count.{trailingZeros}
+use lib.ListN.{getD, List·getD-append}
+use Rattle.words.specs.Word.{sext}
+use Rattle.instructions.specs.Decode.{decodeWord}
+use Rattle.model.specs.Machine.{region}
+use Rattle.model.specs.Bytes.{value, written}
+use Rattle.model.specs.Outcome.{allowed, settle}
+use Rattle.model.specs.WellFormed.{stateFits, wellFormed}
+use Rattle.model.specs.Hfi.{hfiForbids, hWordForbids, hfiPerform}
+use Rattle.model.specs.Regions.{read, execute, codeRegions, explicitRule, matches, firstMatch, implicitGrants, explicitGrants}
+use Rattle.model.specs.Access.{scan, firstRefused, firstAbsent, verdict}
+use Rattle.model.specs.Reach.{InData, InImplicit}
+use Rattle.model.specs.Step.{load, store, perform, executeWord, advance}
+use Rattle.model.specs.Run.{run, runCall}
+use Rattle.model.specs.Isolation.{Locked, Agree}
+use Rattle.model.specs.declared.Machine.{Machine}
+use Rattle.model.proofs.Intervals.{zero-matches-none, matches-inside}
+use Rattle.model.proofs.Reach.{readable-form, executable-form, single-granted}
+use Rattle.model.proofs.Rows.{Row, Question, Answer, found, stated, x, pc, mode, reason, epc, options, base, bound, permission, puts, with, bytes}
+use Rattle.model.proofs.Rows.Question.{running}
+use Rattle.model.proofs.Rows.Answer.{gave}
+
+-- region 1 grants the four bytes at 10, region 3 the sixteen at 0
+abbrev start : List (ℕ × ℕ)
+start =
+    (mode, 1) ∷ (options, 1) ∷ (x 10, 7) ∷ (base 1, 0x10) ∷ (bound 1, 4) ∷ (permission 1, 3)
+    ∷ (bound 3, 0xfffffffffffffff0) ∷ (permission 3, 4) ∷ []
+
+abbrev pub guest : Machine
+guest = with start
+
+-- hsb x10 at 1; hlb x11 at 0; hfiexit; a word that is none; and the granted bytes 4, 3, 2, 1
+abbrev common : List ℕ
+common = bytes (0x00a000ab ∷ 0x0000058b ∷ 0x0400005b ∷ 0 ∷ 0x01020304 ∷ [])
+
+-- and four bytes that are not the guest's
+abbrev before : ℕ → List ℕ
+before v = common ++ (v ∷ v ∷ v ∷ v ∷ [])
+
+abbrev pub one : List ℕ
+one = before 9
+
+abbrev pub two : List ℕ
+two = before 8
+
+pub locked : Locked guest
+locked = record { mode = refl; lock = refl }
+
+pub different : one ≡ two → ⊥
+different e =
+    let h : _≡_ {A = ℕ} 9 8 = ap (λ (l : List ℕ). getD l 20 0) e in
+    omega (arith, h)
+
+common-same : (a : ℕ) → a < 20 → getD one a 0 ≡ getD two a 0
+common-same a h = List·getD-append common (9 ∷ 9 ∷ 9 ∷ 9 ∷ []) 0 a h ∙ sym (List·getD-append common (8 ∷ 8 ∷ 8 ∷ 8 ∷ []) 0 a h)
+
+-- region 2 is zero, and matches nothing
+unmatched : (b : ℕ) → matches (region (guest .hfi .regions) 2) b ≡ true → ⊥
+unmatched b e = false≢true (sym (zero-matches-none (region (guest .hfi .regions) 2) b refl) ∙ e)
+
+agree-read : (b : ℕ) → InData (guest .hfi .regions) read b → getD one b 0 ≡ getD two b 0
+agree-read b (inl i) = absurd (unmatched b (single-granted (guest .hfi .regions) 2 read b (i .granted) .0))
+agree-read b (inr i) = common-same b (i .end)
+
+agree-execute : (b : ℕ) → InImplicit (guest .hfi .regions) codeRegions execute b → getD one b 0 ≡ getD two b 0
+unfolding trailingZeros
+agree-execute b i =
+    let h = matches-inside (region (guest .hfi .regions) 3) b (i .address) (single-granted (guest .hfi .regions) 3 execute b (i .granted) .0) in
+    let l : b < 16 = h .1 in
+    common-same b (omega arith)
+
+pub agree : Agree guest one two
+agree =
+    record {
+      long = refl;
+      readable = λ b h. agree-read b (readable-form (guest .hfi .regions) b h);
+      executable = λ b h. agree-execute b (executable-form (guest .hfi .regions) b h);
+    }
+
+-- ---- what the runs do: three steps, one answer, one byte written, and what is not the guest's as it was
+
+abbrev answer : List ℕ → Answer
+answer mem =
+    gave 20 3 0 (with (start ++ ((x 11, 4) ∷ (pc, 12) ∷ (mode, 0) ∷ (reason, 1) ∷ (epc, 8) ∷ []))) (puts mem ((0x11, 7) ∷ []))
+
+abbrev rows : List Row
+rows = (running guest one 9, answer one) ∷ (running guest two 9, answer two) ∷ []
+
+pub runs-done : found rows ≡ stated rows
+unfolding trailingZeros sext decodeWord matches explicitRule firstMatch implicitGrants explicitGrants scan firstRefused firstAbsent verdict value written allowed settle stateFits wellFormed hfiForbids hWordForbids hfiPerform load store perform executeWord advance run runCall
+runs-done = refl
