@@ -21,7 +21,7 @@ use Rattle.model.specs.Regions.{explicitRule, matches, firstMatch, impli
 use Rattle.model.specs.Access.{scan, firstRefused, firstAbsent, verdict}
 use Rattle.model.specs.Step.{store, perform, executeWord, advance, step}
 use Rattle.model.specs.Run.{run, runCall}
-use Rattle.model.proofs.Rows.{Row, Question, Answer, found, stated, x, pc, mode, base, bound, permission, handler, occurred, blamed, op, faulting, puts, regionOf, with, bytes}
+use Rattle.model.proofs.Rows.{Row, found, stated, x, pc, mode, base, bound, permission, handler, occurred, blamed, op, faulting, puts, regionOf, with, bytes}
 use Rattle.model.proofs.Rows.Question.{decoding, matching, ruling, stepping, running}
 use Rattle.model.proofs.Rows.Answer.{decoded, told, gave}
 

@@ -7,7 +7,6 @@ use mathlib.Core.Bool.{true, false}
 use mathlib.Core.List.{List, [], _∷_, _++_}
 use Prim.Native.Nat.{ℕ, _+_, _-_, _^_}
 use lib.Count.{trailingZeros}
-use lib.Dec.{ltb}
 use lib.ListN.{length}
 use Rattle.words.specs.Word.{sext}
 use Rattle.instructions.specs.Decode.{decodeWord}
@@ -20,7 +19,7 @@ use Rattle.model.specs.Access.{scan, firstRefused, firstAbsent, verdict}
 use Rattle.model.specs.Step.{load, store, perform, executeWord, advance, step, resume}
 use Rattle.model.specs.Run.{ended, run, runCall}
 use Rattle.model.specs.declared.Machine.{Machine}
-use Rattle.model.proofs.Rows.{Row, Question, Answer, found, stated, x, pc, mode, reason, epc, options, handler, selector, base, bound, permission, occurred, blamed, op, faulting, with, bytes}
+use Rattle.model.proofs.Rows.{Row, found, stated, x, pc, mode, reason, epc, options, handler, selector, base, bound, permission, occurred, blamed, op, faulting, with, bytes}
 use Rattle.model.proofs.Rows.Question.{judging, stepping, running, resuming}
 use Rattle.model.proofs.Rows.Answer.{told, gave}
 

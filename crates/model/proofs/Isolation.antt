@@ -2,9 +2,9 @@
 -- One step first, by the three doors to memory and one line for all other instructions; then the run, by its budget.
 -- Assumes nothing.
 use mathlib.Core.Path.{_≡_, refl, ap, sym, subst, _∙_}
-use mathlib.Core.Bool.{Bool, true, false, cond, not, _&&_}
+use mathlib.Core.Bool.{Bool, true, false, cond, not}
 use mathlib.Core.List.{List}
-use Prim.Native.Nat.{ℕ, zero, suc, _+_, _*_, _/_, _%_, _^_, _<_, _≤_}
+use Prim.Native.Nat.{ℕ, zero, suc, _%_, _<_}
 use native.Mathlib.Omega.{arith}
 use lib.ListN.{length, getD}
 use lib.Dec.{eqb, ltb}
@@ -22,12 +22,12 @@ use Rattle.instructions.specs.declared.instruction.Decoded.{Decoded}
 use Rattle.instructions.specs.declared.instruction.Decoded.the-variants.{Legal, Illegal}
 use Rattle.model.specs.Machine.{inside, locked, reg, redirectsCalls}
 use Rattle.model.specs.WellFormed.{wellFormed}
-use Rattle.model.specs.Bytes.{byteOf, value, written}
+use Rattle.model.specs.Bytes.{byteOf, value}
 use Rattle.model.specs.Access.{Access, verdict, fetchAccess, loadAccess, storeAccess, hloadAccess, hstoreAccess}
 use Rattle.model.specs.Reach.{Passes, Readable, Writable, Executable}
 use Rattle.model.specs.Outcome.{Outcome, outcome, allowed, aligned, settle}
 use Rattle.model.specs.Arithmetic.{taken}
-use Rattle.model.specs.Hfi.{modeForbids, hfiForbids, hWordForbids, hfiPerform}
+use Rattle.model.specs.Hfi.{modeForbids, hfiForbids, hfiPerform}
 use Rattle.model.specs.Step.{load, store, jump, branch, perform, executeWord, advance, longest}
 use Rattle.model.specs.Run.{Ended, ended, run, runCall, largestBudget}
 use Rattle.model.specs.Isolation.{Locked, Agree, Isolated, Isolation}
@@ -37,7 +37,7 @@ use Rattle.model.specs.declared.Ran.{Ran}
 use Rattle.model.specs.declared.Verdict.{Verdict}
 use Rattle.model.specs.declared.Verdict.the-variants.{Passed, Refused, Absent}
 use Rattle.model.proofs.Bytes.{value-same, length-written, written-same, written-other}
-use Rattle.model.proofs.Cleared.{Cleared, cleared}
+use Rattle.model.proofs.Cleared.{cleared}
 
 -- what a locked machine cannot change, its leaving step included
 pub record Settings : Type 0 where

@@ -4,10 +4,10 @@ use mathlib.Core.Path.{_≡_, refl, sym, ap, subst, _∙_}
 use mathlib.Core.Bool.{Bool, true, false, cond, not, _&&_}
 use mathlib.Core.List.{List, [], _∷_}
 use mathlib.Core.Logic.{_⊎_, inl, inr}
-use Prim.Native.Nat.{ℕ, suc, _+_, _-_, _*_, _/_, _%_, _^_, _<_, _≤_}
+use Prim.Native.Nat.{ℕ, _+_, _-_, _*_, _/_, _%_, _^_, _<_, _≤_}
 use native.Mathlib.Omega.{arith}
 use lib.Dec.{eqb, ltb, lit<, lit≤}
-use lib.ListN.{getD, set, replicate}
+use lib.ListN.{set, replicate}
 use lib.Seq.{getD-set-same}
 use lib.IntN.{pos, _+ℤ_}
 use borrow.Author.Tests.{ltb-true, ltb-false, lt-ltb, eqb-true, eq-eqb, ne-eqb}
@@ -24,16 +24,15 @@ use Rattle.instructions.specs.declared.kind.StoreKind.the-variants.{Sb, Sh, Sw,
 use Rattle.instructions.specs.declared.instruction.Instruction.{Instruction}
 use Rattle.instructions.specs.declared.instruction.Instruction.the-variants.{Load, Store, HLoad, HStore}
 use Rattle.instructions.specs.declared.instruction.Decoded.the-variants.{Legal}
-use Rattle.instructions.specs.declared.instruction.Encoded.the-variants.{Word}
 use Rattle.instructions.proofs.RoundTrip.{decode-of-encode, decoded-range}
 use Rattle.model.specs.Machine.{reg, region}
 use Rattle.model.specs.Regions.{read, write, execute, permits, below, dataRegions, codeRegions, matches, firstMatch, granting, implicitGrants, explicitRule, explicitGrants}
 use Rattle.model.specs.Bytes.{byteOf}
-use Rattle.model.specs.Access.{Access, address, loadWidth, storeWidth, implicitAccess, explicitAccess, loadAccess, hloadAccess, storeAccess, hstoreAccess, fetchAccess}
-use Rattle.model.specs.Reach.{Passes, Readable, Writable, Executable, farthest, InExplicit, InImplicit, InData}
+use Rattle.model.specs.Access.{address, loadWidth, storeWidth, implicitAccess, explicitAccess}
+use Rattle.model.specs.Reach.{Passes, Readable, Writable, Executable, InExplicit, InImplicit, InData}
 use Rattle.model.specs.declared.Region.{Region}
 use Rattle.model.proofs.Offset.{word-sum, below-word}
-use Rattle.model.proofs.Intervals.{both, explicit-ends, matches-inside, inside-matches}
+use Rattle.model.proofs.Intervals.{both, explicit-ends}
 
 -- ---- immediates of 12 bits
 

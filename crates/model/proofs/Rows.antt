@@ -1,7 +1,7 @@
 -- Questions put to the definitions, and their answers: the rows of the tables in Cases.antt and Clauses.antt.
 -- Assumes nothing.
 use mathlib.Core.Bool.{Bool}
-use mathlib.Core.List.{List, [], _∷_, _++_}
+use mathlib.Core.List.{List, [], _∷_}
 use Prim.Native.Nat.{ℕ, _+_, _*_, _/_, _%_}
 use lib.ListN.{getD, set, take, replicate}
 use Rattle.instructions.specs.Decode.{decodeWord}

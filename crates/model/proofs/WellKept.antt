@@ -1,15 +1,15 @@
 -- A well-formed machine stays well formed, so that every step of a run is one that the step call would make.
 -- Assumes nothing.
 use mathlib.Core.Path.{_≡_, refl, ap, sym, _∙_}
-use mathlib.Core.Bool.{Bool, true, false, cond, not, _&&_, _||_}
+use mathlib.Core.Bool.{Bool, true, false, cond, not, _||_}
 use mathlib.Core.List.{List, [], _∷_}
-use Prim.Native.Nat.{ℕ, zero, suc, _+_, _-_, _*_, _/_, _%_, _^_, _<_, _≤_}
+use Prim.Native.Nat.{ℕ, zero, suc, _+_, _-_, _%_}
 use native.Mathlib.Omega.{arith}
 use lib.Dec.{eqb, leb, ltb}
 use lib.ListN.{length, getD, set}
 use lib.Seq.{getD-set-other}
-use lib.Bits.{bitAnd, and-high, and-zero-l}
-use borrow.Author.Tests.{eqb-true, eqb-false, eq-eqb, leb-true, le-leb, ltb-false}
+use lib.Bits.{and-high, and-zero-l}
+use borrow.Author.Tests.{eqb-true, eqb-false, eq-eqb, le-leb, ltb-false}
 use Rattle.instructions.specs.declared.kind.UpperKind.the-variants.{Lui, Auipc}
 use Rattle.instructions.specs.declared.kind.SystemKind.the-variants.{Ecall, Ebreak}
 use Rattle.instructions.specs.declared.kind.HfiKind.{HfiKind}
@@ -20,7 +20,7 @@ use Rattle.instructions.specs.Decode.{decodeWord}
 use Rattle.instructions.specs.declared.instruction.Decoded.{Decoded}
 use Rattle.instructions.specs.declared.instruction.Decoded.the-variants.{Legal, Illegal}
 use Rattle.model.specs.Machine.{reg, setReg, region, noRegion, zeroRegions, entered, left, withHandler, withRegions, redirectsCalls, machine}
-use Rattle.model.specs.Regions.{permissionFits, permissionBits, kindOf, matches, firstMatch, lastRegion}
+use Rattle.model.specs.Regions.{permissionFits, permissionBits, kindOf, matches, firstMatch}
 use Rattle.model.specs.WellFormed.{clearHandler, permissionsFit, faultFits, stateFits, wellFormed}
 use Rattle.model.specs.Bytes.{value}
 use Rattle.model.specs.Access.{Access, verdict, fetchAccess}

@@ -25,7 +25,7 @@ use Rattle.model.specs.Isolation.{Locked, Agree}
 use Rattle.model.specs.declared.Machine.{Machine}
 use Rattle.model.proofs.Intervals.{zero-matches-none, matches-inside}
 use Rattle.model.proofs.Reach.{readable-form, executable-form, single-granted}
-use Rattle.model.proofs.Rows.{Row, Question, Answer, found, stated, x, pc, mode, reason, epc, options, base, bound, permission, puts, with, bytes}
+use Rattle.model.proofs.Rows.{Row, Answer, found, stated, x, pc, mode, reason, epc, options, base, bound, permission, puts, with, bytes}
 use Rattle.model.proofs.Rows.Question.{running}
 use Rattle.model.proofs.Rows.Answer.{gave}
 

@@ -2,7 +2,7 @@
 -- Assumes nothing.
 use mathlib.Core.Bool.{Bool, true, cond}
 use mathlib.Core.List.{List}
-use Prim.Native.Nat.{ℕ, zero, suc, _+_, _%_, _^_}
+use Prim.Native.Nat.{ℕ, zero, suc}
 use lib.Dec.{eqb, ltb}
 use lib.IntN.{ℤ, pos, _+ℤ_}
 use Rattle.words.specs.Word.{signed, word}
@@ -99,15 +99,16 @@ unfoldable pub scan : (ℕ → Bool) → ℕ → ℕ → ℕ
 scan ok i zero = i
 scan ok i (suc k) = cond (ok i) (scan ok (suc i) k) i
 
--- "Outside HFI mode regions are not consulted. In HFI mode each byte is judged singly."
+-- "Outside HFI mode regions are not consulted. In HFI mode each byte is judged singly." "The first refused byte, counted from
+-- the access's start, is the one recorded."
 unfoldable pub firstRefused : ℕ → Access → ℕ
 firstRefused mode a = scan (λ i. cond (eqb mode 0) true (a .grants i)) 0 (a .count)
 
--- the memory has `length` bytes
+-- "12 and 17 also give the first absent address, counted from the access's start"; the memory has `length` bytes
 unfoldable pub firstAbsent : ℕ → ℕ → ℕ → ℕ
 firstAbsent length first count = scan (λ i. ltb (byteOf first i) length) 0 count
 
--- every byte is granted, and then every byte is in memory
+-- "Is every data byte granted?", and then "Are they in memory?"; of a fetch "are all four bytes executable?" first
 unfoldable pub verdict : ℕ → ℕ → Access → Verdict
 verdict mode length a =
     let i = firstRefused mode a in

@@ -1,6 +1,6 @@
 -- The words of opcode 5b: what question 8 forbids, and what each does. Document 01, the list after the table, and question 8.
 -- Assumes nothing.
-use mathlib.Core.Bool.{Bool, true, false, cond, not, _&&_, _||_}
+use mathlib.Core.Bool.{Bool, false, cond, not, _&&_, _||_}
 use mathlib.Core.List.{List}
 use Prim.Native.Nat.{ℕ}
 use lib.Dec.{eqb, leb, ltb}
@@ -65,9 +65,12 @@ selected h = region (h .regions) (h .selector)
 
 -- question 9, and what the word does; `next` is the pc after it
 unfoldable pub hfiPerform : Machine → List ℕ → ℕ → HfiKind → ℕ → ℕ → ℕ → Outcome
+-- "Enter: mode 1, options stored, occurred cleared."
 hfiPerform m mem next Enter rd rs1 rs2 = completed (machine (m .x) next (entered (m .hfi) (reg (m .x) rs1))) mem
+-- "The jump form sets pc to rs2."
 hfiPerform m mem next EnterJump rd rs1 rs2 =
     aligned m mem (reg (m .x) rs2) (completed (machine (m .x) (reg (m .x) rs2) (entered (m .hfi) (reg (m .x) rs1))) mem)
+-- "Exit: mode 0, reason 1, exit pc is this pc; then pc is the handler if exits are redirected, else pc + 4."
 hfiPerform m mem next Exit rd rs1 rs2 =
     completed (machine (m .x) (cond (redirectsExits (m .hfi)) (m .hfi .handler) next) (left (m .hfi) 1 (m .pc))) mem
 hfiPerform m mem next SelectRegion rd rs1 rs2 =
@@ -81,7 +84,9 @@ hfiPerform m mem next GetBound rd rs1 rs2 = completed (assigned m next rd (selec
 hfiPerform m mem next SetPermission rd rs1 rs2 =
     completed (machine (m .x) next (changed (m .hfi) (withPermission (selected (m .hfi)) (reg (m .x) rs1)))) mem
 hfiPerform m mem next GetPermission rd rs1 rs2 = completed (assigned m next rd (selected (m .hfi) .permission)) mem
+-- "Set handler clears bits 0, 1, 62, 63."
 hfiPerform m mem next SetHandler rd rs1 rs2 =
     completed (machine (m .x) next (withHandler (m .hfi) (clearHandler (reg (m .x) rs1)))) mem
 hfiPerform m mem next GetHandler rd rs1 rs2 = completed (assigned m next rd (m .hfi .handler)) mem
+-- "Reset zeroes regions and selector."
 hfiPerform m mem next ResetRegions rd rs1 rs2 = completed (machine (m .x) next (withRegions (m .hfi) 0 zeroRegions)) mem

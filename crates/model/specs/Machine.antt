@@ -33,14 +33,19 @@ bit n x = eqb (field x n 1) 1
 abbrev pub inside : HfiState → Bool
 inside h = eqb (h .mode) 1
 
--- "Options: bit 0 lock regions, bit 1 redirect system calls, bit 2 redirect exits"; bit 3 has no effect. Locking and the
--- redirection of calls are asked only in HFI mode, so the mode is part of both; an exit is in HFI mode anyway.
+-- "Options: bit 0 lock regions, bit 1 redirect system calls, bit 2 redirect exits, bit 3 serialize. Bit 3 is kept and has no
+-- effect on single steps." Locking and the redirection of calls are asked only in HFI mode, so the mode is part of both; an
+-- exit is in HFI mode anyway.
+
+-- "Lock follows 000 chapter 3 (1 forbids)"; ".. in HFI mode when locked"
 abbrev pub locked : HfiState → Bool
 locked h = cond (inside h) (bit 0 (h .options)) false
 
+-- "ECALL in HFI mode with bit 1 set"
 abbrev pub redirectsCalls : HfiState → Bool
 redirectsCalls h = cond (inside h) (bit 1 (h .options)) false
 
+-- "if exits are redirected"
 abbrev pub redirectsExits : HfiState → Bool
 redirectsExits h = bit 2 (h .options)
 
@@ -64,7 +69,7 @@ withBound r v = record { base = r .base; bound = v; permission = r .permission }
 abbrev pub withPermission : Region → ℕ → Region
 withPermission r v = record { base = r .base; bound = r .bound; permission = v }
 
--- "Reset zeroes regions": all of them
+-- "Reset zeroes regions and selector": all the regions
 abbrev pub zeroRegions : List Region
 zeroRegions = noRegion ∷ noRegion ∷ noRegion ∷ []
 

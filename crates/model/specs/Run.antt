@@ -1,6 +1,6 @@
 -- A run: steps until one of document 01's questions stops it.
 -- Assumes nothing.
-use mathlib.Core.Bool.{Bool, true, false, cond, not, _&&_}
+use mathlib.Core.Bool.{Bool, cond, not, _&&_}
 use mathlib.Core.List.{List}
 use Prim.Native.Nat.{ℕ, zero, suc}
 use lib.Dec.{eqb, ltb}
@@ -20,7 +20,9 @@ abbrev pub ended : ℕ → ℕ → ℕ → Machine → List ℕ → Ended
 ended stop count address m mem =
     record { result = record { stop = stop; count = count; address = address; machine = m }; memory = mem }
 
--- with a budget of `left` steps still, after `count` completed steps of a run that began in HFI mode or not
+-- with a budget of `left` steps still, after `count` completed steps of a run that began in HFI mode or not.
+-- "Before each step of a run: does the budget have a step left? No: 21." "After a step of a run that began in HFI mode: is the
+-- mode still on? No: 20." "For 10 to 19 the stopping step isn't counted .. 20 counts its step."
 unfoldable pub run : Bool → ℕ → ℕ → Machine → List ℕ → Ended
 run began zero count m mem = ended 21 count 0 m mem
 run began (suc left) count m mem =

@@ -1,6 +1,6 @@
 -- One step: document 01, "Questions a call puts", and the effect of each instruction.
 -- Assumes nothing.
-use mathlib.Core.Bool.{Bool, true, false, cond}
+use mathlib.Core.Bool.{Bool, cond}
 use mathlib.Core.List.{List}
 use Prim.Native.Nat.{ℕ, _*_, _/_, _%_}
 use lib.Dec.{eqb, ltb}
@@ -17,7 +17,7 @@ use Rattle.instructions.specs.declared.instruction.Decoded.the-variants.{Legal,
 use Rattle.model.specs.Machine.{sum, reg, setReg, redirectsCalls, left, machine}
 use Rattle.model.specs.WellFormed.{wellFormed}
 use Rattle.model.specs.Bytes.{value, written}
-use Rattle.model.specs.Outcome.{Outcome, outcome, completed, stopped, assigned, moved, allowed, aligned, settle}
+use Rattle.model.specs.Outcome.{Outcome, completed, stopped, assigned, moved, allowed, aligned, settle}
 use Rattle.model.specs.Access.{Access, fetchAccess, loadAccess, storeAccess, hloadAccess, hstoreAccess, verdict}
 use Rattle.model.specs.Arithmetic.{operate, operateWord, ofRegisterWord, ofImmediate, ofShift, ofShiftWord, taken, extended}
 use Rattle.model.specs.Hfi.{hfiForbids, hWordForbids, hfiPerform}
