@@ -72,7 +72,7 @@ storeWidth Sh = 2
 storeWidth Sw = 4
 storeWidth Sd = 8
 
--- the effective address of an ordinary load or store
+-- the effective address of an ordinary load or store: "Misaligned data is allowed."
 abbrev pub address : List ℕ → ℕ → ℕ → ℕ
 address x rs1 imm = sum (reg x rs1) imm
 

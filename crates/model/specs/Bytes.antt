@@ -1,5 +1,5 @@
--- Memory is a list of bytes; address a is byte a. Byte i of an access at a stands at a + i, modulo 2^64; an access is
--- little-endian.
+-- "Memory is a lent run of bytes; address a is byte a." Byte i of an access at a stands at a + i, modulo 2^64; an access is
+-- "little-endian".
 -- Assumes nothing.
 use mathlib.Core.List.{List}
 use Prim.Native.Nat.{ℕ, zero, suc, _+_, _*_, _/_, _%_, _^_}

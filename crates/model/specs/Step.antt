@@ -26,7 +26,7 @@ use Rattle.model.specs.declared.Stepped.{Stepped}
 
 -- ---- memory
 
--- questions 10 and 11, for a load (op 1) or a store (op 2)
+-- "10. Is every data byte granted? No: 16." "11. Are they in memory? No: 17." For a load (op 1) or a store (op 2)
 abbrev pub onData : Machine → List ℕ → ℕ → Access → Outcome → Outcome
 onData m mem op a next = settle m mem op 16 17 (verdict (m .hfi .mode) (length mem) a) next
 
@@ -67,7 +67,9 @@ perform m mem next (Addiw rd rs1 imm) = completed (assigned m next rd (operateWo
 perform m mem next (ShiftWord k rd rs1 amount) = completed (assigned m next rd (operateWord (ofShiftWord k) (reg (m .x) rs1) amount)) mem
 perform m mem next (Register k rd rs1 rs2) = completed (assigned m next rd (operate 64 k (reg (m .x) rs1) (reg (m .x) rs2))) mem
 perform m mem next (RegisterWord k rd rs1 rs2) = completed (assigned m next rd (operateWord (ofRegisterWord k) (reg (m .x) rs1) (reg (m .x) rs2))) mem
+-- "FENCE carries its spare fields and does nothing."
 perform m mem next (Fence fm pred succ rs1 rd) = completed (moved m next) mem
+-- "12. Is it anything but an ECALL that is not redirected? No: 18." "13. Is it anything but EBREAK? No: 19."
 perform m mem next (System Ecall) = cond (redirectsCalls (m .hfi)) (completed (redirected m) mem) (stopped 18 m mem)
 perform m mem next (System Ebreak) = stopped 19 m mem
 perform m mem next (HLoad k rd rs1 imm) =
@@ -77,12 +79,13 @@ perform m mem next (HStore k rs1 rs2 imm) =
 perform m mem next (Hfi k rd rs1 rs2) =
     allowed m mem (hfiForbids (m .hfi) k (reg (m .x) rs1)) (hfiPerform m mem next k rd rs1 rs2)
 
--- question 7
+-- "7. Is the word legal? No: 13." The instruction after it stands 4 further
 unfoldable pub executeWord : Machine → List ℕ → Decoded → Outcome
 executeWord m mem (Legal i) = perform m mem (sum (m .pc) 4) i
 executeWord m mem Illegal = stopped 13 m mem
 
--- questions 4 to 6, and the rest of the step
+-- "4. Is pc a multiple of 4? No: 10." "5. In HFI mode, are all four bytes executable? No: 11." "6. Are they in memory? No: 12."
+-- Then the rest of the step
 unfoldable pub advance : Machine → List ℕ → Outcome
 advance m mem =
     let a = fetchAccess (m .hfi .regions) (m .pc) in
