@@ -38,7 +38,7 @@ store m mem next a v = onData m mem 2 a (completed (moved m next) (written mem (
 
 -- ---- the instructions, in the order of the specification's listing
 
--- JALR "[sets] the least-significant bit of the result to zero"
+-- JALR sets the lowest bit of the sum to zero (specification, "Unconditional Jumps")
 abbrev pub jalrTarget : ℕ → ℕ → ℕ
 jalrTarget a imm = sum a imm / 2 * 2
 
