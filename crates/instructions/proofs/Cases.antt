@@ -1,7 +1,7 @@
 -- Words and their instructions, as lists of rows, each covered by one computed check. A definition and a code that agree on
 -- a wrong table of codes, or on a wrong place of a bit, would be proved of each other; these rows refuse both.
--- The words were made by `riscv64-linux-gnu-as -march=rv64i` (GNU Binutils 2.40) from the text beside them, not by this
--- crate; `.insn` lays out the words of opcodes 0b, 2b and 5b, which only document 01 has.
+-- The words of `rows` were made by `riscv64-linux-gnu-as -march=rv64i` (GNU Binutils 2.40) from the text beside them, not by
+-- this crate; `.insn` lays out the words of opcodes 0b, 2b and 5b, which only document 01 has.
 -- Assumes nothing.
 use mathlib.Core.Path.{_≡_, refl}
 use mathlib.Core.List.{List, [], _∷_, map}
@@ -194,7 +194,7 @@ pub encoded : map (λ r. encodeWord (r .1)) rows ≡ map (λ r. Word (r .0)) row
 unfolding encodeWord sext
 encoded = refl
 
--- ---- words that are illegal
+-- ---- words that are illegal, with the reason
 
 abbrev pub illegal : List ℕ
 illegal =
