@@ -1,5 +1,4 @@
 // The run sheet for C.
-ghost use mathlib.Core.Path.{_≡_};
 ghost use Rattle.report.specs.Report.{report};
 ghost use Rattle.respond.specs.Answered.{Answered};
 

@@ -1,7 +1,7 @@
 -- The laying out of an instruction loses nothing, and a record stands for an instruction exactly if it is one laid out.
 -- Assumes nothing.
-use mathlib.Core.Path.{_≡_, refl, sym, ap, _∙_}
-use mathlib.Core.Bool.{Bool, true, false, cond, _&&_}
+use mathlib.Core.Path.{_≡_, refl, ap, _∙_}
+use mathlib.Core.Bool.{true}
 use Prim.Native.Nat.{ℕ, _^_, _<_}
 use lib.Dec.{eqb}
 use borrow.Author.Tests.{eqb-true, eq-eqb}
@@ -22,7 +22,7 @@ use Rattle.instructions.specs.declared.kind.HfiKind.{HfiKind}
 use Rattle.instructions.specs.declared.instruction.Instruction.{Instruction}
 use Rattle.instructions.specs.declared.instruction.Instruction.the-variants.{Upper, Jal, Jalr, Branch, Load, Store, Immediate, Shift, Addiw, ShiftWord, Register, RegisterWord, Fence, System, HLoad, HStore, Hfi}
 use Rattle.instructions.specs.declared.instruction.Decoded.the-variants.{Legal}
-use Rattle.instructions.specs.declared.instruction.Encoded.the-variants.{Word, OutOfRange}
+use Rattle.instructions.specs.declared.instruction.Encoded.the-variants.{Word}
 use Rattle.instructions.proofs.Tests.{and-both}
 use Rattle.instructions.proofs.RoundTrip.{encode-of-decode}
 use Rattle.koubospar_codec.specs.Kinds.{upperKind, branchKind, loadKind, storeKind, immediateKind, shiftKind, shiftWordKind, registerKind, registerWordKind, systemKind, hfiKind}

@@ -1,7 +1,7 @@
 // An instruction as numbers alone, since an enum cannot cross to C: laid out, read back, decoded and encoded.
 ghost use mathlib.Core.Path.{_≡_};
 ghost use Rattle.instructions.specs.Decode.{decodeWord};
-ghost use Rattle.koubospar_codec.specs.Flat.{layout, fenceLayout, nothing as nothingOf, flatten as flattenOf, unflatten as unflattenOf, same as sameAs, stands as standsFor, flatDecoded, flatEncoded, encodeFlat};
+ghost use Rattle.koubospar_codec.specs.Flat.{layout, fenceLayout, flatten as flattenOf, unflatten as unflattenOf, same as sameAs, stands as standsFor, flatDecoded, flatEncoded, encodeFlat};
 use crate::kind::branch_kind;
 use crate::kind::hfi_kind;
 use crate::kind::immediate_kind;

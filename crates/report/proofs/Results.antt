@@ -2,21 +2,20 @@
 -- and no result prints as a refusal.
 use mathlib.Core.Path.{_≡_, refl, ap, sym, _∙_}
 use mathlib.Core.Bool.{Bool, true, false, cond}
-use mathlib.Core.List.{List, [], _∷_, _++_, append-assoc}
-use Prim.Native.Nat.{ℕ, suc, _+_, _^_, _<_, _≤_}
+use mathlib.Core.List.{List, [], _∷_, _++_}
+use Prim.Native.Nat.{ℕ, suc, _+_, _^_, _<_}
 use native.Mathlib.Omega.{arith}
 use lib.Dec.{eqb, lit≤}
 use lib.ListN.{length, getD}
 use borrow.Author.Tests.{eqb-true}
-use Rattle.text.specs.Scan.{count, newline, comma}
-use Rattle.text.specs.Split.{joinRows}
+use Rattle.text.specs.Scan.{count}
 use Rattle.text.specs.Number.{decimal, hexadecimal}
 use Rattle.text.proofs.RoundTrip.{Clean, rows-same, decimal-free, hexadecimal-free, decimal-same, hexadecimal-same}
 use Rattle.model.specs.declared.Fault.{Fault}
 use Rattle.model.specs.declared.Ran.{Ran}
 use Rattle.sheet.specs.Print.{refusal}
 use Rattle.sheet.proofs.Refusals.{row, row-clean, refusal-row}
-use Rattle.report.specs.Print.{faultFields, resultRow, registerRow, registerRows, resultText}
+use Rattle.report.specs.Print.{resultRow, registerRows, resultText}
 
 -- ---- what code can hold: 64 bits in each number, 32 registers
 pub record Held (r : Ran) : Type 0 where

@@ -1,5 +1,4 @@
 -- The machine that a sheet starts from (01, The run sheet).
-use Prim.Native.Nat.{ℕ}
 use lib.ListN.{replicate}
 use Rattle.model.specs.declared.Machine.{Machine}
 use Rattle.sheet.specs.declared.SetupFields.{SetupFields}

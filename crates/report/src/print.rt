@@ -1,5 +1,4 @@
 // What is printed of a run. Each function answers the place after what it wrote.
-ghost use mathlib.Core.Path.{_≡_};
 ghost use mathlib.Core.List.{[], _∷_};
 ghost use Prim.Native.Nat.{_+_, _≤_};
 ghost use lib.ListN.{length};
@@ -9,7 +8,6 @@ ghost use Rattle.text.specs.Split.{joinRow, joinRows};
 ghost use Rattle.text.specs.Write.{Wrote};
 ghost use Rattle.report.specs.Print.{faultFields, resultRow, registerRow, registerRows, resultText};
 use model::Fault;
-use model::Machine;
 use model::Ran;
 use text::print::put_byte;
 use text::print::put_decimal;

@@ -107,6 +107,23 @@ pub example-setup : setupValues (fields (ascii "0,5,100,200,10,3,0,0,0,0,fffffff
 unfolding split spelled
 example-setup = refl
 
+-- the digits of the budget in line 1, and the budget: "an empty budget means 1,000"
+abbrev pub budgets : List (List ℕ × ℕ)
+budgets =
+    ([], 1000)
+    ∷ (ascii "0", 0)
+    ∷ (ascii "a", 10)
+    ∷ (ascii "ffffffff", 0xffffffff)
+    ∷ []
+
+abbrev pub allBudgets : List (List ℕ × ℕ) → Bool
+allBudgets [] = true
+allBudgets (b ∷ bs) = eqb (setupValues (fields (ascii "0,5,100,200,10,3,0,0,0,0,0,4," ++ b .0)) .budget) (b .1) && allBudgets bs
+
+pub budgets-hold : allBudgets budgets ≡ true
+unfolding split spelled
+budgets-hold = refl
+
 -- document 01's example of a refusal
 pub example-refusal : refusal 33 2 ≡ ascii "sheet,33,2\n"
 unfolding digits

@@ -1,6 +1,6 @@
 // Questions 30 to 35. Every test is worked out, and the first no is picked from the answers.
 ghost use mathlib.Core.Path.{_≡_};
-ghost use Prim.Native.Nat.{_+_, _*_, _≤_};
+ghost use Prim.Native.Nat.{_+_, _≤_};
 ghost use lib.ListN.{length};
 ghost use Rattle.text.specs.Scan.{firstThat};
 ghost use Rattle.text.specs.Split.{fields};

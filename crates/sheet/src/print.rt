@@ -1,5 +1,4 @@
 // What is printed of a sheet that is refused.
-ghost use mathlib.Core.Path.{_≡_};
 ghost use Prim.Native.Nat.{_≤_};
 ghost use lib.ListN.{length};
 ghost use Rattle.text.specs.Write.{Wrote};

@@ -1,7 +1,7 @@
 -- A quoted text as the bytes of its characters, for texts that document 01 or a case spells out.
 use mathlib.Core.List.{List, [], _∷_}
 use Prim.Native.Nat.{ℕ}
-use Prim.Native.Char.{Char, code}
+use Prim.Native.Char.{code}
 use Prim.Native.String.{String}
 use Prim.Native.String as String
 

@@ -1,12 +1,12 @@
 -- The order of signed numbers, and their shift to the right, by the code's way.
 -- Assumes nothing.
-use mathlib.Core.Path.{_≡_, refl, sym, ap, ap₂, _∙_}
+use mathlib.Core.Path.{_≡_, refl, sym, ap, _∙_}
 use mathlib.Core.Bool.{Bool, true, false}
-use Prim.Native.Nat.{ℕ, suc, _+_, _-_, _*_, _/_, _%_, _^_, _<_, _≤_}
-use native.Mathlib.Nat.{mod-eq-of-lt, sub-add-cancel, lt-of-le-of-lt, lt-of-lt-of-le, div-le-self}
+use Prim.Native.Nat.{ℕ, suc, _+_, _-_, _/_, _^_, _<_, _≤_}
+use native.Mathlib.Nat.{mod-eq-of-lt, lt-of-le-of-lt, div-le-self}
 use native.Mathlib.Omega.{arith}
-use lib.Dec.{ltb, leb, lit≤}
-use lib.Pow.{pow-pos, pow-mono, ones-split, high, ones-lt}
+use lib.Dec.{ltb}
+use lib.Pow.{pow-pos, ones-split, high, ones-lt}
 use lib.Bits.{bitXor}
 use lib.Signed.{ltZ, shrZ}
 use borrow.Author.Tests.{ltb-true, ltb-false, lt-ltb, le-ltb}

@@ -1,4 +1,4 @@
-use mathlib.Core.Path.{_≡_, _∙_, sym}
+use mathlib.Core.Path.{_∙_, sym}
 use borrow.Author.Tests.{lt-ltb, le-ltb, not-true, not-false}
 use Rattle.model.specs.Run.{runCall}
 use borrow.Author.Needs.{needs}

@@ -1,4 +1,3 @@
-use mathlib.Core.Path.{ap, _∙_}
 use Rattle.koubospar_codec.specs.Flat.{flatten, same}
 use borrow.Author.Needs.{needs}
 use Rattle.koubospar_codec.proofs.flat.stands.Statement.{statement}

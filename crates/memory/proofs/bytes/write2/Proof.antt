@@ -1,6 +1,4 @@
-use mathlib.Core.Path.{ap, _∙_}
-use Prim.Native.Nat.{_+_, _/_, _^_}
-use Rattle.model.specs.Bytes.{written}
+use mathlib.Core.Path.{_∙_}
 use Rattle.memory.proofs.Halves.{write-halves}
 use borrow.Author.Needs.{needs}
 use Rattle.memory.proofs.bytes.write2.Statement.{statement}
@@ -21,8 +19,8 @@ same-length c = search needs
 returns : tie.Need-returns
 returns c =
     let a = c .before .before .before .before .before .before .before .before .before .args in
-    c .before .before .write12 .ensures ∙ ap (λ m. written m (a .a + 1) 0 1 (a .v / 2 ^ 8)) (c .before .before .before .before .before .before .write1 .ensures)
-    ∙ write-halves _ (a .a) 1 1 (a .v)
+    c .before .before .write12 .ensures
+    ∙ rw (c .before .before .before .before .before .before .write1 .ensures) (write-halves _ (a .a) 1 1 (a .v))
 
 pub write2-spec : {M : Type 1} → statement M
 write2-spec = tie.close (tie.spec write1-requires add-write1 write1-requires-2 same-length returns)

@@ -1,6 +1,4 @@
-use mathlib.Core.Path.{ap, _∙_}
-use Prim.Native.Nat.{_+_, _/_, _^_}
-use Rattle.model.specs.Bytes.{written}
+use mathlib.Core.Path.{_∙_}
 use Rattle.memory.proofs.Halves.{write-halves}
 use borrow.Author.Needs.{needs}
 use Rattle.memory.proofs.bytes.write4.Statement.{statement}
@@ -21,8 +19,8 @@ same-length c = search needs
 returns : tie.Need-returns
 returns c =
     let a = c .before .before .before .before .before .before .before .before .before .args in
-    c .before .before .write22 .ensures ∙ ap (λ m. written m (a .a + 2) 0 2 (a .v / 2 ^ 16)) (c .before .before .before .before .before .before .write2 .ensures)
-    ∙ write-halves _ (a .a) 2 2 (a .v)
+    c .before .before .write22 .ensures
+    ∙ rw (c .before .before .before .before .before .before .write2 .ensures) (write-halves _ (a .a) 2 2 (a .v))
 
 pub write4-spec : {M : Type 1} → statement M
 write4-spec = tie.close (tie.spec write2-requires add-write2 write2-requires-2 same-length returns)

@@ -1,6 +1,4 @@
-use mathlib.Core.Path.{ap, _∙_}
-use Prim.Native.Nat.{_+_, _/_, _^_}
-use Rattle.model.specs.Bytes.{written}
+use mathlib.Core.Path.{_∙_}
 use Rattle.memory.proofs.Halves.{write-halves}
 use borrow.Author.Needs.{needs}
 use Rattle.memory.proofs.bytes.write8.Statement.{statement}
@@ -21,8 +19,8 @@ same-length c = search needs
 returns : tie.Need-returns
 returns c =
     let a = c .before .before .before .before .before .before .before .before .before .args in
-    c .before .before .write42 .ensures ∙ ap (λ m. written m (a .a + 4) 0 4 (a .v / 2 ^ 32)) (c .before .before .before .before .before .before .write4 .ensures)
-    ∙ write-halves _ (a .a) 4 4 (a .v)
+    c .before .before .write42 .ensures
+    ∙ rw (c .before .before .before .before .before .before .write4 .ensures) (write-halves _ (a .a) 4 4 (a .v))
 
 pub write8-spec : {M : Type 1} → statement M
 write8-spec = tie.close (tie.spec write4-requires add-write4 write4-requires-2 same-length returns)

@@ -1,5 +1,4 @@
 -- `judge::foreign` meets its contract.
-use Prim.Native.Nat.{_-_}
 use borrow.Author.Needs.{needs}
 use Rattle.sheet.proofs.judge.foreign.Statement.{statement}
 use Rattle.sheet.proofs.judge.foreign.Tie as tie

@@ -1,5 +1,4 @@
 -- `judge::judge_file` meets its contract: its tests are those of the questions.
-use Prim.Native.Nat.{_-_}
 use borrow.Author.Needs.{needs}
 use Rattle.sheet.specs.Questions.{fileNo}
 use Rattle.sheet.proofs.judge.judge_file.Statement.{statement}

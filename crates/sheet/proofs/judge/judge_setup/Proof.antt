@@ -1,6 +1,4 @@
 -- `judge::judge_setup` meets its contract: its tests are those of the questions.
-use Prim.Native.Nat.{_-_}
-use lib.ListN.{set}
 use borrow.Author.Needs.{needs}
 use Rattle.sheet.specs.Questions.{setupNo}
 use Rattle.sheet.proofs.judge.judge_setup.Statement.{statement}

@@ -2,13 +2,11 @@
 use mathlib.Core.Path.{_≡_, refl, sym, _∙_}
 use Prim.Native.Nat.{_+_, _-_, _*_, _<_, _≤_}
 use native.Mathlib.Omega.{arith}
-use lib.ListN.{take}
 use borrow.Author.Needs.{needs}
 use Rattle.sheet.proofs.Laws.{permissions-on, permissions-off}
 use Rattle.text.specs.Split.{fields}
 use Rattle.sheet.specs.Questions.{permissionsFit}
 use Rattle.sheet.specs.Setup.{value}
-use lib.Dec.{leb}
 use borrow.Author.Tests.{le-leb, lt-leb}
 use Rattle.sheet.proofs.judge.permissions_fit.Statement.{statement}
 use Rattle.sheet.proofs.judge.permissions_fit.Tie as tie

@@ -8,7 +8,7 @@ use borrow.Author.Needs.{needs}
 use Rattle.sheet.proofs.Laws.{word-fits, load-on, load-stop, load-off}
 use Rattle.text.proofs.Splitting.{line-ends, line-counts}
 use Rattle.text.proofs.Scanning.{count-le}
-use Rattle.text.specs.Scan.{newline, count, lineNumber}
+use Rattle.text.specs.Scan.{newline, lineNumber}
 use Rattle.text.specs.Split.{lines, fields}
 use Rattle.sheet.specs.Questions.{wordNo}
 use Rattle.sheet.specs.Read.{load}

@@ -2,7 +2,7 @@
 use mathlib.Core.Path.{_≡_, ap, sym, _∙_}
 use Prim.Native.Nat.{_+_, _-_, _≤_}
 use native.Mathlib.Omega.{arith}
-use lib.ListN.{length, take, set}
+use lib.ListN.{length}
 use borrow.Author.Needs.{needs}
 use Rattle.sheet.proofs.Laws.{bytes-on, bytes-off}
 use Rattle.sheet.specs.Read.{lowBytes}

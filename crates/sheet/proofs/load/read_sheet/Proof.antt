@@ -1,8 +1,6 @@
 -- `load::read_sheet` meets its contract: the file is judged, then line 1, then the word lines.
 use mathlib.Core.Path.{_≡_, ap, sym, _∙_}
 use mathlib.Core.List.{[]}
-use Prim.Native.Nat.{_-_}
-use lib.ListN.{length, take, set}
 use borrow.Author.Needs.{needs}
 use Rattle.sheet.proofs.Laws.{file-whole, read-file, read-setup, read-words, second-line}
 use Rattle.sheet.specs.Questions.{fileNo, verdict}

@@ -1,8 +1,6 @@
 -- `load::word_line` meets its contract: where no question was answered no, the address lies in memory.
 use mathlib.Core.Path.{_≡_, ap, sym, _∙_}
-use Prim.Native.Nat.{_-_}
 use native.Mathlib.Omega.{arith}
-use lib.ListN.{length, take}
 use borrow.Author.Needs.{needs}
 use Rattle.sheet.proofs.Laws.{word-fits, line-yes, line-no}
 use Rattle.text.specs.Split.{fields}

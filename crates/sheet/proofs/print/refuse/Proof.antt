@@ -1,6 +1,4 @@
 -- `print::refuse` meets its contract: one text after another.
-use Prim.Native.Nat.{_-_}
-use lib.ListN.{length}
 use borrow.Author.Needs.{needs}
 use Rattle.text.proofs.Writing.{wrote-then}
 use Rattle.sheet.proofs.print.refuse.Statement.{statement}

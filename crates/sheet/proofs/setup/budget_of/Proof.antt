@@ -1,8 +1,7 @@
 -- `setup::budget_of` meets its contract: a field of length 0 is the empty field.
 use mathlib.Core.Path.{_≡_, ap, sym, _∙_}
 use mathlib.Core.List.{[]}
-use Prim.Native.Nat.{_-_}
-use lib.ListN.{length, getD, take}
+use lib.ListN.{length, getD}
 use borrow.Author.Needs.{needs}
 use Rattle.text.specs.Split.{fields}
 use borrow.Author.Tests.{eq-eqb, ne-eqb}

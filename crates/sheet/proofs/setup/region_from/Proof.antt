@@ -1,5 +1,4 @@
 -- `setup::region_from` meets its contract.
-use Prim.Native.Nat.{_-_}
 use borrow.Author.Needs.{needs}
 use Rattle.sheet.proofs.setup.region_from.Statement.{statement}
 use Rattle.sheet.proofs.setup.region_from.Tie as tie

@@ -1,6 +1,4 @@
 -- `setup::setup_values` meets its contract.
-use Prim.Native.Nat.{_-_}
-use lib.ListN.{set}
 use borrow.Author.Needs.{needs}
 use Rattle.sheet.proofs.setup.setup_values.Statement.{statement}
 use Rattle.sheet.proofs.setup.setup_values.Tie as tie

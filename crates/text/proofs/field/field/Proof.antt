@@ -1,7 +1,7 @@
 -- `field::field` meets its contract: field k of the line is field `left` of what is left of it.
 use mathlib.Core.Path.{_≡_, refl, ap, sym, _∙_}
 use mathlib.Core.List.{[]}
-use Prim.Native.Nat.{_+_, _-_, _<_, _≤_}
+use Prim.Native.Nat.{_+_, _<_, _≤_}
 use native.Mathlib.Omega.{arith}
 use lib.ListN.{length, getD, drop, take}
 use borrow.Author.Needs.{needs}

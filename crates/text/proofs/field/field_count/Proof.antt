@@ -1,9 +1,8 @@
 -- `field::field_count` meets its contract.
 use mathlib.Core.Path.{ap, sym, _∙_}
-use Prim.Native.Nat.{_+_, _-_}
+use Prim.Native.Nat.{_+_}
 use borrow.Author.Needs.{needs}
 use Rattle.text.proofs.Splitting.{fields-count}
-use Rattle.text.specs.Split.{fields}
 use Rattle.text.proofs.field.field_count.Statement.{statement}
 use Rattle.text.proofs.field.field_count.Tie as tie
 

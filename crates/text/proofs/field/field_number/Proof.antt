@@ -1,6 +1,5 @@
 -- `field::field_number` meets its contract.
 use mathlib.Core.Path.{ap, _∙_}
-use Prim.Native.Nat.{_-_}
 use borrow.Author.Needs.{needs}
 use Rattle.text.specs.Number.{number}
 use Rattle.text.proofs.field.field_number.Statement.{statement}

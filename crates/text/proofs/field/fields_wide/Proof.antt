@@ -6,7 +6,7 @@ use lib.ListN.{length, drop, take}
 use borrow.Author.Needs.{needs}
 use Rattle.text.proofs.Splitting.{field-more, field-last, wide-on, wide-none, wide-nil}
 use Rattle.text.specs.Scan.{place, comma}
-use Rattle.text.specs.Split.{fields, allWide, wide}
+use Rattle.text.specs.Split.{fields, allWide}
 use mathlib.Core.Bool.{true, false, _&&_}
 use lib.Dec.{leb}
 use borrow.Author.Tests.{not-true, not-false}

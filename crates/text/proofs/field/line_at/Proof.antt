@@ -1,7 +1,6 @@
 -- `field::line_at` meets its contract: the first line of what is left ends at its first 0a.
 use mathlib.Core.Path.{refl, ap, sym, _∙_}
 use mathlib.Core.List.{[]}
-use Prim.Native.Nat.{_-_}
 use lib.ListN.{drop, take}
 use borrow.Author.Needs.{needs}
 use Rattle.text.proofs.Splitting.{split-first}

@@ -1,5 +1,5 @@
 -- `number::digit_value` meets its contract: one answer for each range of bytes.
-use Prim.Native.Nat.{_-_, _<_, _≤_}
+use Prim.Native.Nat.{_<_, _≤_}
 use borrow.Author.Needs.{needs}
 use borrow.Author.Tests.{le-leb, lt-leb}
 use Rattle.text.proofs.number.digit_value.Statement.{statement}

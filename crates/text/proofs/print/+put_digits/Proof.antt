@@ -1,9 +1,8 @@
 -- `print::put_digits` meets its contract: it goes as its definition does, and `room` falls with each call.
 use mathlib.Core.Path.{ap, sym, _∙_}
 use mathlib.Core.List.{[], _∷_, _++_}
-use Prim.Native.Nat.{ℕ, _+_, _-_, _/_, _<_}
+use Prim.Native.Nat.{ℕ, _-_, _/_, _<_}
 use native.Mathlib.Omega.{arith}
-use lib.ListN.{length, take}
 use borrow.Author.Needs.{needs}
 use Rattle.text.proofs.Numbers.{digits-le, digits-none, digits-one, digits-more}
 use Rattle.text.proofs.Writing.{wrote-none, wrote-as, wrote-then}

@@ -1,6 +1,4 @@
 -- `print::digit_byte` meets its contract.
-use Prim.Native.Nat.{_-_}
-use lib.ListN.{take}
 use borrow.Author.Needs.{needs}
 use borrow.Author.Tests.{lt-ltb, le-ltb}
 use Rattle.text.proofs.print.digit_byte.Statement.{statement}

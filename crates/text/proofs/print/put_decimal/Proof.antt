@@ -1,7 +1,5 @@
 -- `print::put_decimal` meets its contract: there are at most 20 digits.
-use Prim.Native.Nat.{_-_}
 use native.Mathlib.Omega.{arith}
-use lib.ListN.{length}
 use borrow.Author.Needs.{needs}
 use Rattle.text.proofs.Numbers.{digits-le}
 use Rattle.text.proofs.print.put_decimal.Statement.{statement}

@@ -2,7 +2,7 @@
 use mathlib.Core.Path.{_≡_, ap, sym, _∙_}
 use Prim.Native.Nat.{_+_, _-_, _≤_}
 use native.Mathlib.Omega.{arith}
-use lib.ListN.{length, drop, take, set}
+use lib.ListN.{length, drop}
 use borrow.Author.Needs.{needs}
 use Rattle.text.proofs.Writing.{stores-on, stores-off}
 use lib.Seq.{sets}

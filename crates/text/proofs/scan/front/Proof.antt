@@ -1,7 +1,7 @@
 -- `scan::front` meets its contract: past the end nothing is cut off.
 use mathlib.Core.Path.{sym}
-use Prim.Native.Nat.{_-_, _≤_}
-use lib.ListN.{length, take}
+use Prim.Native.Nat.{_≤_}
+use lib.ListN.{length}
 use borrow.Author.Needs.{needs}
 use lib.Seq.{length-take-le, take-all}
 use Rattle.text.proofs.scan.front.Statement.{statement}

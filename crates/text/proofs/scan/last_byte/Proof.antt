@@ -1,9 +1,8 @@
 -- `scan::last_byte` meets its contract: an empty text has the list's default, 0.
 use mathlib.Core.Path.{sym}
-use mathlib.Core.List.{List}
 use Prim.Native.Nat.{_-_, _≤_}
 use native.Mathlib.Omega.{arith}
-use lib.ListN.{length, getD, take, List·getD-eq-default}
+use lib.ListN.{length, List·getD-eq-default}
 use borrow.Author.Needs.{needs}
 use Rattle.text.proofs.scan.last_byte.Statement.{statement}
 use Rattle.text.proofs.scan.last_byte.Tie as tie

@@ -1,7 +1,6 @@
 -- `scan::rest` meets its contract: a part that ends where the text ends is all that is left.
 use mathlib.Core.Path.{ap, sym, _∙_}
-use Prim.Native.Nat.{_-_}
-use lib.ListN.{length, drop, length-drop, drop-of-length-le}
+use lib.ListN.{length, length-drop, drop-of-length-le}
 use borrow.Author.Needs.{needs}
 use Rattle.text.proofs.Scanning.{rest-whole}
 use Rattle.text.proofs.scan.rest.Statement.{statement}
