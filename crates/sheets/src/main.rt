@@ -1,10 +1,9 @@
 // Runs the stored sheets that data/index names, and prints each one's name and answer. A sheet that cannot be read has no
 // answer, and is told on standard error.
+use columns::column;
+use columns::unpadded;
 use input::Input;
 use libc::STDOUT_FILENO;
-use text::scan::front;
-use text::scan::place;
-use text::scan::rest;
 
 fn read_stored(name: &[u8], room: &mut [u8; input::ROOM]) -> Input {
     let fd = os::open_read(name);
@@ -35,8 +34,7 @@ fn show(name: &[u8]) {
 fn show_all(index: &[u8]) {
     let mut at = 0;
     while 32 <= index.len() - at {
-        let name = front(rest(index, at), 31);
-        show(front(name, place(name, b' ')));
+        show(unpadded(column(index, at, 31)));
         at += 32;
     }
 }

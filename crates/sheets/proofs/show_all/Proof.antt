@@ -17,17 +17,11 @@ loop-holds c = search needs
 sub-loop : tie.Need-sub-loop Inv-loop μ-loop
 sub-loop c = search needs
 
-rest-requires : tie.Need-rest-requires Inv-loop μ-loop
-rest-requires c κs = search needs
+column-requires : tie.Need-column-requires Inv-loop μ-loop
+column-requires c κs = search needs
 
-front-requires : tie.Need-front-requires Inv-loop μ-loop
-front-requires c κs = search needs
-
-place-requires : tie.Need-place-requires Inv-loop μ-loop
-place-requires c κs = search needs
-
-front-requires-2 : tie.Need-front-requires-2 Inv-loop μ-loop
-front-requires-2 c κs = search needs
+unpadded-requires : tie.Need-unpadded-requires Inv-loop μ-loop
+unpadded-requires c κs = search needs
 
 show-requires : tie.Need-show-requires Inv-loop μ-loop
 show-requires c κs = search needs
@@ -52,10 +46,8 @@ show-all-spec =
     μ-loop
     loop-holds
     sub-loop
-    rest-requires
-    front-requires
-    place-requires
-    front-requires-2
+    column-requires
+    unpadded-requires
     show-requires
     add-at
     loop-less
