@@ -1,4 +1,4 @@
-// Runs the stored sheets that data/index names, and prints each one's name and answer. A sheet that cannot be read has no
+// Runs the stored sheets that an index names, and prints each one's name and answer. A sheet that cannot be read has no
 // answer, and is told on standard error.
 use columns::column;
 use columns::unpadded;
@@ -30,7 +30,7 @@ fn show(name: &[u8]) {
     io::write_all(STDOUT_FILENO, &answer[..r]);
 }
 
-// Each row of the index is a name of at most 31 bytes, padded with spaces, and the line's end.
+// Each row of an index is a name of at most 31 bytes, padded with spaces, and the line's end.
 fn show_all(index: &[u8]) {
     let mut at = 0;
     while 32 <= index.len() - at {
@@ -39,12 +39,18 @@ fn show_all(index: &[u8]) {
     }
 }
 
-fn main() {
+fn show_index(name: &[u8]) {
     let mut room = [0u8; input::ROOM];
-    let read = read_stored(b"index", &mut room);
+    let read = read_stored(name, &mut room);
     let Input::Whole(n) = read else {
-        os::fail(b"index");
+        os::fail(name);
         return;
     };
     show_all(input::counted(&room, n));
+}
+
+// The second index names what cannot be read, so that no answer stands in the stored output.
+fn main() {
+    show_index(b"index");
+    show_index(b"unreadable");
 }
