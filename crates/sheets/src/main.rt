@@ -1,43 +1,56 @@
-// Runs the stored sheets that data/index names, and prints each one's name and answer.
+// Runs the stored sheets that an index names, and prints each one's name and answer. A sheet that cannot be read has no
+// answer, and is told on standard error.
+use columns::column;
+use columns::unpadded;
+use input::Input;
 use libc::STDOUT_FILENO;
-use text::scan::front;
-use text::scan::place;
 
-// The answer to one stored sheet, under its name.
-fn show(name: &[u8]) -> bool {
+fn read_stored(name: &[u8], room: &mut [u8; input::ROOM]) -> Input {
     let fd = os::open_read(name);
     if fd < 0 {
-        os::fail(name);
-        return false;
+        return Input::Failed;
     }
-    // One byte more than the longest sheet, so that a longer file is seen to be too long.
-    let mut input = [0u8; 65537];
-    let n = io::read_full(fd, &mut input);
+    let read = input::read_sheet(fd, room);
     libc::close(fd);
-    let mut output = [0u8; respond::MOST];
-    let r = respond::respond(&input[..n], &mut output);
+    read
+}
+
+// The answer to one stored sheet, under its name.
+fn show(name: &[u8]) {
+    let mut room = [0u8; input::ROOM];
+    let read = read_stored(name, &mut room);
+    let Input::Whole(n) = read else {
+        os::fail(name);
+        return;
+    };
+    let mut answer = [0u8; respond::MOST];
+    let r = respond::respond(input::counted(&room, n), &mut answer);
     io::write_all(STDOUT_FILENO, name);
     io::write_all(STDOUT_FILENO, b"\n");
-    io::write_all(STDOUT_FILENO, &output[..r])
+    io::write_all(STDOUT_FILENO, &answer[..r]);
 }
 
-// The sheet that the next row of the index names: 31 bytes, padded with spaces, and the line's end.
-fn show_next(index: i32) -> bool {
-    let mut row = [0u8; 32];
-    let n = io::read_full(index, &mut row);
-    if n < 32 {
-        return false;
+// Each row of an index is a name of at most 31 bytes, padded with spaces, and the line's end.
+fn show_all(index: &[u8]) {
+    let mut at = 0;
+    while 32 <= index.len() - at {
+        show(unpadded(column(index, at, 31)));
+        at += 32;
     }
-    show(front(&row, place(&row, b' ')))
 }
 
+fn show_index(name: &[u8]) {
+    let mut room = [0u8; input::ROOM];
+    let read = read_stored(name, &mut room);
+    let Input::Whole(n) = read else {
+        os::fail(name);
+        return;
+    };
+    show_all(input::counted(&room, n));
+}
+
+// The second index names what cannot be read, so that no answer stands in the stored output.
 fn main() {
-    let index = os::open_read(b"index");
-    let mut turns: u64 = 1000;
-    while 0 < turns {
-        if !show_next(index) {
-            return;
-        }
-        turns -= 1;
-    }
+    show_index(b"index");
+    show_index(b"unreadable");
 }

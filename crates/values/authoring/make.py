@@ -1,63 +1,59 @@
 #!/usr/bin/env python3
-"""make.py VALUES_COLUMNS DART_TSV: writes data/ and stdout from the expected values alone; no program of ours is run.
+"""make.py: writes ../data (what each case starts from) and ../stdout (what it must end with), from the columns that stand here.
 
-VALUES_COLUMNS is copied as it is. DART_TSV has a row for each case of the Dart SDK's tests: name, extension, code bytes in
-memory order, pc, registers before, memory before, pc after, registers after, memory after. data/README.md has the columns.
+It can be run again at any time, from any folder: it reads the three .columns files beside it and nothing else, and no
+program of ours is run. They hold the values of QEMU and of the Dart SDK; ../data/README.md has their columns.
 """
 import os
-import shutil
-import sys
 
-CRATE = os.path.join(os.path.dirname(os.path.abspath(__file__)), "..")
-WORDS = 18
-
-# These branch to a multiple of 2 that is no multiple of 4 before they reach a half-word.
-TO_HALF_WORD = {"dart-%sBranchOverflow_NonDestructive-%d" % (kind, k) for kind in ("Add", "Subtract") for k in (1, 2)}
+HERE = os.path.dirname(os.path.abspath(__file__))
+CRATE = os.path.join(HERE, "..")
 
 
-def registers(text):
-    return {part.split("=")[0]: int(part.split("=")[1], 16) for part in text.split(",")}
+def records(name, width):
+    """The lines of a file, each of `width` bytes with its end."""
+    lines = open(os.path.join(HERE, name)).read().split("\n")
+    assert lines.pop() == "" and all(len(line) == width - 1 for line in lines), name
+    return lines
 
 
-def number(name, extension):
-    """18 at the ECALL that stands where the code returns to; beyond RV64I the first foreign word."""
-    if extension == "I":
-        return 18
-    return 15 if name in TO_HALF_WORD else 13
+def numbers(line, at, width, count):
+    return [int(line[at + width * k:at + width * (k + 1)], 16) for k in range(count)]
 
 
-def record(row):
-    name, extension, code, pc, before, memory, pc_after, after, memory_after = row
-    before, after = registers(before), registers(after)
-    assert (pc, pc_after, memory, memory_after) == ("100000", "180000", "", ""), name
-    assert before.pop("x1") == 0x180000 and before.pop("x2") == 0x1f0000, name
-    assert set(before) <= {"x10", "x11", "x12"} and set(after) == {"x10"}, name
-    code = bytes.fromhex(code).ljust(4 * WORDS, b"\0")
-    values = [before.get("x10", 0), before.get("x11", 0), before.get("x12", 0), after["x10"]]
-    words = [int.from_bytes(code[at:at + 4], "little") for at in range(0, 4 * WORDS, 4)]
-    line = "%-64s%-4s%2d%10s" % (name, extension, number(name, extension), "")
-    line += "".join("%016x" % value for value in values) + "".join("%08x" % word for word in words) + "\n"
-    assert len(line) == 289, name
-    return line
+def parts(form, pairs):
+    """The pairs whose second number is not 0, each after a space."""
+    return "".join(" " + form % pair for pair in pairs if pair[1] != 0)
 
 
-def tally(name, count):
-    return "%s: %d right, 0 wrong\n" % (name, count)
+def value_case(line):
+    """QEMU's: registers that are not named are 0, and memory is the words at 1000, the doubleword at 2000 and zeros."""
+    after, doubleword = numbers(line, 112, 16, 4), numbers(line, 176, 16, 1)[0]
+    pc, steps = numbers(line, 192, 8, 2)
+    words = numbers(line, 208, 8, 5) + [0]
+    memory = [(0x1000 + 4 * k, words[k] + (words[k + 1] << 32)) for k in range(0, 6, 2)] + [(0x2000, doubleword)]
+    end = "%s 21 %x 0 %x" % (line[0:32].rstrip(), steps, pc)
+    end += parts("x%d=%x", zip((5, 6, 7, 10), after)) + parts("%x=%x", memory)
+    return line[0:112] + line[200:248] + "\n", end + "\n"
+
+
+def dart_case(line):
+    """The Dart SDK's: code that returns ends at the ECALL at 180000, with its result in x10."""
+    stop, result = int(line[68:70]), numbers(line, 128, 16, 1)[0]
+    end = "%s %d" % (line[0:64].rstrip(), stop)
+    end += " 180000 %x" % result if stop == 18 else ""
+    return line[0:64] + line[80:128] + line[144:288] + "\n", end + "\n"
 
 
 def main():
-    cases = os.path.getsize(sys.argv[1]) // 256
-    rows = [line.rstrip("\n").split("\t") for line in open(sys.argv[2])]
-    shutil.copyfile(sys.argv[1], os.path.join(CRATE, "data", "values.columns"))
-    out = tally("values.columns", cases)
-    for name, own in (("dart-rv64i.columns", True), ("dart-beyond.columns", False)):
-        records = [record(row) for row in rows if (row[1] == "I") == own]
-        with open(os.path.join(CRATE, "data", name), "w") as data:
-            data.write("".join(records))
-        out += tally(name, len(records))
-    out += tally("all cases", cases + len(rows))
-    with open(os.path.join(CRATE, "stdout"), "w") as stdout:
-        stdout.write(out)
+    stdout = ""
+    for name, width, case in (("values", 256, value_case), ("dart-rv64i", 289, dart_case), ("dart-beyond", 289, dart_case)):
+        pairs = [case(line) for line in records(name + ".columns", width)]
+        with open(os.path.join(CRATE, "data", name + ".columns"), "w") as data:
+            data.write("".join(pair[0] for pair in pairs))
+        stdout += name + "\n" + "".join(pair[1] for pair in pairs)
+    with open(os.path.join(CRATE, "stdout"), "w") as out:
+        out.write(stdout)
 
 
 main()

@@ -1,14 +1,16 @@
-// Runs stored cases of RV64I, and tells each that does not end as stored. data/README.md says where they came from.
+// Runs stored cases of RV64I, and prints what each ended with. Nothing is compared here: the stored output has what QEMU and
+// the Dart SDK say of them. data/README.md has the columns.
 mod dart;
 mod setting;
 mod value;
 
-use columns::both;
-use columns::print_tally;
+use columns::print;
 
 fn main() {
-    let values = value::cases_of(b"values.columns");
-    let plain = dart::cases_of(b"dart-rv64i.columns");
-    let beyond = dart::cases_of(b"dart-beyond.columns");
-    print_tally(b"all cases", both(both(values, plain), beyond));
+    print(b"values\n");
+    value::cases_of(b"values.columns");
+    print(b"dart-rv64i\n");
+    dart::cases_of(b"dart-rv64i.columns");
+    print(b"dart-beyond\n");
+    dart::cases_of(b"dart-beyond.columns");
 }

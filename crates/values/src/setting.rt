@@ -1,9 +1,8 @@
 // What a case starts from: a machine outside HFI mode, and words in memory.
 ghost use mathlib.Core.Path.{_≡_};
-ghost use mathlib.Core.Bool.{false};
 ghost use Prim.Native.Nat.{_+_, _*_, _≤_};
 ghost use lib.ListN.{length};
-ghost use Rattle.model.specs.Machine.{inside};
+ghost use Rattle.values.specs.Setting.{machineAt, placed};
 use columns::hexadecimal_at;
 use memory::bytes::write;
 use model::Fault;
@@ -13,7 +12,7 @@ use model::Region;
 
 // All zero but the registers and pc.
 pub fn machine(x: [u64; 32], pc: u64) -> Machine
-    ensures { λ r. ⌜ (r .x ≡ x) × (r .pc ≡ pc) × (inside (r .hfi) ≡ false) ⌝ }
+    ensures { λ r. ⌜ r ≡ machineAt x pc ⌝ }
 {
     let none = Region {
         base: 0,
@@ -34,21 +33,16 @@ pub fn machine(x: [u64; 32], pc: u64) -> Machine
         options: 0,
         handler: 0,
         selector: 0,
-        regions: regions,
-        fault: fault,
+        regions,
+        fault,
     };
-    Machine {
-        x: x,
-        pc: pc,
-        hfi: hfi,
-    }
+    Machine { x, pc, hfi }
 }
 
-// The words of n columns of a record, which begin at `from`, one after another in memory from `a` on. What memory then
-// holds is left free here; the stored cases show it.
+// The words of n columns of a record, which begin at `from`, one after another in memory from `a` on.
 pub fn place_words(r: &[u8], from: usize, n: usize, mem: &mut [u8], a: u64)
     requires { ⌜ (from + 8 * n ≤ 4096) × (a + 4 * n ≤ length (now mem)) ⌝ }
-    ensures { λ _. ⌜ length (now (mem .exit)) ≡ length (now (mem .entry)) ⌝ }
+    ensures { λ _. ⌜ now (mem .exit) ≡ placed (now (r .entry)) from (now (mem .entry)) a n ⌝ }
 {
     let mut i = 0;
     while i < n {
