@@ -2,9 +2,10 @@
 
 use std::collections::BTreeMap;
 
-use crate::instruction::{decode, encode, name};
+use crate::instruction::{decode, encode, name, HfiKind, Instruction};
 use crate::machine::Machine;
 use crate::reach::writable;
+use crate::step::step_asked;
 use crate::supply::Supply;
 
 /// What an engine under test offers. `None` means that it lacks the call.
@@ -113,12 +114,19 @@ pub struct Counts {
     pub run_steps: u64,
     /// Completed and stopped steps of each instruction.
     pub instructions: BTreeMap<String, (u64, u64)>,
+    /// What happened in the runs that cross the mode, by kind.
+    pub crossings: BTreeMap<&'static str, u64>,
+    pub resume_stops: BTreeMap<u64, u64>,
     pub sheet_lines: BTreeMap<String, u64>,
     pub isolation_stops: BTreeMap<u64, u64>,
     pub isolation_steps: u64,
     /// Isolation pairs whose memories truly differed.
     pub isolation_differing: u64,
+    /// Isolation pairs whose run left another memory than it began with.
+    pub isolation_stored: u64,
     pub compared: u64,
+    /// How many comparisons differed; the first 20 are told.
+    pub differing: u64,
     pub differences: Vec<String>,
 }
 
@@ -132,6 +140,8 @@ impl Counts {
         }
         all(&mut self.step_stops, other.step_stops);
         all(&mut self.run_stops, other.run_stops);
+        all(&mut self.crossings, other.crossings);
+        all(&mut self.resume_stops, other.resume_stops);
         all(&mut self.sheet_lines, other.sheet_lines);
         all(&mut self.isolation_stops, other.isolation_stops);
         for (name, (completed, stopped)) in other.instructions {
@@ -142,11 +152,14 @@ impl Counts {
         self.run_steps += other.run_steps;
         self.isolation_steps += other.isolation_steps;
         self.isolation_differing += other.isolation_differing;
+        self.isolation_stored += other.isolation_stored;
         self.compared += other.compared;
+        self.differing += other.differing;
         self.differences.extend(other.differences);
     }
 
     pub fn difference(&mut self, text: String) {
+        self.differing += 1;
         if self.differences.len() < 20 {
             self.differences.push(text);
         }
@@ -267,6 +280,7 @@ pub fn compare_resume(left: &dyn Engine, right: &dyn Engine, machine: &Machine, 
     let (mut m, mut n) = (*machine, *machine);
     if let (Some(a), Some(b)) = (left.resume(&mut m, value), right.resume(&mut n, value)) {
         counts.compared += 1;
+        *counts.resume_stops.entry(a).or_default() += 1;
         if a != b || m != n {
             counts.difference(format!("resume\n  before {}\n  {a} {}\n  {b} {}", show(machine), show(&m), show(&n)));
         }
@@ -294,6 +308,65 @@ pub fn compare_sheet(left: &dyn Engine, right: &dyn Engine, sheet: &[u8], counts
     }
 }
 
+/// What the oracle's steps of a run do about the mode, counted by kind.
+pub fn count_crossings(machine: &Machine, memory: &[u8], budget: u64, counts: &mut Counts) {
+    let mut seen: Vec<&'static str> = Vec::new();
+    let (mut m, mut bytes) = (*machine, memory.to_vec());
+    let began_inside = m.mode == 1;
+    seen.push(if began_inside { "runs begun inside" } else { "runs begun outside" });
+    let (mut entered, mut left, mut steps_after) = (0u64, 0u64, 0u64);
+    let mut stop = 21;
+    for _ in 0..budget {
+        let (before, word) = (m, word_at(&bytes, m.pc));
+        stop = step_asked(&mut m, &mut bytes).0;
+        if stop != 0 {
+            break;
+        }
+        stop = 21;
+        steps_after += (left > 0) as u64;
+        if before.mode == 0 && m.mode == 1 {
+            entered += 1;
+            let jump = matches!(word.and_then(decode), Some(Instruction::Hfi { kind: HfiKind::EnterJump, .. }));
+            seen.push(if jump { "enters with jump" } else { "enters" });
+        }
+        if before.mode == 1 && m.mode == 0 {
+            left += 1;
+            steps_after = 0;
+            seen.push(match (m.reason, m.options & 4) {
+                (2, _) => "calls redirected",
+                (_, 4) => "exits redirected",
+                _ => "exits not redirected",
+            });
+            if began_inside {
+                stop = 20;
+                break;
+            }
+        }
+    }
+    if !began_inside {
+        if left > 0 && (steps_after > 0 || entered > left) {
+            seen.push("runs begun outside that left and went on");
+        }
+        if left > 0 && entered > 1 {
+            seen.push("runs begun outside that left and entered again");
+        }
+        if left > 0 && m.mode == 0 && stop == 21 && steps_after == 0 {
+            seen.push("runs begun outside whose last step left");
+        }
+        if stop == 18 && m.mode == 1 {
+            seen.push("runs begun outside that ended with 18 inside");
+        }
+        if (stop == 11 || stop == 16) && entered > 0 {
+            seen.push("runs begun outside that entered and ended with 11 or 16");
+        }
+    } else if stop == 20 {
+        seen.push("runs begun inside that ended with 20");
+    }
+    for kind in seen {
+        *counts.crossings.entry(kind).or_default() += 1;
+    }
+}
+
 /// Demand 3 on one engine: from one machine in locked HFI mode and two
 /// memories that agree on readable and executable bytes, the same stop, count,
 /// address and final machine; bytes that agreed still agree; bytes that are
@@ -315,6 +388,7 @@ pub fn isolation(
     *counts.isolation_stops.entry(first.0).or_default() += 1;
     counts.isolation_steps += first.1;
     counts.isolation_differing += (one != two) as u64;
+    counts.isolation_stored += (one != a || two != b) as u64;
     if first != second || m != n {
         counts.difference(format!(
             "isolation of {}: answers differ\n  before {}\n  {first:?} {}\n  {second:?} {}",
@@ -396,6 +470,16 @@ pub fn rounds(left: &dyn Engine, right: &dyn Engine, seed: u64, number: u64, cou
                 }
             }
         }
+        for _ in 0..4 {
+            let k = 7 + supply.below(4);
+            let (machine, memory) = supply.crossing_world(k);
+            let budget = supply.pick(&[20, 50, 100, 200]) + supply.below(20);
+            count_crossings(&machine, &memory, budget, counts);
+            compare_run(left, right, &machine, &memory, budget, counts);
+            let machine = supply.any_state();
+            let value = supply.edge();
+            compare_resume(left, right, &machine, value, counts);
+        }
         for _ in 0..2 {
             let valid = supply.valid_sheet();
             compare_sheet(left, right, &valid, counts);
@@ -417,25 +501,32 @@ pub fn rounds(left: &dyn Engine, right: &dyn Engine, seed: u64, number: u64, cou
     }
 }
 
-/// Lengths about the limit, which random rounds do not reach.
+/// Lengths about the limit, which random rounds do not reach: four machines
+/// each, as they come, at pc 0 outside HFI mode, and about the memory's end.
 pub fn long_memories(left: &dyn Engine, right: &dyn Engine, seed: u64, counts: &mut Counts) {
     let mut supply = Supply::new(seed);
     for length in [16_777_215usize, 16_777_216, 16_777_217] {
         let mut memory = vec![0u8; length];
-        let word = supply.word();
-        memory[..4].copy_from_slice(&word.to_le_bytes());
-        let mut machine = supply.machine(length);
-        compare_run(left, right, &machine, &memory, 10, counts);
-        machine.pc = 0;
-        machine.mode = 0;
-        compare_run(left, right, &machine, &memory, 10, counts);
-        compare_step(left, right, &mut machine, &mut memory, counts);
+        for _ in 0..4 {
+            let mut machine = supply.machine(length);
+            compare_run(left, right, &machine, &memory, 10, counts);
+            machine.mode = 0;
+            for pc in [0, length / 4 * 4 - 4, length / 4 * 4] {
+                let word = supply.word();
+                if let Some(place) = memory.get_mut(pc..pc + 4) {
+                    place.copy_from_slice(&word.to_le_bytes());
+                }
+                machine.pc = pc as u64;
+                compare_run(left, right, &machine, &memory, 10, counts);
+                compare_step(left, right, &mut machine.clone(), &mut memory, counts);
+            }
+        }
     }
 }
 
 pub fn print_counts(counts: &Counts) {
     let total = |stops: &BTreeMap<u64, u64>| stops.values().sum::<u64>();
-    println!("compared {}, differences {}", counts.compared, counts.differences.len());
+    println!("compared {}, differences {}", counts.compared, counts.differing.max(counts.differences.len() as u64));
     println!(
         "single steps {}, steps in {} runs {}, steps in {} isolation pairs {}, sheets {}",
         total(&counts.step_stops),
@@ -447,10 +538,15 @@ pub fn print_counts(counts: &Counts) {
     );
     println!("step stops {:?}", counts.step_stops);
     println!("run stops {:?}", counts.run_stops);
+    println!("resume stops {:?}", counts.resume_stops);
+    println!("runs that cross the mode:");
+    for (kind, count) in &counts.crossings {
+        println!("  {kind} {count}");
+    }
     println!("sheet lines {:?}", counts.sheet_lines);
     println!(
-        "isolation stops {:?}, steps {}, pairs with different memories {}",
-        counts.isolation_stops, counts.isolation_steps, counts.isolation_differing
+        "isolation stops {:?}, steps {}, pairs with different memories {}, pairs in which a run changed its memory {}",
+        counts.isolation_stops, counts.isolation_steps, counts.isolation_differing, counts.isolation_stored
     );
     println!("instructions (completed, stopped):");
     for (name, (completed, stopped)) in &counts.instructions {
