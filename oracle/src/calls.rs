@@ -288,11 +288,6 @@ impl List {
         self.step("enter, nothing had occurred", outside(hfi(ENTER)).with(options(3)).with(|m| m.fault.occurred = 0), 0, entered(3, 0x44));
         let bare = outside(hfi(ENTER)).with(options(7)).with(|m| m.regions = Default::default());
         self.step("enter, no region at all", bare, 0, entered(7, 0x44));
-        for value in [16, 1 << 32, (1 << 32) + 1, 1 << 63, ALL] {
-            self.step(&format!("enter, options operand {value:x}"), outside(hfi(ENTER)).with(options(value)), 14, unchanged);
-            let world = outside(hfi(ENTER_JUMP)).with(options(value)).with(|m| m.x[6] = 0x80);
-            self.step(&format!("enter with jump, options operand {value:x}"), world, 14, unchanged);
-        }
         for target in [0, 0x80, 0x44, 0x8000_0000, 1 << 48, ALL - 3] {
             let world = outside(hfi(ENTER_JUMP)).with(options(5)).with(|m| m.x[6] = target);
             self.step(&format!("enter with jump to {target:x}"), world, 0, entered(5, target));
@@ -300,6 +295,15 @@ impl List {
         let both = outside(hfi_fields(ENTER_JUMP, 0, 5, 5)).with(options(12));
         self.step("enter with jump, one register for both", both, 0, entered(12, 12));
         self.step("enter with jump, x0 for both", outside(hfi_fields(ENTER_JUMP, 0, 0, 0)), 0, entered(0, 0));
+    }
+
+    fn enters_refused(&mut self) {
+        let options = |value: u64| move |m: &mut Machine| m.x[5] = value;
+        for value in [16, 1 << 32, (1 << 32) + 1, 1 << 63, ALL] {
+            self.step(&format!("enter, options operand {value:x}"), outside(hfi(ENTER)).with(options(value)), 14, unchanged);
+            let world = outside(hfi(ENTER_JUMP)).with(options(value)).with(|m| m.x[6] = 0x80);
+            self.step(&format!("enter with jump, options operand {value:x}"), world, 14, unchanged);
+        }
         for target in [0x81, 0x82, 0x83, ALL] {
             let world = outside(hfi(ENTER_JUMP)).with(options(5)).with(|m| m.x[6] = target);
             self.step(&format!("enter with jump to {target:x}, no multiple of 4"), world, 15, unchanged);
@@ -376,7 +380,7 @@ impl List {
         }
     }
 
-    /// Select, set and get; "a selected number not 1 to 3; funct7 4 to 9 with selector 0; a permission bit the region lacks".
+    /// Select, set and get; "a selected number not 1 to 3; funct7 4 to 9 with selector 0".
     fn regions(&mut self) {
         for number in [1, 2, 3] {
             let chosen = |m: &mut Machine| (m.selector, m.pc) = (number, 0x44);
@@ -402,6 +406,10 @@ impl List {
         }
         self.step("get base into x0", outside(hfi_fields(GET_BASE, 0, 0, 0)).with(|m| m.selector = 1), 0, |m| m.pc = 0x44);
         self.step("get base into x0, selector 0", outside(hfi_fields(GET_BASE, 0, 0, 0)), 14, unchanged);
+    }
+
+    /// "a permission bit the region lacks"
+    fn permissions(&mut self) {
         let largest: [u64; 3] = [0xb, 3, 4];
         for selector in 1..=3usize {
             let world = |value: u64| {
@@ -637,13 +645,6 @@ impl List {
             m.pc = 0x48;
         });
         self.run("outside, enters, exits, exits again", begin(0).put(0x48, hfi(EXIT)).put(0x4c, hfi(EXIT)), 50, (14, 3), |m| out(m, 0, 1, 0x4c));
-        let jump = outside(hfi(ENTER_JUMP)).with(|m| (m.x[5], m.x[6]) = (5, 0xc0)).put(0xc0, hfi(EXIT));
-        self.run("outside, enters with jump, exits to the handler, 12 there", jump.with(|m| m.handler = 0x2460), 50, (12, 2), |m| {
-            (m.options, m.reason, m.exit_pc, m.pc) = (5, 1, 0xc0, 0x2460);
-            m.fault.occurred = 0;
-        })
-        .told
-        .address = 0x2460;
     }
 
     fn crossings_that_stop(&mut self) {
@@ -652,6 +653,13 @@ impl List {
             (m.mode, m.options, m.pc) = (1, 1, 0x44);
             m.fault.occurred = 0;
         };
+        let jump = outside(hfi(ENTER_JUMP)).with(|m| (m.x[5], m.x[6]) = (5, 0xc0)).put(0xc0, hfi(EXIT));
+        self.run("outside, enters with jump, exits to the handler, 12 there", jump.with(|m| m.handler = 0x2460), 50, (12, 2), |m| {
+            (m.options, m.reason, m.exit_pc, m.pc) = (5, 1, 0xc0, 0x2460);
+            m.fault.occurred = 0;
+        })
+        .told
+        .address = 0x2460;
         let far = begin().with(|m| m.regions[2].base = 0x100);
         self.run("outside, enters, the next fetch is refused", far, 50, (11, 1), |m| {
             ins(m);
@@ -678,6 +686,10 @@ impl List {
         .stores(0x308, 8, 0x107);
         let changes = outside(store(2, 7, 0, 0x44)).with(|m| m.x[7] = EBREAK as u64).put(0x44, NOP);
         self.run("outside, stores its next word", changes, 50, (19, 1), |m| m.pc = 0x44).stores(0x44, 4, EBREAK as u64);
+    }
+
+    /// "a run that began in HFI mode ends there with 20"
+    fn runs_inside(&mut self) {
         let exit = || inside(addi(10, 0, 5)).with(|m| m.options = 0).put(0x44, hfi(EXIT)).put(0x48, ECALL);
         let left = |m: &mut Machine| (m.mode, m.reason, m.exit_pc, m.pc, m.x[10]) = (0, 1, 0x44, 0x48, 5);
         self.run("inside, exits: 20, not ECALL's 18", exit(), 50, (20, 2), left);
@@ -786,14 +798,17 @@ fn largest_of_all(m: &mut Machine) {
 pub fn directed() -> Vec<Directed> {
     let mut list = List::default();
     list.enters();
+    list.enters_refused();
     list.exits();
     list.h_words_outside();
     list.locks();
     list.regions();
+    list.permissions();
     list.handler_and_reset();
     list.system();
     list.crossings();
     list.crossings_that_stop();
+    list.runs_inside();
     list.resumes();
     list.ill_formed();
     list.well_formed();

@@ -308,61 +308,71 @@ pub fn compare_sheet(left: &dyn Engine, right: &dyn Engine, sheet: &[u8], counts
     }
 }
 
-/// What the oracle's steps of a run do about the mode, counted by kind.
-pub fn count_crossings(machine: &Machine, memory: &[u8], budget: u64, counts: &mut Counts) {
-    let mut seen: Vec<&'static str> = Vec::new();
+/// What the steps of one run do about the mode.
+#[derive(Default)]
+struct Crossings {
+    began_inside: bool,
+    ended_inside: bool,
+    stop: u64,
+    entered: u64,
+    left: u64,
+    /// Steps after the last time that it left.
+    since: u64,
+}
+
+/// The oracle's steps of a run one by one; each enter and each leaving is
+/// counted by its kind.
+fn follow(machine: &Machine, memory: &[u8], budget: u64, counts: &mut Counts) -> Crossings {
     let (mut m, mut bytes) = (*machine, memory.to_vec());
-    let began_inside = m.mode == 1;
-    seen.push(if began_inside { "runs begun inside" } else { "runs begun outside" });
-    let (mut entered, mut left, mut steps_after) = (0u64, 0u64, 0u64);
-    let mut stop = 21;
+    let mut seen = Crossings { began_inside: m.mode == 1, stop: 21, ..Crossings::default() };
     for _ in 0..budget {
-        let (before, word) = (m, word_at(&bytes, m.pc));
-        stop = step_asked(&mut m, &mut bytes).0;
+        let (before, word) = (m.mode, word_at(&bytes, m.pc));
+        let stop = step_asked(&mut m, &mut bytes).0;
         if stop != 0 {
+            seen.stop = stop;
             break;
         }
-        stop = 21;
-        steps_after += (left > 0) as u64;
-        if before.mode == 0 && m.mode == 1 {
-            entered += 1;
+        seen.since += 1;
+        if before == 0 && m.mode == 1 {
+            seen.entered += 1;
             let jump = matches!(word.and_then(decode), Some(Instruction::Hfi { kind: HfiKind::EnterJump, .. }));
-            seen.push(if jump { "enters with jump" } else { "enters" });
+            *counts.crossings.entry(if jump { "enters with jump" } else { "enters" }).or_default() += 1;
         }
-        if before.mode == 1 && m.mode == 0 {
-            left += 1;
-            steps_after = 0;
-            seen.push(match (m.reason, m.options & 4) {
+        if before == 1 && m.mode == 0 {
+            seen.left += 1;
+            seen.since = 0;
+            let kind = match (m.reason, m.options & 4) {
                 (2, _) => "calls redirected",
                 (_, 4) => "exits redirected",
                 _ => "exits not redirected",
-            });
-            if began_inside {
-                stop = 20;
+            };
+            *counts.crossings.entry(kind).or_default() += 1;
+            if seen.began_inside {
+                seen.stop = 20;
                 break;
             }
         }
     }
-    if !began_inside {
-        if left > 0 && (steps_after > 0 || entered > left) {
-            seen.push("runs begun outside that left and went on");
-        }
-        if left > 0 && entered > 1 {
-            seen.push("runs begun outside that left and entered again");
-        }
-        if left > 0 && m.mode == 0 && stop == 21 && steps_after == 0 {
-            seen.push("runs begun outside whose last step left");
-        }
-        if stop == 18 && m.mode == 1 {
-            seen.push("runs begun outside that ended with 18 inside");
-        }
-        if (stop == 11 || stop == 16) && entered > 0 {
-            seen.push("runs begun outside that entered and ended with 11 or 16");
-        }
-    } else if stop == 20 {
-        seen.push("runs begun inside that ended with 20");
-    }
-    for kind in seen {
+    seen.ended_inside = m.mode == 1;
+    seen
+}
+
+/// Counts a run by what it does about the mode.
+pub fn count_crossings(machine: &Machine, memory: &[u8], budget: u64, counts: &mut Counts) {
+    let seen = follow(machine, memory, budget, counts);
+    let kinds = if seen.began_inside {
+        vec![("runs begun inside", true), ("runs begun inside that ended with 20", seen.stop == 20)]
+    } else {
+        vec![
+            ("runs begun outside", true),
+            ("runs begun outside that left and went on", seen.left > 0 && seen.since > 0),
+            ("runs begun outside that left and entered again", seen.left > 0 && seen.entered > 1),
+            ("runs begun outside whose last step left", seen.left > 0 && seen.since == 0 && seen.stop == 21),
+            ("runs begun outside that ended with 18 inside", seen.stop == 18 && seen.ended_inside),
+            ("runs begun outside that ended with 11 or 16", seen.stop == 11 || seen.stop == 16),
+        ]
+    };
+    for (kind, _) in kinds.into_iter().filter(|(_, holds)| *holds) {
         *counts.crossings.entry(kind).or_default() += 1;
     }
 }
@@ -421,64 +431,11 @@ pub fn rounds(left: &dyn Engine, right: &dyn Engine, seed: u64, number: u64, cou
         let length = supply.length();
         let memory = supply.memory(length);
         for _ in 0..8 {
-            let machine = supply.machine(length);
-            let (mut m, mut bytes) = (machine, memory.clone());
-            for _ in 0..16 {
-                if !compare_step(left, right, &mut m, &mut bytes, counts) {
-                    break;
-                }
-            }
-            // A step of a single chosen word, so that each instruction is met.
-            if length >= 4 {
-                let mut m = supply.machine(length);
-                m.pc = supply.below(length as u64 / 4) * 4;
-                m.mode = supply.below(2);
-                if m.mode == 1 {
-                    let k = 12 + supply.below(8);
-                    m.regions[2] = crate::Region { base: 0, bound: u64::MAX << k, permission: 4 };
-                }
-                let mut bytes = memory.clone();
-                let mut word = supply.word();
-                if supply.once_in(3) {
-                    // An HFI word with a small operand, mostly unlocked.
-                    word = supply.hfi_word();
-                    m.x[5] = match supply.below(4) {
-                        0 => supply.edge(),
-                        1 => supply.below(20) + (1 << (32 + supply.below(32))),
-                        _ => supply.below(20),
-                    };
-                    m.x[6] = supply.below(64) * 4 + if supply.once_in(2) { supply.below(4) } else { 0 };
-                    m.options &= supply.pick(&[14, 14, 14, 15]);
-                }
-                let at = m.pc as usize;
-                bytes[at..at + 4].copy_from_slice(&word.to_le_bytes());
-                compare_step(left, right, &mut m, &mut bytes, counts);
-            }
-            let budget = supply.budget();
-            compare_run(left, right, &machine, &memory, budget, counts);
-            let value = supply.edge();
-            compare_resume(left, right, &machine, value, counts);
+            any_machine(left, right, &mut supply, &memory, counts);
         }
         for _ in 0..4 {
-            let (machine, memory) = supply.steady_world();
-            let budget = supply.budget();
-            compare_run(left, right, &machine, &memory, budget, counts);
-            let (mut m, mut bytes) = (machine, memory);
-            for _ in 0..64 {
-                if !compare_step(left, right, &mut m, &mut bytes, counts) {
-                    break;
-                }
-            }
-        }
-        for _ in 0..4 {
-            let k = 7 + supply.below(4);
-            let (machine, memory) = supply.crossing_world(k);
-            let budget = supply.pick(&[20, 50, 100, 200]) + supply.below(20);
-            count_crossings(&machine, &memory, budget, counts);
-            compare_run(left, right, &machine, &memory, budget, counts);
-            let machine = supply.any_state();
-            let value = supply.edge();
-            compare_resume(left, right, &machine, value, counts);
+            steady_run(left, right, &mut supply, counts);
+            crossing_run(left, right, &mut supply, counts);
         }
         for _ in 0..2 {
             let valid = supply.valid_sheet();
@@ -487,18 +444,93 @@ pub fn rounds(left: &dyn Engine, right: &dyn Engine, seed: u64, number: u64, cou
             compare_sheet(left, right, &damaged, counts);
         }
         for turn in 0..8 {
-            let (machine, one) = if turn < 2 {
-                (supply.locked_machine(length), supply.memory(length))
-            } else {
-                let (mut machine, memory) = supply.steady_world();
-                machine.options |= 1;
-                (machine, memory)
-            };
-            let two = supply.twin(&machine, &one);
-            let budget = supply.budget();
-            isolation(right, &machine, &one, &two, budget, counts);
+            isolation_pair(right, &mut supply, turn, length, counts);
         }
     }
+}
+
+/// Any machine over a memory of random words: steps, a run, a resumption.
+fn any_machine(left: &dyn Engine, right: &dyn Engine, supply: &mut Supply, memory: &[u8], counts: &mut Counts) {
+    let machine = supply.machine(memory.len());
+    let (mut m, mut bytes) = (machine, memory.to_vec());
+    for _ in 0..16 {
+        if !compare_step(left, right, &mut m, &mut bytes, counts) {
+            break;
+        }
+    }
+    if memory.len() >= 4 {
+        chosen_word(left, right, supply, memory, counts);
+    }
+    let budget = supply.budget();
+    compare_run(left, right, &machine, memory, budget, counts);
+    let value = supply.edge();
+    compare_resume(left, right, &machine, value, counts);
+}
+
+/// A step of a single chosen word, so that each instruction is met.
+fn chosen_word(left: &dyn Engine, right: &dyn Engine, supply: &mut Supply, memory: &[u8], counts: &mut Counts) {
+    let mut m = supply.machine(memory.len());
+    m.pc = supply.below(memory.len() as u64 / 4) * 4;
+    m.mode = supply.below(2);
+    if m.mode == 1 {
+        let k = 12 + supply.below(8);
+        m.regions[2] = crate::Region { base: 0, bound: u64::MAX << k, permission: 4 };
+    }
+    let mut bytes = memory.to_vec();
+    let mut word = supply.word();
+    if supply.once_in(3) {
+        // An HFI word with a small operand, mostly unlocked.
+        word = supply.hfi_word();
+        m.x[5] = match supply.below(4) {
+            0 => supply.edge(),
+            1 => supply.below(20) + (1 << (32 + supply.below(32))),
+            _ => supply.below(20),
+        };
+        m.x[6] = supply.below(64) * 4 + if supply.once_in(2) { supply.below(4) } else { 0 };
+        m.options &= supply.pick(&[14, 14, 14, 15]);
+    }
+    let at = m.pc as usize;
+    bytes[at..at + 4].copy_from_slice(&word.to_le_bytes());
+    compare_step(left, right, &mut m, &mut bytes, counts);
+}
+
+/// A run that goes on for a while in HFI mode, whole and step by step.
+fn steady_run(left: &dyn Engine, right: &dyn Engine, supply: &mut Supply, counts: &mut Counts) {
+    let (machine, memory) = supply.steady_world();
+    let budget = supply.budget();
+    compare_run(left, right, &machine, &memory, budget, counts);
+    let (mut m, mut bytes) = (machine, memory);
+    for _ in 0..64 {
+        if !compare_step(left, right, &mut m, &mut bytes, counts) {
+            break;
+        }
+    }
+}
+
+/// A run that goes in and out of HFI mode, and a resumption of any state.
+fn crossing_run(left: &dyn Engine, right: &dyn Engine, supply: &mut Supply, counts: &mut Counts) {
+    let k = 7 + supply.below(4);
+    let (machine, memory) = supply.crossing_world(k);
+    let budget = supply.pick(&[20, 50, 100, 200]) + supply.below(20);
+    count_crossings(&machine, &memory, budget, counts);
+    compare_run(left, right, &machine, &memory, budget, counts);
+    let machine = supply.any_state();
+    let value = supply.edge();
+    compare_resume(left, right, &machine, value, counts);
+}
+
+/// One experiment of demand 3: a locked machine and two memories.
+fn isolation_pair(engine: &dyn Engine, supply: &mut Supply, turn: u64, length: usize, counts: &mut Counts) {
+    let (machine, one) = if turn < 2 {
+        (supply.locked_machine(length), supply.memory(length))
+    } else {
+        let (mut machine, memory) = supply.steady_world();
+        machine.options |= 1;
+        (machine, memory)
+    };
+    let two = supply.twin(&machine, &one);
+    let budget = supply.budget();
+    isolation(engine, &machine, &one, &two, budget, counts);
 }
 
 /// Lengths about the limit, which random rounds do not reach: four machines
