@@ -16,6 +16,7 @@ use text::field::field_count;
 use text::field::field_number;
 use text::field::line_at;
 use text::number::number;
+use text::print::put_hexadecimal;
 use text::scan::place;
 use text::scan::rest;
 
@@ -25,8 +26,9 @@ fn print(text: &[u8]) {
 
 // A comma and the number, in hexadecimal.
 fn print_field(n: u64) {
-    print(b",");
-    io::print_hex(STDOUT_FILENO, n, 1);
+    let mut room = [b','; 17];
+    let end = put_hexadecimal(&mut room, 1, n);
+    print(&room[..end]);
 }
 
 // Where the line after the one at a place begins; the text's end where there is none.
