@@ -1,11 +1,22 @@
 /* libkoubospar.a and libkoubospar_codec.a: an RV64I machine with HFI, for the controller of an oven.
  *
  * `rt staticlib koubospar` and `rt staticlib koubospar_codec` build them in target/staticlib/; nothing of them is compiled
- * unless it is proved. The second has koubospar_decode and koubospar_encode, the first all else. Numbers and values are those of the scope paper, "document 01". Every function takes every value of every
- * field; what it refuses, it answers with a number. What nothing checks is C's own: a machine is a valid, aligned and
- * initialized record, `memory` is valid for `length` bytes, the two do not overlap, and nobody else uses them during a
- * call. The libraries have no state of their own and call nothing but memcpy, so calls on different machines may be made
- * at the same time.
+ * unless it is proved. The second has koubospar_decode and koubospar_encode, the first all else. Numbers and values are
+ * those of the scope paper, "document 01". Every function takes every value of every field; what it refuses, it answers
+ * with a number. What nothing checks is C's own: a machine is a valid, aligned and initialized record, `memory` is valid
+ * for `length` bytes, the two do not overlap, and nobody else uses them during a call. The libraries have no state of
+ * their own, so calls on different machines may be made at the same time. libkoubospar.a needs memcpy and memset from
+ * whoever links it, libkoubospar_codec.a nothing.
+ *
+ * This header is written by hand. The proofs speak of the record by its fields' names, so they would not notice two
+ * fields exchanged in it, and the library would be built all the same. `c/try` is the only guard: it asks the library
+ * itself (koubospar_probe, koubospar_place, and calls) where each field stands. Run it after every build, with the compiler
+ * of the controller's code, before you believe the declarations below.
+ *
+ * The libraries are compiled for x86-64 alone, with the System V calling convention, and use SSE2, which every x86-64
+ * has: a controller that calls them from an interrupt has to save those registers. Another machine takes a compiler back
+ * end for it in the kit; sources and proofs stay as they are, and `c/try` and `oracle/try` have to be run there. Memory is
+ * little-endian by its definition and not by the host's.
  */
 #ifndef KOUBOSPAR_H
 #define KOUBOSPAR_H
@@ -52,6 +63,24 @@ struct koubospar_machine {
     uint64_t pc;
     struct koubospar_hfi hfi;
 };
+
+/* ---- stack and cost -------------------------------------------------------------------------------------------- */
+
+/* The bytes of stack that a call takes, what it is called with included: measured by painting, over every stop and every
+ * kind of word, and rounded up. `c/try` measures them again and fails where a call takes more. Measured were 2,464 for a
+ * step, 2,096 for a run, 16 for a resumption, 68,048 for a sheet, 336 and 368 for decoding and encoding, 432 for the
+ * probe and a place. No call's stack grows with the memory, the budget or the sheet. */
+#define KOUBOSPAR_STACK_STEP 3072
+#define KOUBOSPAR_STACK_RUN 2560
+#define KOUBOSPAR_STACK_RESUME 256
+#define KOUBOSPAR_STACK_RESPOND 69632
+#define KOUBOSPAR_STACK_DECODE 512
+#define KOUBOSPAR_STACK_ENCODE 512
+#define KOUBOSPAR_STACK_PROBE 512
+#define KOUBOSPAR_STACK_PLACE 512
+
+/* A step call is a run of one step: it costs 537 instructions more than a step inside a run, which costs 137 to 267 on
+ * the programs of bench/ (bench/README.md). Make runs, and steps only where one must look in between. */
 
 /* ---- the calls on a machine ----------------------------------------------------------------------------------- */
 

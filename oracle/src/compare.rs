@@ -2,9 +2,10 @@
 
 use std::collections::BTreeMap;
 
-use crate::instruction::{decode, encode, name};
+use crate::instruction::{decode, encode, name, HfiKind, Instruction};
 use crate::machine::Machine;
 use crate::reach::writable;
+use crate::step::step_asked;
 use crate::supply::Supply;
 
 /// What an engine under test offers. `None` means that it lacks the call.
@@ -113,12 +114,19 @@ pub struct Counts {
     pub run_steps: u64,
     /// Completed and stopped steps of each instruction.
     pub instructions: BTreeMap<String, (u64, u64)>,
+    /// What happened in the runs that cross the mode, by kind.
+    pub crossings: BTreeMap<&'static str, u64>,
+    pub resume_stops: BTreeMap<u64, u64>,
     pub sheet_lines: BTreeMap<String, u64>,
     pub isolation_stops: BTreeMap<u64, u64>,
     pub isolation_steps: u64,
     /// Isolation pairs whose memories truly differed.
     pub isolation_differing: u64,
+    /// Isolation pairs whose run left another memory than it began with.
+    pub isolation_stored: u64,
     pub compared: u64,
+    /// How many comparisons differed; the first 20 are told.
+    pub differing: u64,
     pub differences: Vec<String>,
 }
 
@@ -132,6 +140,8 @@ impl Counts {
         }
         all(&mut self.step_stops, other.step_stops);
         all(&mut self.run_stops, other.run_stops);
+        all(&mut self.crossings, other.crossings);
+        all(&mut self.resume_stops, other.resume_stops);
         all(&mut self.sheet_lines, other.sheet_lines);
         all(&mut self.isolation_stops, other.isolation_stops);
         for (name, (completed, stopped)) in other.instructions {
@@ -142,11 +152,14 @@ impl Counts {
         self.run_steps += other.run_steps;
         self.isolation_steps += other.isolation_steps;
         self.isolation_differing += other.isolation_differing;
+        self.isolation_stored += other.isolation_stored;
         self.compared += other.compared;
+        self.differing += other.differing;
         self.differences.extend(other.differences);
     }
 
     pub fn difference(&mut self, text: String) {
+        self.differing += 1;
         if self.differences.len() < 20 {
             self.differences.push(text);
         }
@@ -267,6 +280,7 @@ pub fn compare_resume(left: &dyn Engine, right: &dyn Engine, machine: &Machine, 
     let (mut m, mut n) = (*machine, *machine);
     if let (Some(a), Some(b)) = (left.resume(&mut m, value), right.resume(&mut n, value)) {
         counts.compared += 1;
+        *counts.resume_stops.entry(a).or_default() += 1;
         if a != b || m != n {
             counts.difference(format!("resume\n  before {}\n  {a} {}\n  {b} {}", show(machine), show(&m), show(&n)));
         }
@@ -294,6 +308,75 @@ pub fn compare_sheet(left: &dyn Engine, right: &dyn Engine, sheet: &[u8], counts
     }
 }
 
+/// What the steps of one run do about the mode.
+#[derive(Default)]
+struct Crossings {
+    began_inside: bool,
+    ended_inside: bool,
+    stop: u64,
+    entered: u64,
+    left: u64,
+    /// Steps after the last time that it left.
+    since: u64,
+}
+
+/// The oracle's steps of a run one by one; each enter and each leaving is
+/// counted by its kind.
+fn follow(machine: &Machine, memory: &[u8], budget: u64, counts: &mut Counts) -> Crossings {
+    let (mut m, mut bytes) = (*machine, memory.to_vec());
+    let mut seen = Crossings { began_inside: m.mode == 1, stop: 21, ..Crossings::default() };
+    for _ in 0..budget {
+        let (before, word) = (m.mode, word_at(&bytes, m.pc));
+        let stop = step_asked(&mut m, &mut bytes).0;
+        if stop != 0 {
+            seen.stop = stop;
+            break;
+        }
+        seen.since += 1;
+        if before == 0 && m.mode == 1 {
+            seen.entered += 1;
+            let jump = matches!(word.and_then(decode), Some(Instruction::Hfi { kind: HfiKind::EnterJump, .. }));
+            *counts.crossings.entry(if jump { "enters with jump" } else { "enters" }).or_default() += 1;
+        }
+        if before == 1 && m.mode == 0 {
+            seen.left += 1;
+            seen.since = 0;
+            let kind = match (m.reason, m.options & 4) {
+                (2, _) => "calls redirected",
+                (_, 4) => "exits redirected",
+                _ => "exits not redirected",
+            };
+            *counts.crossings.entry(kind).or_default() += 1;
+            if seen.began_inside {
+                seen.stop = 20;
+                break;
+            }
+        }
+    }
+    seen.ended_inside = m.mode == 1;
+    seen
+}
+
+/// Counts a run by what it does about the mode.
+pub fn count_crossings(machine: &Machine, memory: &[u8], budget: u64, counts: &mut Counts) {
+    let seen = follow(machine, memory, budget, counts);
+    let kinds = if seen.began_inside {
+        vec![("runs begun inside", true), ("runs begun inside that ended with 20", seen.stop == 20)]
+    } else {
+        vec![
+            ("runs begun outside", true),
+            ("runs begun outside that left and went on", seen.left > 0 && seen.since > 0),
+            ("runs begun outside that left and entered again", seen.left > 0 && seen.entered > 1),
+            ("runs begun outside whose last step left", seen.left > 0 && seen.since == 0 && seen.stop == 21),
+            ("runs begun outside that ended with 18 inside", seen.stop == 18 && seen.ended_inside),
+            ("runs begun outside that ended with 11 or 16", seen.stop == 11 || seen.stop == 16),
+        ]
+    };
+    for (kind, _) in kinds.into_iter().filter(|(_, holds)| *holds) {
+        *counts.crossings.entry(kind).or_default() += 1;
+    }
+}
+
 /// Demand 3 on one engine: from one machine in locked HFI mode and two
 /// memories that agree on readable and executable bytes, the same stop, count,
 /// address and final machine; bytes that agreed still agree; bytes that are
@@ -315,6 +398,7 @@ pub fn isolation(
     *counts.isolation_stops.entry(first.0).or_default() += 1;
     counts.isolation_steps += first.1;
     counts.isolation_differing += (one != two) as u64;
+    counts.isolation_stored += (one != a || two != b) as u64;
     if first != second || m != n {
         counts.difference(format!(
             "isolation of {}: answers differ\n  before {}\n  {first:?} {}\n  {second:?} {}",
@@ -347,54 +431,11 @@ pub fn rounds(left: &dyn Engine, right: &dyn Engine, seed: u64, number: u64, cou
         let length = supply.length();
         let memory = supply.memory(length);
         for _ in 0..8 {
-            let machine = supply.machine(length);
-            let (mut m, mut bytes) = (machine, memory.clone());
-            for _ in 0..16 {
-                if !compare_step(left, right, &mut m, &mut bytes, counts) {
-                    break;
-                }
-            }
-            // A step of a single chosen word, so that each instruction is met.
-            if length >= 4 {
-                let mut m = supply.machine(length);
-                m.pc = supply.below(length as u64 / 4) * 4;
-                m.mode = supply.below(2);
-                if m.mode == 1 {
-                    let k = 12 + supply.below(8);
-                    m.regions[2] = crate::Region { base: 0, bound: u64::MAX << k, permission: 4 };
-                }
-                let mut bytes = memory.clone();
-                let mut word = supply.word();
-                if supply.once_in(3) {
-                    // An HFI word with a small operand, mostly unlocked.
-                    word = supply.hfi_word();
-                    m.x[5] = match supply.below(4) {
-                        0 => supply.edge(),
-                        1 => supply.below(20) + (1 << (32 + supply.below(32))),
-                        _ => supply.below(20),
-                    };
-                    m.x[6] = supply.below(64) * 4 + if supply.once_in(2) { supply.below(4) } else { 0 };
-                    m.options &= supply.pick(&[14, 14, 14, 15]);
-                }
-                let at = m.pc as usize;
-                bytes[at..at + 4].copy_from_slice(&word.to_le_bytes());
-                compare_step(left, right, &mut m, &mut bytes, counts);
-            }
-            let budget = supply.budget();
-            compare_run(left, right, &machine, &memory, budget, counts);
-            let value = supply.edge();
-            compare_resume(left, right, &machine, value, counts);
+            any_machine(left, right, &mut supply, &memory, counts);
         }
         for _ in 0..4 {
-            let (machine, memory) = supply.steady_world();
-            let budget = supply.budget();
-            compare_run(left, right, &machine, &memory, budget, counts);
-            let (mut m, mut bytes) = (machine, memory);
-            for _ in 0..64 {
-                if !compare_step(left, right, &mut m, &mut bytes, counts) {
-                    break;
-                }
-            }
+            steady_run(left, right, &mut supply, counts);
+            crossing_run(left, right, &mut supply, counts);
         }
         for _ in 0..2 {
             let valid = supply.valid_sheet();
@@ -403,39 +444,121 @@ pub fn rounds(left: &dyn Engine, right: &dyn Engine, seed: u64, number: u64, cou
             compare_sheet(left, right, &damaged, counts);
         }
         for turn in 0..8 {
-            let (machine, one) = if turn < 2 {
-                (supply.locked_machine(length), supply.memory(length))
-            } else {
-                let (mut machine, memory) = supply.steady_world();
-                machine.options |= 1;
-                (machine, memory)
-            };
-            let two = supply.twin(&machine, &one);
-            let budget = supply.budget();
-            isolation(right, &machine, &one, &two, budget, counts);
+            isolation_pair(right, &mut supply, turn, length, counts);
         }
     }
 }
 
-/// Lengths about the limit, which random rounds do not reach.
+/// Any machine over a memory of random words: steps, a run, a resumption.
+fn any_machine(left: &dyn Engine, right: &dyn Engine, supply: &mut Supply, memory: &[u8], counts: &mut Counts) {
+    let machine = supply.machine(memory.len());
+    let (mut m, mut bytes) = (machine, memory.to_vec());
+    for _ in 0..16 {
+        if !compare_step(left, right, &mut m, &mut bytes, counts) {
+            break;
+        }
+    }
+    if memory.len() >= 4 {
+        chosen_word(left, right, supply, memory, counts);
+    }
+    let budget = supply.budget();
+    compare_run(left, right, &machine, memory, budget, counts);
+    let value = supply.edge();
+    compare_resume(left, right, &machine, value, counts);
+}
+
+/// A step of a single chosen word, so that each instruction is met.
+fn chosen_word(left: &dyn Engine, right: &dyn Engine, supply: &mut Supply, memory: &[u8], counts: &mut Counts) {
+    let mut m = supply.machine(memory.len());
+    m.pc = supply.below(memory.len() as u64 / 4) * 4;
+    m.mode = supply.below(2);
+    if m.mode == 1 {
+        let k = 12 + supply.below(8);
+        m.regions[2] = crate::Region { base: 0, bound: u64::MAX << k, permission: 4 };
+    }
+    let mut bytes = memory.to_vec();
+    let mut word = supply.word();
+    if supply.once_in(3) {
+        // An HFI word with a small operand, mostly unlocked.
+        word = supply.hfi_word();
+        m.x[5] = match supply.below(4) {
+            0 => supply.edge(),
+            1 => supply.below(20) + (1 << (32 + supply.below(32))),
+            _ => supply.below(20),
+        };
+        m.x[6] = supply.below(64) * 4 + if supply.once_in(2) { supply.below(4) } else { 0 };
+        m.options &= supply.pick(&[14, 14, 14, 15]);
+    }
+    let at = m.pc as usize;
+    bytes[at..at + 4].copy_from_slice(&word.to_le_bytes());
+    compare_step(left, right, &mut m, &mut bytes, counts);
+}
+
+/// A run that goes on for a while in HFI mode, whole and step by step.
+fn steady_run(left: &dyn Engine, right: &dyn Engine, supply: &mut Supply, counts: &mut Counts) {
+    let (machine, memory) = supply.steady_world();
+    let budget = supply.budget();
+    compare_run(left, right, &machine, &memory, budget, counts);
+    let (mut m, mut bytes) = (machine, memory);
+    for _ in 0..64 {
+        if !compare_step(left, right, &mut m, &mut bytes, counts) {
+            break;
+        }
+    }
+}
+
+/// A run that goes in and out of HFI mode, and a resumption of any state.
+fn crossing_run(left: &dyn Engine, right: &dyn Engine, supply: &mut Supply, counts: &mut Counts) {
+    let k = 7 + supply.below(4);
+    let (machine, memory) = supply.crossing_world(k);
+    let budget = supply.pick(&[20, 50, 100, 200]) + supply.below(20);
+    count_crossings(&machine, &memory, budget, counts);
+    compare_run(left, right, &machine, &memory, budget, counts);
+    let machine = supply.any_state();
+    let value = supply.edge();
+    compare_resume(left, right, &machine, value, counts);
+}
+
+/// One experiment of demand 3: a locked machine and two memories.
+fn isolation_pair(engine: &dyn Engine, supply: &mut Supply, turn: u64, length: usize, counts: &mut Counts) {
+    let (machine, one) = if turn < 2 {
+        (supply.locked_machine(length), supply.memory(length))
+    } else {
+        let (mut machine, memory) = supply.steady_world();
+        machine.options |= 1;
+        (machine, memory)
+    };
+    let two = supply.twin(&machine, &one);
+    let budget = supply.budget();
+    isolation(engine, &machine, &one, &two, budget, counts);
+}
+
+/// Lengths about the limit, which random rounds do not reach: four machines
+/// each, as they come, at pc 0 outside HFI mode, and about the memory's end.
 pub fn long_memories(left: &dyn Engine, right: &dyn Engine, seed: u64, counts: &mut Counts) {
     let mut supply = Supply::new(seed);
     for length in [16_777_215usize, 16_777_216, 16_777_217] {
         let mut memory = vec![0u8; length];
-        let word = supply.word();
-        memory[..4].copy_from_slice(&word.to_le_bytes());
-        let mut machine = supply.machine(length);
-        compare_run(left, right, &machine, &memory, 10, counts);
-        machine.pc = 0;
-        machine.mode = 0;
-        compare_run(left, right, &machine, &memory, 10, counts);
-        compare_step(left, right, &mut machine, &mut memory, counts);
+        for _ in 0..4 {
+            let mut machine = supply.machine(length);
+            compare_run(left, right, &machine, &memory, 10, counts);
+            machine.mode = 0;
+            for pc in [0, length / 4 * 4 - 4, length / 4 * 4] {
+                let word = supply.word();
+                if let Some(place) = memory.get_mut(pc..pc + 4) {
+                    place.copy_from_slice(&word.to_le_bytes());
+                }
+                machine.pc = pc as u64;
+                compare_run(left, right, &machine, &memory, 10, counts);
+                compare_step(left, right, &mut machine.clone(), &mut memory, counts);
+            }
+        }
     }
 }
 
 pub fn print_counts(counts: &Counts) {
     let total = |stops: &BTreeMap<u64, u64>| stops.values().sum::<u64>();
-    println!("compared {}, differences {}", counts.compared, counts.differences.len());
+    println!("compared {}, differences {}", counts.compared, counts.differing.max(counts.differences.len() as u64));
     println!(
         "single steps {}, steps in {} runs {}, steps in {} isolation pairs {}, sheets {}",
         total(&counts.step_stops),
@@ -447,10 +570,15 @@ pub fn print_counts(counts: &Counts) {
     );
     println!("step stops {:?}", counts.step_stops);
     println!("run stops {:?}", counts.run_stops);
+    println!("resume stops {:?}", counts.resume_stops);
+    println!("runs that cross the mode:");
+    for (kind, count) in &counts.crossings {
+        println!("  {kind} {count}");
+    }
     println!("sheet lines {:?}", counts.sheet_lines);
     println!(
-        "isolation stops {:?}, steps {}, pairs with different memories {}",
-        counts.isolation_stops, counts.isolation_steps, counts.isolation_differing
+        "isolation stops {:?}, steps {}, pairs with different memories {}, pairs in which a run changed its memory {}",
+        counts.isolation_stops, counts.isolation_steps, counts.isolation_differing, counts.isolation_stored
     );
     println!("instructions (completed, stopped):");
     for (name, (completed, stopped)) in &counts.instructions {

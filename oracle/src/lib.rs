@@ -3,6 +3,7 @@
 //! to be read side by side with them, so it prefers the plain form: whole
 //! numbers in u128 and i128, one byte at a time, one question after the other.
 
+pub mod calls;
 pub mod compare;
 pub mod instruction;
 pub mod machine;

@@ -3,6 +3,7 @@
 //! `oracle vectors FILE`: the fixed-column value cases.
 //! `oracle words FILE`: words and whether they are legal.
 //! `oracle sheets FOLDER`: every sheet of a folder with its answer, by name.
+//! `oracle calls FOLDER`: writes the calls and their answers to FOLDER/data/calls and FOLDER/stdout.
 
 use std::io::{Read, Write};
 
@@ -34,8 +35,14 @@ fn main() {
                 out.write_all(&oracle::respond(&input)).unwrap();
             }
         }
+        "calls" => {
+            let (data, printed) = oracle::calls::stored();
+            std::fs::write(format!("{}/data/calls", file()), &data).expect("data/calls");
+            std::fs::write(format!("{}/stdout", file()), &printed).expect("stdout");
+            println!("{} calls, {} bytes, {} bytes of answers", data.lines().count() / 5, data.len(), printed.len());
+        }
         _ => {
-            eprintln!("use: oracle sheet | llvm FILE | dart FILE | vectors FILE | words FILE | sheets FOLDER");
+            eprintln!("use: oracle sheet | llvm FILE | dart FILE | vectors FILE | words FILE | sheets FOLDER | calls FOLDER");
             std::process::exit(2);
         }
     }

@@ -1,7 +1,7 @@
 //! Random machines, memories, words and sheets, with a bias to the edges.
 
 use crate::instruction::{
-    encode, ImmediateKind, Instruction, SystemKind, UpperKind, BRANCH_TABLE, HFI_TABLE, IMMEDIATE_TABLE, LOAD_TABLE, REGISTER_TABLE,
+    encode, HfiKind, ImmediateKind, Instruction, SystemKind, UpperKind, BRANCH_TABLE, HFI_TABLE, IMMEDIATE_TABLE, LOAD_TABLE, REGISTER_TABLE,
     SHIFT_TABLE, STORE_TABLE,
 };
 use crate::machine::{Fault, Machine, Region};
@@ -189,6 +189,10 @@ impl Supply {
     /// explicit data anywhere. Locked three times in four.
     pub fn steady_world(&mut self) -> (Machine, Vec<u8>) {
         let k = 7 + self.below(6); // half of 128 to 4,096 bytes each
+        self.steady_world_of(k)
+    }
+
+    fn steady_world_of(&mut self, k: u64) -> (Machine, Vec<u8>) {
         let half = 1usize << k;
         let length = 2 * half - if self.once_in(8) { self.below(16) as usize } else { 0 };
         let mut memory: Vec<u8> = (0..length).map(|_| self.next() as u8).collect();
@@ -229,6 +233,136 @@ impl Supply {
         machine.x[3] = self.below(half as u64 / 8) * 4;
         machine.pc = self.below(half as u64 / 8) * 4;
         (machine, memory)
+    }
+
+    /// A memory whose code goes in and out of HFI mode, and a machine outside
+    /// it (one in five inside). The lower half is blocks of 16 words: 6 work
+    /// outside, one enters, 7 work inside, one leaves, one jumps to a block. The
+    /// handler is the start of a block; x20 to x22 hold options, x23 to x25
+    /// where the inner part of a block begins, x27 a region's number, x28 a
+    /// handler. Twice 2^k bytes.
+    pub fn crossing_world(&mut self, k: u64) -> (Machine, Vec<u8>) {
+        let (mut machine, mut memory) = self.steady_world_of(k);
+        let blocks = (1u64 << k) / 64;
+        for place in 0..16 * blocks {
+            let instruction = match place % 16 {
+                0..=5 => self.outer_work(),
+                6 => self.enter(),
+                7..=13 => self.inner_work(),
+                14 => self.leave(),
+                _ => Instruction::Jal { rd: 0, offset: (self.below(blocks) * 64) as i64 - 4 * place as i64 },
+            };
+            let word = encode(&instruction).expect("in range");
+            let at = 4 * place as usize;
+            memory[at..at + 4].copy_from_slice(&word.to_le_bytes());
+        }
+        for n in 20..23 {
+            machine.x[n] = if self.once_in(40) { self.edge() } else { self.below(16) };
+            machine.x[n + 3] = self.below(blocks) * 64 + 28;
+        }
+        machine.x[27] = 1 + self.below(3);
+        machine.x[28] = self.below(blocks) * 64 + self.below(4);
+        machine.handler = self.below(blocks) * 64;
+        machine.mode = self.once_in(5) as u64;
+        machine.pc = self.below(blocks) * 64 + 28 * machine.mode;
+        (machine, memory)
+    }
+
+    fn plain_work(&mut self) -> Instruction {
+        loop {
+            let instruction = self.steady_instruction();
+            match instruction {
+                Instruction::System { .. } | Instruction::Hfi { .. } => {}
+                Instruction::Jal { .. } | Instruction::Jalr { .. } | Instruction::Branch { .. } if !self.once_in(8) => {}
+                _ => return instruction,
+            }
+        }
+    }
+
+    fn outer_work(&mut self) -> Instruction {
+        let rd = self.pick(&[5, 6, 7, 9]);
+        match self.below(24) {
+            0 => Instruction::Hfi { kind: HfiKind::Select, rd: 0, rs1: 27, rs2: 0 },
+            1 => Instruction::Hfi { kind: HfiKind::SetHandler, rd: 0, rs1: 28, rs2: 0 },
+            2 => Instruction::Hfi { kind: HfiKind::GetHandler, rd, rs1: 0, rs2: 0 },
+            3 => Instruction::Hfi { kind: self.pick(&[HfiKind::GetBase, HfiKind::GetBound, HfiKind::GetPermission]), rd, rs1: 0, rs2: 0 },
+            _ => loop {
+                let instruction = self.plain_work();
+                if !matches!(instruction, Instruction::HLoad { .. } | Instruction::HStore { .. }) {
+                    return instruction;
+                }
+            },
+        }
+    }
+
+    fn inner_work(&mut self) -> Instruction {
+        if self.once_in(60) {
+            return self.steady_instruction();
+        }
+        self.plain_work()
+    }
+
+    fn enter(&mut self) -> Instruction {
+        let rs1 = 20 + self.below(3);
+        if self.once_in(2) {
+            Instruction::Hfi { kind: HfiKind::Enter, rd: 0, rs1, rs2: 0 }
+        } else {
+            Instruction::Hfi { kind: HfiKind::EnterJump, rd: 0, rs1, rs2: 23 + self.below(3) }
+        }
+    }
+
+    fn leave(&mut self) -> Instruction {
+        if self.once_in(4) {
+            Instruction::System { kind: SystemKind::Ecall }
+        } else {
+            Instruction::Hfi { kind: HfiKind::Exit, rd: 0, rs1: 0, rs2: 0 }
+        }
+    }
+
+    /// A machine about to make a step of a chosen word, so that each
+    /// instruction is met; memory is as long as given, a multiple of 8.
+    pub fn single_step(&mut self, length: usize) -> (Machine, Vec<u8>) {
+        let mut machine = self.machine(length);
+        machine.pc = self.below(length as u64 / 4) * 4;
+        machine.mode = self.below(2);
+        if machine.mode == 1 {
+            let k = 12 + self.below(8);
+            machine.regions[2] = Region { base: 0, bound: ALL << k, permission: 4 };
+        }
+        let mut memory: Vec<u8> = vec![0; length];
+        for _ in 0..4 {
+            let at = self.below(length as u64 / 8) as usize * 8;
+            memory[at..at + 8].copy_from_slice(&self.next().to_le_bytes());
+        }
+        let mut word = self.word();
+        if self.once_in(3) {
+            word = self.hfi_word();
+            machine.x[5] = if self.once_in(3) { self.edge() } else { self.below(20) };
+            machine.x[6] = self.below(64) * 4 + if self.once_in(2) { self.below(4) } else { 0 };
+            machine.options &= self.pick(&[14, 14, 15]);
+        }
+        let at = machine.pc as usize;
+        memory[at..at + 4].copy_from_slice(&word.to_le_bytes());
+        (machine, memory)
+    }
+
+    /// A machine with any numbers in its fields, well formed about as often as
+    /// not.
+    pub fn any_state(&mut self) -> Machine {
+        let mut machine = self.machine(4096);
+        machine.pc = self.edge();
+        machine.mode = self.below(2);
+        machine.reason = self.below(3);
+        machine.exit_pc = self.edge();
+        machine.selector = self.below(4);
+        machine.fault = Fault { occurred: self.below(2), region: self.below(4), op: self.below(4), address: self.edge() };
+        for n in 1..32 {
+            machine.x[n] = self.edge();
+        }
+        if self.once_in(2) {
+            self.spoil(&mut machine);
+        }
+        machine
     }
 
     /// A legal word of opcode 5b with x5 as rs1, x6 as rs2.

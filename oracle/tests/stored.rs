@@ -60,6 +60,16 @@ fn index() {
     assert!(seen > 300);
 }
 
+/// The stored calls are those that the oracle writes, and it answers the
+/// directed ones as they were worked out by hand.
+#[test]
+fn calls() {
+    let (data, printed) = oracle::calls::stored();
+    assert_eq!(data, text("crates/calls/data/calls"));
+    assert_eq!(printed, text("crates/calls/stdout"));
+    assert!(oracle::calls::directed().len() >= 542);
+}
+
 #[test]
 fn values() {
     let report = oracle::vectors::check_columns(&text("crates/values/data/values.columns"));

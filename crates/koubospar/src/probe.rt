@@ -1,5 +1,5 @@
 // Another number in each place of the machine's record, there and back, by which a controller tests its own declaration
-// of the record.
+// of the record. No contract sees the order of a record's fields, so this test (c/try) is the only guard of the layout.
 ghost use mathlib.Core.Path.{_≡_};
 ghost use Rattle.koubospar.specs.Probe.{probe, placed};
 use model::Fault;

@@ -253,6 +253,18 @@ fn stored(engine: &dyn Engine, counts: &mut Counts) {
         }
         println!("words: {passed} passed, {failed} failed");
     }
+    let (directed, random) = (oracle::calls::directed(), oracle::calls::random(20, oracle::calls::RANDOM));
+    let (mut passed, mut failed) = (0, 0);
+    for call in directed.iter().map(|row| &row.call).chain(&random) {
+        let Some(answer) = call.answer(engine) else { continue };
+        if Some(&answer) == call.answer(&Oracle).as_ref() {
+            passed += 1;
+        } else {
+            failed += 1;
+            counts.difference(format!("call {}: {}", call.name, answer.written("")));
+        }
+    }
+    println!("calls: {passed} passed, {failed} failed");
     if engine.respond(b"").is_some() || engine.run(&mut Default::default(), &mut [], 0).is_some() {
         let folder = root.join("crates/sheets/data");
         let index = text("crates/sheets/data/index");

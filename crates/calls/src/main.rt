@@ -1,0 +1,272 @@
+// Makes the calls that data/calls describes, and prints what each left. README.md has the form of both.
+ghost use mathlib.Core.Path.{_≡_};
+ghost use Prim.Native.Nat.{_<_, _≤_};
+ghost use lib.ListN.{length};
+use libc::STDOUT_FILENO;
+use memory::bytes::read;
+use memory::bytes::write;
+use model::Fault;
+use model::HfiState;
+use model::Machine;
+use model::Ran;
+use model::Region;
+use model::Stepped;
+use text::field::field;
+use text::field::field_count;
+use text::field::field_number;
+use text::field::line_at;
+use text::number::number;
+use text::print::put_hexadecimal;
+use text::scan::place;
+use text::scan::rest;
+
+fn print(text: &[u8]) {
+    io::write_all(STDOUT_FILENO, text);
+}
+
+// A comma and the number, in hexadecimal.
+fn print_field(n: u64) {
+    let mut room = [b','; 17];
+    let end = put_hexadecimal(&mut room, 1, n);
+    print(&room[..end]);
+}
+
+// Where the line after the one at a place begins; the text's end where there is none.
+fn next_line(s: &[u8], at: usize) -> usize
+    ensures { λ r. ⌜ (r ≤ length (now (s .entry))) × (at ≤ length (now (s .entry)) → at ≤ r) × (at < length (now (s .entry)) → at < r) ⌝ }
+{
+    let line = rest(s, at);
+    let n = place(line, b'\n');
+    if n < line.len() {
+        return at + n + 1;
+    }
+    s.len()
+}
+
+// How many bytes are lent of those that there is room for.
+fn lent(length: u64) -> usize
+    ensures { λ r. ⌜ r ≤ 65536 ⌝ }
+{
+    if length <= 65536 {
+        return length as usize;
+    }
+    65536
+}
+
+// The region whose three numbers stand from field k on.
+fn region_at(line: &[u8], k: usize) -> Region
+    requires { ⌜ k ≤ 100 ⌝ }
+{
+    Region {
+        base: field_number(line, k),
+        bound: field_number(line, k + 1),
+        permission: field_number(line, k + 2),
+    }
+}
+
+// The machine with these registers and the rest as a state line has it.
+fn machine(line: &[u8], x: [u64; 32]) -> Machine {
+    let regions = [region_at(line, 8), region_at(line, 11), region_at(line, 14)];
+    let fault = Fault {
+        occurred: field_number(line, 17),
+        region: field_number(line, 18),
+        op: field_number(line, 19),
+        address: field_number(line, 20),
+    };
+    let hfi = HfiState {
+        mode: field_number(line, 2),
+        reason: field_number(line, 3),
+        epc: field_number(line, 4),
+        options: field_number(line, 5),
+        handler: field_number(line, 6),
+        selector: field_number(line, 7),
+        regions: regions,
+        fault: fault,
+    };
+    Machine {
+        x: x,
+        pc: field_number(line, 1),
+        hfi: hfi,
+    }
+}
+
+// The registers of a line of pairs, number and value; the others are 0.
+fn registers(line: &[u8]) -> [u64; 32] {
+    let mut x = [0u64; 32];
+    let pairs = field_count(line) / 2;
+    let mut p = 0;
+    while p < pairs {
+        let i = number(field(line, 2 * p + 1), 10) as usize;
+        if i < 32 {
+            x[i] = field_number(line, 2 * p + 2);
+        }
+        p += 1;
+    }
+    x
+}
+
+// A doubleword put into memory, where it has room.
+fn put(mem: &mut [u8], a: u64, v: u64)
+    requires { ⌜ length (now mem) ≡ 65536 ⌝ }
+    ensures { λ _. ⌜ length (now (mem .exit)) ≡ 65536 ⌝ }
+{
+    if a <= 65528 {
+        write(mem, a, 8, v);
+    }
+}
+
+// The doublewords of a line of pairs, address and value, put into memory.
+fn fill(line: &[u8], mem: &mut [u8])
+    requires { ⌜ length (now mem) ≡ 65536 ⌝ }
+    ensures { λ _. ⌜ length (now (mem .exit)) ≡ 65536 ⌝ }
+{
+    let pairs = field_count(line) / 2;
+    let mut p = 0;
+    while p < pairs {
+        put(
+            mem,
+            field_number(line, 2 * p + 1),
+            field_number(line, 2 * p + 2),
+        );
+        p += 1;
+    }
+}
+
+// A step or a resumption as an answer with a count, which is 0.
+fn uncounted(s: Stepped) -> Ran {
+    let m = s.machine;
+    Ran {
+        stop: s.stop,
+        count: 0,
+        address: s.address,
+        machine: m,
+    }
+}
+
+// Makes call 1, 2 or 3: a step, a run or a resumption.
+fn make(call: u64, argument: u64, m: Machine, mem: &mut [u8]) -> Ran {
+    match call {
+        1 => uncounted(step::call::step(m, mem)),
+        2 => run::run(m, mem, argument),
+        _ => uncounted(step::call::resume(m, argument)),
+    }
+}
+
+fn print_region(r: Region) {
+    print_field(r.base);
+    print_field(r.bound);
+    print_field(r.permission);
+}
+
+// The state line: pc and the HFI state.
+fn print_state(pc: u64, h: HfiState) {
+    print(b"\nstate");
+    print_field(pc);
+    print_field(h.mode);
+    print_field(h.reason);
+    print_field(h.epc);
+    print_field(h.options);
+    print_field(h.handler);
+    print_field(h.selector);
+    let regions = h.regions;
+    print_region(regions[0]);
+    print_region(regions[1]);
+    print_region(regions[2]);
+    let f = h.fault;
+    print_field(f.occurred);
+    print_field(f.region);
+    print_field(f.op);
+    print_field(f.address);
+}
+
+// The registers that are not 0.
+fn print_registers(x: [u64; 32]) {
+    print(b"\nx");
+    let mut i = 0;
+    while i < 32 {
+        if x[i] != 0 {
+            print(b",");
+            io::print_decimal(STDOUT_FILENO, i as u64);
+            print_field(x[i]);
+        }
+        i += 1;
+    }
+}
+
+// The doublewords that are not 0, of all 65,536 bytes: a call that reached past its memory would show here.
+fn print_memory(mem: &[u8; 65536]) {
+    print(b"\nmemory");
+    let mut a: u64 = 0;
+    while a < 65536 {
+        let v = read(mem, a, 8);
+        if v != 0 {
+            print_field(a);
+            print_field(v);
+        }
+        a += 8;
+    }
+    print(b"\n");
+}
+
+// What a call gave: the stop in decimal, count and address, and the state afterwards.
+fn print_answer(o: Ran) {
+    print(b"\nstop,");
+    io::print_decimal(STDOUT_FILENO, o.stop);
+    print_field(o.count);
+    print_field(o.address);
+    let m = o.machine;
+    let hfi = m.hfi;
+    let x = m.x;
+    print_state(m.pc, hfi);
+    print_registers(x);
+}
+
+// Makes the call of four lines, whose first begins at a place, and prints what it left.
+fn show(s: &[u8], at: usize) {
+    let state = next_line(s, at);
+    let x = next_line(s, state);
+    let mut mem = [0u8; 65536];
+    fill(line_at(s, next_line(s, x)), &mut mem);
+    let m = machine(line_at(s, state), registers(line_at(s, x)));
+    let call = line_at(s, at);
+    let n = lent(field_number(call, 3));
+    print_answer(make(
+        field_number(call, 1),
+        field_number(call, 2),
+        m,
+        &mut mem[..n],
+    ));
+    print_memory(&mem);
+}
+
+// Where the call after the one that begins at a place begins, five lines on.
+fn next_call(s: &[u8], at: usize) -> usize
+    ensures { λ r. ⌜ (r ≤ length (now (s .entry))) × (at < length (now (s .entry)) → at < r) ⌝ }
+{
+    let call = next_line(s, at);
+    let state = next_line(s, call);
+    let x = next_line(s, state);
+    let memory = next_line(s, x);
+    next_line(s, memory)
+}
+
+// Makes each call of a text.
+fn show_all(s: &[u8]) {
+    let mut at = 0;
+    while at < s.len() {
+        print(line_at(s, at));
+        show(s, next_line(s, at));
+        at = next_call(s, at);
+    }
+}
+
+fn main() {
+    let fd = os::open_read(b"calls");
+    if fd < 0 {
+        os::fail(b"calls");
+        return;
+    }
+    let mut room = [0u8; 524288];
+    let n = io::read_full(fd, &mut room);
+    show_all(&room[..n]);
+}

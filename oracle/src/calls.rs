@@ -1,0 +1,876 @@
+//! Stored calls: step, run and resume on machines that no sheet can make
+//! (`crates/calls`). A directed call carries its answer as worked out by hand
+//! from document 01, machine and memory included, and the oracle has to give
+//! the same; the random ones come from the supply.
+
+use crate::compare::Engine;
+use crate::machine::{Machine, Region};
+use crate::supply::Supply;
+
+/// The bytes that a call has room for; the first `length` of them are lent.
+pub const ROOM: usize = 65_536;
+
+const ALL: u64 = u64::MAX;
+
+#[derive(Clone, Copy, Debug)]
+pub enum Request {
+    Step,
+    /// with its budget
+    Run(u64),
+    /// with its value
+    Resume(u64),
+}
+
+#[derive(Clone)]
+pub struct Call {
+    pub name: String,
+    pub request: Request,
+    pub machine: Machine,
+    pub length: usize,
+    pub bytes: Vec<u8>,
+}
+
+#[derive(Clone, Debug, PartialEq, Eq)]
+pub struct Answer {
+    pub stop: u64,
+    /// Of a run; 0 otherwise.
+    pub count: u64,
+    pub address: u64,
+    pub machine: Machine,
+    pub bytes: Vec<u8>,
+}
+
+impl Call {
+    /// What an engine answers.
+    pub fn answer(&self, engine: &dyn Engine) -> Option<Answer> {
+        let (mut machine, mut bytes) = (self.machine, self.bytes.clone());
+        let lent = &mut bytes[..self.length];
+        let (stop, count, address) = match self.request {
+            Request::Step => engine.step(&mut machine, lent).map(|(stop, address)| (stop, 0, address))?,
+            Request::Run(budget) => engine.run(&mut machine, lent, budget)?,
+            Request::Resume(value) => (engine.resume(&mut machine, value)?, 0, 0),
+        };
+        Some(Answer { stop, count, address, machine, bytes })
+    }
+
+    /// The block of five lines that stands for it in `crates/calls/data/calls`.
+    pub fn written(&self) -> String {
+        let (number, argument) = match self.request {
+            Request::Step => (1, 0),
+            Request::Run(budget) => (2, budget),
+            Request::Resume(value) => (3, value),
+        };
+        format!("{}\ncall,{number},{argument:x},{:x}\n{}", self.name, self.length, state(&self.machine, &self.bytes))
+    }
+}
+
+impl Answer {
+    /// The block that `crates/calls` prints.
+    pub fn written(&self, name: &str) -> String {
+        format!("{name}\nstop,{},{:x},{:x}\n{}", self.stop, self.count, self.address, state(&self.machine, &self.bytes))
+    }
+}
+
+/// Three lines: pc and the HFI state whole, the registers and the doublewords
+/// that are not 0.
+fn state(machine: &Machine, bytes: &[u8]) -> String {
+    let m = machine;
+    let mut numbers = vec![m.pc, m.mode, m.reason, m.exit_pc, m.options, m.handler, m.selector];
+    for region in &m.regions {
+        numbers.extend([region.base, region.bound, region.permission]);
+    }
+    numbers.extend([m.fault.occurred, m.fault.region, m.fault.op, m.fault.address]);
+    let mut text = "state".to_string();
+    for number in numbers {
+        text.push_str(&format!(",{number:x}"));
+    }
+    text.push_str("\nx");
+    for (register, value) in m.x.iter().enumerate().filter(|(_, value)| **value != 0) {
+        text.push_str(&format!(",{register},{value:x}"));
+    }
+    text.push_str("\nmemory");
+    for (place, double) in bytes.chunks(8).enumerate() {
+        let value = u64::from_le_bytes(double.try_into().unwrap());
+        if value != 0 {
+            text.push_str(&format!(",{:x},{value:x}", 8 * place));
+        }
+    }
+    text.push('\n');
+    text
+}
+
+/// A directed call and its answer, worked out by hand.
+pub struct Directed {
+    pub call: Call,
+    pub told: Answer,
+}
+
+impl Directed {
+    /// The call has stored the `size` low bytes of a value.
+    fn stores(&mut self, address: usize, size: usize, value: u64) {
+        self.told.bytes[address..address + size].copy_from_slice(&value.to_le_bytes()[..size]);
+    }
+}
+
+/// A machine and its memory.
+#[derive(Clone)]
+struct World {
+    machine: Machine,
+    length: usize,
+    bytes: Vec<u8>,
+}
+
+impl World {
+    fn with(mut self, change: impl FnOnce(&mut Machine)) -> World {
+        change(&mut self.machine);
+        self
+    }
+
+    fn length(mut self, length: usize) -> World {
+        self.length = length;
+        self
+    }
+
+    fn put(mut self, address: usize, word: u32) -> World {
+        self.bytes[address..address + 4].copy_from_slice(&word.to_le_bytes());
+        self
+    }
+}
+
+fn mask(k: u32) -> u64 {
+    ALL << k
+}
+
+/// Well formed, outside HFI mode, at pc 40, with a number of its own in nearly
+/// every field, so that one sees what a call leaves. Code is granted below 100,
+/// ordinary data from 400 to 4ff, h-words have the 64 bytes from 200 on.
+fn outside(word: u32) -> World {
+    let mut machine = Machine { pc: 0x40, reason: 2, exit_pc: 0x77, options: 8, handler: 0x2460, ..Machine::default() };
+    for n in [1, 5, 6, 7, 8, 10, 31] {
+        machine.x[n] = 0x100 + n as u64;
+    }
+    machine.regions = [
+        Region { base: 0x200, bound: 0x40, permission: 3 },
+        Region { base: 0x400, bound: mask(8), permission: 3 },
+        Region { base: 0, bound: mask(8), permission: 4 },
+    ];
+    machine.fault = crate::Fault { occurred: 1, region: 2, op: 2, address: 0xabc };
+    World { machine, length: 0x800, bytes: vec![0; ROOM] }.put(0x40, word)
+}
+
+fn inside(word: u32) -> World {
+    outside(word).with(|m| m.mode = 1)
+}
+
+const NOP: u32 = 0x13;
+const ECALL: u32 = 0x73;
+const EBREAK: u32 = 0x0010_0073;
+
+// funct7 of opcode 5b
+const ENTER: u32 = 0;
+const ENTER_JUMP: u32 = 1;
+const EXIT: u32 = 2;
+const SELECT: u32 = 3;
+const SET_BASE: u32 = 4;
+const GET_BASE: u32 = 5;
+const SET_BOUND: u32 = 6;
+const GET_BOUND: u32 = 7;
+const SET_PERMISSION: u32 = 8;
+const GET_PERMISSION: u32 = 9;
+const SET_HANDLER: u32 = 10;
+const GET_HANDLER: u32 = 11;
+const RESET: u32 = 12;
+
+/// The word of a row of the table: x5 where it names rs1, x6 where it names
+/// rs2, x7 where it names rd.
+fn hfi(funct7: u32) -> u32 {
+    let (rd, rs1, rs2) = match funct7 {
+        ENTER | SELECT | SET_BASE | SET_BOUND | SET_PERMISSION | SET_HANDLER => (0, 5, 0),
+        ENTER_JUMP => (0, 5, 6),
+        GET_BASE | GET_BOUND | GET_PERMISSION | GET_HANDLER => (7, 0, 0),
+        _ => (0, 0, 0),
+    };
+    hfi_fields(funct7, rd, rs1, rs2)
+}
+
+fn hfi_fields(funct7: u32, rd: u32, rs1: u32, rs2: u32) -> u32 {
+    funct7 << 25 | rs2 << 20 | rs1 << 15 | rd << 7 | 0x5b
+}
+
+fn i_type(opcode: u32, funct3: u32, rd: u32, rs1: u32, immediate: i32) -> u32 {
+    (immediate as u32) << 20 | rs1 << 15 | funct3 << 12 | rd << 7 | opcode
+}
+
+fn s_type(opcode: u32, funct3: u32, rs1: u32, rs2: u32, immediate: i32) -> u32 {
+    let offset = immediate as u32 & 0xfff;
+    offset >> 5 << 25 | rs2 << 20 | rs1 << 15 | funct3 << 12 | (offset & 31) << 7 | opcode
+}
+
+fn addi(rd: u32, rs1: u32, immediate: i32) -> u32 {
+    i_type(0x13, 0, rd, rs1, immediate)
+}
+
+fn load(funct3: u32, rd: u32, rs1: u32, offset: i32) -> u32 {
+    i_type(0x03, funct3, rd, rs1, offset)
+}
+
+fn store(funct3: u32, rs2: u32, rs1: u32, offset: i32) -> u32 {
+    s_type(0x23, funct3, rs1, rs2, offset)
+}
+
+fn hload(funct3: u32, rd: u32, offset: i32) -> u32 {
+    i_type(0x0b, funct3, rd, 9, offset)
+}
+
+fn hstore(funct3: u32, rs2: u32, offset: i32) -> u32 {
+    s_type(0x2b, funct3, 9, rs2, offset)
+}
+
+fn unchanged(_: &mut Machine) {}
+
+/// The directed calls, in the order of the questions that they are about.
+#[derive(Default)]
+struct List {
+    all: Vec<Directed>,
+}
+
+impl List {
+    fn add(
+        &mut self,
+        name: &str,
+        request: Request,
+        world: World,
+        (stop, count, address): (u64, u64, u64),
+        change: impl FnOnce(&mut Machine),
+    ) -> &mut Directed {
+        let World { machine, length, bytes } = world;
+        let mut left = machine;
+        change(&mut left);
+        let told = Answer { stop, count, address, machine: left, bytes: bytes.clone() };
+        self.all.push(Directed { call: Call { name: name.to_string(), request, machine, length, bytes }, told });
+        self.all.last_mut().unwrap()
+    }
+
+    fn step(&mut self, name: &str, world: World, stop: u64, change: impl FnOnce(&mut Machine)) -> &mut Directed {
+        self.add(&format!("step: {name}"), Request::Step, world, (stop, 0, 0), change)
+    }
+
+    fn run(
+        &mut self,
+        name: &str,
+        world: World,
+        budget: u64,
+        (stop, count): (u64, u64),
+        change: impl FnOnce(&mut Machine),
+    ) -> &mut Directed {
+        self.add(&format!("run: {name}"), Request::Run(budget), world, (stop, count, 0), change)
+    }
+
+    fn resume(&mut self, name: &str, world: World, value: u64, stop: u64, change: impl FnOnce(&mut Machine)) {
+        self.add(&format!("resume: {name}"), Request::Resume(value), world, (stop, 0, 0), change);
+    }
+
+    /// "Enter: mode 1, options stored, occurred cleared. The jump form sets pc to rs2."
+    fn enters(&mut self) {
+        let options = |value: u64| move |m: &mut Machine| m.x[5] = value;
+        let entered = |value: u64, pc: u64| {
+            move |m: &mut Machine| {
+                m.mode = 1;
+                m.options = value;
+                m.fault.occurred = 0;
+                m.pc = pc;
+            }
+        };
+        for value in [0, 1, 2, 4, 8, 13, 15] {
+            self.step(&format!("enter, options {value}"), outside(hfi(ENTER)).with(options(value)), 0, entered(value, 0x44));
+        }
+        self.step("enter, options of x0", outside(hfi_fields(ENTER, 0, 0, 0)), 0, entered(0, 0x44));
+        self.step("enter, nothing had occurred", outside(hfi(ENTER)).with(options(3)).with(|m| m.fault.occurred = 0), 0, entered(3, 0x44));
+        let bare = outside(hfi(ENTER)).with(options(7)).with(|m| m.regions = Default::default());
+        self.step("enter, no region at all", bare, 0, entered(7, 0x44));
+        for target in [0, 0x80, 0x44, 0x8000_0000, 1 << 48, ALL - 3] {
+            let world = outside(hfi(ENTER_JUMP)).with(options(5)).with(|m| m.x[6] = target);
+            self.step(&format!("enter with jump to {target:x}"), world, 0, entered(5, target));
+        }
+        let both = outside(hfi_fields(ENTER_JUMP, 0, 5, 5)).with(options(12));
+        self.step("enter with jump, one register for both", both, 0, entered(12, 12));
+        self.step("enter with jump, x0 for both", outside(hfi_fields(ENTER_JUMP, 0, 0, 0)), 0, entered(0, 0));
+    }
+
+    fn enters_refused(&mut self) {
+        let options = |value: u64| move |m: &mut Machine| m.x[5] = value;
+        for value in [16, 1 << 32, (1 << 32) + 1, 1 << 63, ALL] {
+            self.step(&format!("enter, options operand {value:x}"), outside(hfi(ENTER)).with(options(value)), 14, unchanged);
+            let world = outside(hfi(ENTER_JUMP)).with(options(value)).with(|m| m.x[6] = 0x80);
+            self.step(&format!("enter with jump, options operand {value:x}"), world, 14, unchanged);
+        }
+        for target in [0x81, 0x82, 0x83, ALL] {
+            let world = outside(hfi(ENTER_JUMP)).with(options(5)).with(|m| m.x[6] = target);
+            self.step(&format!("enter with jump to {target:x}, no multiple of 4"), world, 15, unchanged);
+        }
+        let worst = outside(hfi(ENTER_JUMP)).with(options(16)).with(|m| m.x[6] = 0x81);
+        self.step("enter with jump, operand 16 and a misaligned target", worst, 14, unchanged);
+        for (word, form) in [(ENTER, "enter"), (ENTER_JUMP, "enter with jump")] {
+            for lock in [0, 1] {
+                let world = inside(hfi(word)).with(options(3)).with(|m| m.x[6] = 0x80).with(|m| m.options = lock);
+                self.step(&format!("{form} in HFI mode, lock {lock}"), world, 14, unchanged);
+            }
+        }
+    }
+
+    /// "Exit: mode 0, reason 1, exit pc is this pc; then pc is the handler if exits are redirected, else pc + 4."
+    fn exits(&mut self) {
+        let left = |pc: u64| {
+            move |m: &mut Machine| {
+                m.mode = 0;
+                m.reason = 1;
+                m.exit_pc = 0x40;
+                m.pc = pc;
+            }
+        };
+        for options in 0..16 {
+            let pc = if options & 4 == 4 { 0x2460 } else { 0x44 };
+            let world = || inside(hfi(EXIT)).with(|m| m.options = options);
+            self.step(&format!("exit, options {options}"), world(), 0, left(pc));
+            self.run(&format!("exit, options {options}"), world(), 5, (20, 1), left(pc));
+        }
+        for handler in [0, 0x3fff_ffff_ffff_fffc] {
+            let world = inside(hfi(EXIT)).with(|m| (m.options, m.handler) = (4, handler));
+            self.step(&format!("exit, redirected to {handler:x}"), world, 0, left(handler));
+        }
+        for options in [0, 4, 15] {
+            let world = outside(hfi(EXIT)).with(|m| m.options = options);
+            self.step(&format!("exit outside, options {options}"), world, 14, unchanged);
+        }
+        self.run("exit outside", outside(hfi(EXIT)), 5, (14, 0), unchanged);
+    }
+
+    /// "exit or an h-word outside it": 14, whatever region 1 says.
+    fn h_words_outside(&mut self) {
+        for funct3 in 0..7 {
+            self.step(&format!("h-load {funct3} outside"), outside(hload(funct3, 7, 8)), 14, unchanged);
+        }
+        for funct3 in 0..4 {
+            self.step(&format!("h-store {funct3} outside"), outside(hstore(funct3, 7, 8)), 14, unchanged);
+        }
+        let bare = |word: u32| outside(word).with(|m| m.regions[0] = Region::default());
+        self.step("h-load outside, no region 1", bare(hload(3, 7, 8)), 14, unchanged);
+        self.step("h-store outside, no region 1", bare(hstore(3, 7, 8)), 14, unchanged);
+        let locked = |word: u32| outside(word).with(|m| m.options = 1);
+        self.step("h-load outside, lock bit set", locked(hload(3, 7, 8)), 14, unchanged);
+        self.step("h-store outside, lock bit set", locked(hstore(3, 7, 8)), 14, unchanged);
+    }
+
+    /// "funct7 3 to 9, 11 or 12 in HFI mode when locked; set handler in HFI mode, locked or unlocked".
+    fn locks(&mut self) {
+        for funct7 in SELECT..=RESET {
+            let world = |base: World| base.with(|m| (m.x[5], m.selector) = (1, 2));
+            let done = |m: &mut Machine| region_word(m, funct7);
+            let outside_locked = world(outside(hfi(funct7))).with(|m| m.options = 1);
+            self.step(&format!("funct7 {funct7} outside, lock bit set"), outside_locked, 0, done);
+            let unlocked = world(inside(hfi(funct7))).with(|m| m.options = 14);
+            let name = format!("funct7 {funct7} inside, unlocked");
+            if funct7 == SET_HANDLER {
+                self.step(&name, unlocked, 14, unchanged);
+            } else {
+                self.step(&name, unlocked, 0, done);
+            }
+            let locked = world(inside(hfi(funct7))).with(|m| m.options = 1);
+            self.step(&format!("funct7 {funct7} inside, locked"), locked, 14, unchanged);
+        }
+    }
+
+    /// Select, set and get; "a selected number not 1 to 3; funct7 4 to 9 with selector 0".
+    fn regions(&mut self) {
+        for number in [1, 2, 3] {
+            let chosen = |m: &mut Machine| (m.selector, m.pc) = (number, 0x44);
+            self.step(&format!("select {number}"), outside(hfi(SELECT)).with(|m| m.x[5] = number), 0, chosen);
+        }
+        for number in [0, 4, 5, (1 << 32) + 1, 1 << 63, ALL] {
+            self.step(&format!("select {number:x}"), outside(hfi(SELECT)).with(|m| m.x[5] = number), 14, unchanged);
+            let world = inside(hfi(SELECT)).with(|m| (m.x[5], m.options) = (number, 0));
+            self.step(&format!("select {number:x} inside"), world, 14, unchanged);
+        }
+        for selector in 1..=3 {
+            for funct7 in SET_BASE..=GET_PERMISSION {
+                let value = if funct7 == SET_PERMISSION { [1, 2, 4][selector - 1] } else { ALL - selector as u64 };
+                let world = outside(hfi(funct7)).with(|m| (m.selector, m.x[5]) = (selector as u64, value));
+                self.step(&format!("funct7 {funct7}, selector {selector}"), world, 0, |m| region_word(m, funct7));
+            }
+        }
+        for funct7 in SET_BASE..=GET_PERMISSION {
+            let world = outside(hfi(funct7)).with(|m| m.x[5] = 0);
+            self.step(&format!("funct7 {funct7}, selector 0"), world, 14, unchanged);
+            let world = inside(hfi(funct7)).with(|m| (m.x[5], m.options) = (0, 0));
+            self.step(&format!("funct7 {funct7} inside, selector 0"), world, 14, unchanged);
+        }
+        self.step("get base into x0", outside(hfi_fields(GET_BASE, 0, 0, 0)).with(|m| m.selector = 1), 0, |m| m.pc = 0x44);
+        self.step("get base into x0, selector 0", outside(hfi_fields(GET_BASE, 0, 0, 0)), 14, unchanged);
+    }
+
+    /// "a permission bit the region lacks"
+    fn permissions(&mut self) {
+        let largest: [u64; 3] = [0xb, 3, 4];
+        for selector in 1..=3usize {
+            let world = |value: u64| {
+                let base = outside(hfi(SET_PERMISSION));
+                base.with(|m| (m.selector, m.x[5]) = (selector as u64, value))
+            };
+            for value in [0, largest[selector - 1]] {
+                let name = format!("set permission {value:x}, region {selector}");
+                self.step(&name, world(value), 0, |m| region_word(m, SET_PERMISSION));
+            }
+            for place in [0, 1, 2, 3, 4, 32, 63].into_iter().filter(|place| largest[selector - 1] >> place & 1 == 0) {
+                let name = format!("set permission bit {place}, region {selector} lacks it");
+                self.step(&name, world(1 << place | largest[selector - 1]), 14, unchanged);
+            }
+        }
+    }
+
+    /// "Set handler clears bits 0, 1, 62, 63. Reset zeroes regions and selector."
+    fn handler_and_reset(&mut self) {
+        for (value, kept) in [(ALL, 0x3fff_ffff_ffff_fffc), (3, 0), (1 << 62 | 1 << 63 | 4, 4), (0x2464, 0x2464)] {
+            let world = outside(hfi(SET_HANDLER)).with(|m| m.x[5] = value);
+            self.step(&format!("set handler {value:x}"), world, 0, |m| (m.handler, m.pc) = (kept, 0x44));
+        }
+        self.step("get handler into x0", outside(hfi_fields(GET_HANDLER, 0, 0, 0)), 0, |m| m.pc = 0x44);
+        for selector in [0, 3] {
+            let world = outside(hfi(RESET)).with(|m| m.selector = selector);
+            self.step(&format!("reset, selector {selector}"), world, 0, |m| region_word(m, RESET));
+        }
+    }
+
+    /// "ECALL in HFI mode with bit 1 set: mode 0, reason 2, exit pc is this pc, pc is the handler."
+    fn system(&mut self) {
+        for options in 0..16 {
+            let world = |base: World| base.with(|m| (m.options, m.reason) = (options, 1));
+            self.step(&format!("ECALL outside, options {options}"), world(outside(ECALL)), 18, unchanged);
+            let redirected = |m: &mut Machine| (m.mode, m.reason, m.exit_pc, m.pc) = (0, 2, 0x40, 0x2460);
+            let name = format!("ECALL inside, options {options}");
+            if options & 2 == 2 {
+                self.step(&name, world(inside(ECALL)), 0, redirected);
+                self.run(&name, world(inside(ECALL)), 5, (20, 1), redirected);
+            } else {
+                self.step(&name, world(inside(ECALL)), 18, unchanged);
+                self.run(&name, world(inside(ECALL)), 5, (18, 0), unchanged);
+            }
+        }
+        for options in [0, 2, 15] {
+            self.step(&format!("EBREAK outside, options {options}"), outside(EBREAK).with(|m| m.options = options), 19, unchanged);
+            self.step(&format!("EBREAK inside, options {options}"), inside(EBREAK).with(|m| m.options = options), 19, unchanged);
+        }
+    }
+
+    /// Resuming: "puts a given value in x10 and adds 4 to pc; it asks question 3 only".
+    fn resumes(&mut self) {
+        for (pc, next) in [(0, 4), (0x40, 0x44), (0x41, 0x45), (0x43, 0x47), (ALL - 3, 0), (ALL - 2, 1), (ALL, 3), (0xffff_fffc, 1 << 32)] {
+            for mode in [0, 1] {
+                let world = outside(ECALL).with(|m| (m.pc, m.mode) = (pc, mode));
+                self.resume(&format!("pc {pc:x}, mode {mode}"), world, 0x55, 0, |m| (m.pc, m.x[10]) = (next, 0x55));
+            }
+        }
+        for value in [0, 1, 1 << 63, ALL] {
+            self.resume(&format!("value {value:x}"), inside(ECALL), value, 0, |m| (m.pc, m.x[10]) = (0x44, value));
+        }
+        self.resume("no ECALL there", inside(NOP), 9, 0, |m| (m.pc, m.x[10]) = (0x44, 9));
+        self.resume("no memory at all", outside(NOP).length(0), 9, 0, |m| (m.pc, m.x[10]) = (0x44, 9));
+    }
+
+    /// Each clause of well formed broken by itself, for each request.
+    fn ill_formed(&mut self) {
+        for (name, spoil) in broken() {
+            let world = || {
+                let mut world = outside(NOP);
+                spoil(&mut world.machine);
+                world
+            };
+            self.step(&format!("{name}, not well formed"), world(), 3, unchanged);
+            self.run(&format!("{name}, not well formed"), world(), 5, (3, 0), unchanged);
+            self.resume(&format!("{name}, not well formed"), world(), 7, 3, unchanged);
+        }
+        let two = |budget: u64| format!("budget {budget:x}");
+        for budget in [1_000_001, 1 << 32, ALL] {
+            self.run(&two(budget), outside(NOP), budget, (2, 0), unchanged);
+            self.run(&format!("{}, not well formed", two(budget)), outside(NOP).with(|m| m.mode = 2), budget, (2, 0), unchanged);
+        }
+        for budget in [0, 1_000_000] {
+            self.run(&format!("{}, not well formed", two(budget)), outside(NOP).with(|m| m.x[0] = 1), budget, (3, 0), unchanged);
+        }
+        self.run("budget 0, pc misaligned", outside(NOP).with(|m| m.pc = 0x41), 0, (21, 0), unchanged);
+        self.run("budget 0, no memory", inside(NOP).length(0), 0, (21, 0), unchanged);
+        self.run("budget 1,000,000", outside(ECALL), 1_000_000, (18, 0), unchanged);
+    }
+
+    /// The largest good value of each field, for each request.
+    fn well_formed(&mut self) {
+        for (name, set) in largest() {
+            let world = || {
+                let mut world = outside(NOP);
+                set(&mut world.machine);
+                world
+            };
+            self.step(&format!("{name}, well formed"), world(), 0, |m| m.pc = 0x44);
+            self.run(&format!("{name}, well formed"), world(), 1, (21, 1), |m| m.pc = 0x44);
+            self.resume(&format!("{name}, well formed"), world(), 7, 0, |m| (m.pc, m.x[10]) = (0x44, 7));
+        }
+    }
+
+    /// "12 and 17 also give the first absent address, counted from the access's start".
+    fn absent_words(&mut self) {
+        for length in 0x40..0x44 {
+            for (place, base) in [("outside", outside(NOP)), ("inside", inside(NOP))] {
+                let name = format!("step: word at 40 {place}, memory ends at {length:x}");
+                self.add(&name, Request::Step, base.length(length), (12, 0, length as u64), unchanged);
+            }
+        }
+        let empty = outside(NOP).length(0).with(|m| m.pc = 0);
+        self.add("step: no memory", Request::Step, empty.clone(), (12, 0, 0), unchanged);
+        self.add("run: no memory", Request::Run(5), empty, (12, 0, 0), unchanged);
+        for pc in [0x800, 1 << 48, 1 << 63, ALL - 3] {
+            let world = outside(NOP).with(|m| m.pc = pc);
+            self.add(&format!("step: pc {pc:x} outside"), Request::Step, world, (12, 0, pc), unchanged);
+        }
+        let last = outside(NOP).put(0xfffc, NOP).length(ROOM).with(|m| m.pc = 0xfffc);
+        self.add("run: off the end of 65,536 bytes", Request::Run(5), last, (12, 1, 0x10000), |m| m.pc = 0x10000);
+        let back = outside(NOP).put(0, 0xffdff06f).with(|m| m.pc = 0);
+        self.add("run: a jump to pc - 4 wraps", Request::Run(5), back, (12, 1, ALL - 3), |m| m.pc = ALL - 3);
+        let tiny = inside(NOP).length(0x41).with(|m| m.regions[2] = Region { base: 0x40, bound: mask(1), permission: 4 });
+        self.step("11 before 12: byte 41 absent, 42 refused", tiny, 11, |m| m.fault = fault(0, 3, 0x42));
+    }
+
+    fn absent_data(&mut self) {
+        let ends = |word: u32, mode: u64, length: usize| outside(word).length(length).with(|m| (m.mode, m.x[8]) = (mode, 0x440));
+        for mode in [0, 1] {
+            for (name, word, size) in [
+                ("lb", load(0, 7, 8, 0), 1),
+                ("lhu", load(5, 7, 8, 0), 2),
+                ("lw", load(2, 7, 8, 0), 4),
+                ("ld", load(3, 7, 8, 0), 8),
+                ("sb", store(0, 7, 8, 0), 1),
+                ("sh", store(1, 7, 8, 0), 2),
+                ("sw", store(2, 7, 8, 0), 4),
+                ("sd", store(3, 7, 8, 0), 8),
+            ] {
+                for present in [0, size / 2, size - 1] {
+                    let name = format!("step: {name} at 440, mode {mode}, memory ends after {present} bytes of it");
+                    let world = ends(word, mode, 0x440 + present as usize);
+                    self.add(&name, Request::Step, world, (17, 0, 0x440 + present), unchanged);
+                }
+            }
+        }
+        for (name, word, size) in [("hld", hload(3, 7, 8), 8), ("hlw", hload(2, 7, 8), 4), ("hsd", hstore(3, 7, 8), 8), ("hsh", hstore(1, 7, 8), 2)] {
+            for present in [0, 1, size - 1] {
+                let name = format!("step: {name} at 208, memory ends after {present} bytes of it");
+                self.add(&name, Request::Step, inside(word).length(0x208 + present as usize), (17, 0, 0x208 + present), unchanged);
+            }
+        }
+        for (name, word) in [("ld", load(3, 7, 0, -1)), ("sd", store(3, 7, 0, -1)), ("lh", load(1, 7, 0, -1))] {
+            self.add(&format!("step: {name} at the last address"), Request::Step, outside(word), (17, 0, ALL), unchanged);
+            let op = if name == "sd" { 2 } else { 1 };
+            self.step(&format!("{name} at the last address inside"), inside(word), 16, |m| m.fault = fault(0, op, ALL));
+        }
+    }
+
+    /// "10. Is every data byte granted? 11. Are they in memory?" And the addresses that faults give.
+    fn refused(&mut self) {
+        let at = |word: u32, address: u64| inside(word).with(|m| m.x[8] = address);
+        let end = |word: u32| at(word, 0x4fc).length(0x4fd);
+        self.step("16 before 17: ld, byte 4fd absent, 500 refused", end(load(3, 7, 8, 0)), 16, |m| m.fault = fault(0, 1, 0x500));
+        self.step("16 before 17: sd, byte 4fd absent, 500 refused", end(store(3, 7, 8, 0)), 16, |m| m.fault = fault(0, 2, 0x500));
+        let explicit = |word: u32| inside(word).length(0x23d);
+        self.step("16 before 17: hld, byte 23d absent, 240 refused", explicit(hload(3, 7, 0x3c)), 16, |m| m.fault = fault(1, 1, 0x240));
+        self.step("16 before 17: hsd, byte 23d absent, 240 refused", explicit(hstore(3, 7, 0x3c)), 16, |m| m.fault = fault(1, 2, 0x240));
+        let top = |word: u32| inside(word).with(|m| m.regions[0].base = ALL);
+        self.step("hld, region 1 breaks its rule, address wraps", top(hload(3, 7, 1)), 16, |m| m.fault = fault(1, 1, 0));
+        self.step("hsb, region 1 breaks its rule", top(hstore(0, 7, -1)), 16, |m| m.fault = fault(1, 2, ALL - 1));
+        let no_read = at(load(0, 7, 8, 0), 0x410).with(|m| m.regions[1].permission = 2);
+        self.step("lb, region 2 without read", no_read, 16, |m| m.fault = fault(2, 1, 0x410));
+        let no_code = inside(NOP).with(|m| m.regions[2].permission = 0);
+        self.step("fetch, region 3 without execute", no_code, 11, |m| m.fault = fault(3, 3, 0x40));
+    }
+
+    /// "Outside HFI mode regions are not consulted."
+    fn not_consulted(&mut self) {
+        let bare = |word: u32| outside(word).with(|m| (m.regions, m.x[8]) = (Default::default(), 0x700));
+        self.step("no region outside: fetch", bare(NOP), 0, |m| m.pc = 0x44);
+        let double = |base: World| base.put(0x700, 0x9abc_def0).put(0x704, 0x8123_4567);
+        let read = |m: &mut Machine| (m.x[7], m.pc) = (0x8123_4567_9abc_def0, 0x44);
+        self.step("no region outside: ld", double(bare(load(3, 7, 8, 0))), 0, read);
+        self.step("no region outside: sd", bare(store(3, 7, 8, 0)), 0, |m| m.pc = 0x44).stores(0x700, 8, 0x107);
+        let misaligned = |pc: u64| move |m: &mut Machine| m.pc = pc;
+        for pc in [0x41, 0x42, 0x43, ALL] {
+            self.step(&format!("pc {pc:x} outside"), outside(NOP).with(misaligned(pc)), 10, unchanged);
+            self.step(&format!("pc {pc:x} inside"), inside(NOP).with(misaligned(pc)), 10, unchanged);
+        }
+        let low = outside(NOP).with(|m| m.regions[2].permission = 0);
+        self.step("region 3 without execute outside", low, 0, |m| m.pc = 0x44);
+    }
+
+    /// "After a step of a run that began in HFI mode: is the mode still on?" It is the run that began there.
+    fn crossings(&mut self) {
+        let begin = |options: u64| outside(hfi(ENTER)).with(|m| (m.x[5], m.handler) = (options, 0x80)).put(0x44, addi(10, 0, 5));
+        let ins = |m: &mut Machine, options: u64| {
+            (m.mode, m.options, m.x[10]) = (1, options, 5);
+            m.fault.occurred = 0;
+        };
+        let out = |m: &mut Machine, options: u64, reason: u64, pc: u64| {
+            (m.options, m.reason, m.exit_pc, m.pc, m.x[10]) = (options, reason, 0x48, pc, 5);
+            m.fault.occurred = 0;
+        };
+        let exit = |options: u64| begin(options).put(0x48, hfi(EXIT)).put(0x4c, ECALL).put(0x80, EBREAK);
+        self.run("outside, enters, exits, goes on to ECALL", exit(8), 50, (18, 3), |m| out(m, 8, 1, 0x4c));
+        self.run("outside, enters, exits to the handler, goes on to EBREAK", exit(4), 50, (19, 3), |m| out(m, 4, 1, 0x80));
+        self.run("outside, enters locked, exits, goes on", exit(1), 50, (18, 3), |m| out(m, 1, 1, 0x4c));
+        self.run("outside, enters, exits with the last step", exit(8), 3, (21, 3), |m| out(m, 8, 1, 0x4c));
+        let call = |options: u64| begin(options).put(0x48, ECALL).put(0x80, addi(11, 0, 6)).put(0x84, EBREAK);
+        self.run("outside, enters, ECALL inside", call(0), 50, (18, 2), |m| {
+            ins(m, 0);
+            m.pc = 0x48;
+        });
+        self.run("outside, enters, ECALL redirected, goes on at the handler", call(2), 50, (19, 4), |m| {
+            out(m, 2, 2, 0x84);
+            m.x[11] = 6;
+        });
+        self.run("outside, enters, budget used up inside", call(2), 2, (21, 2), |m| {
+            ins(m, 2);
+            m.pc = 0x48;
+        });
+        let twice = begin(0).put(0x48, hfi(EXIT)).put(0x4c, hfi(ENTER)).put(0x50, addi(11, 0, 6)).put(0x54, hfi(EXIT)).put(0x58, ECALL);
+        self.run("outside, enters and exits twice, goes on to ECALL", twice, 50, (18, 6), |m| {
+            out(m, 0, 1, 0x58);
+            (m.exit_pc, m.x[11]) = (0x54, 6);
+        });
+        self.run("outside, enters, enters again", begin(0).put(0x48, hfi(ENTER)), 50, (14, 2), |m| {
+            ins(m, 0);
+            m.pc = 0x48;
+        });
+        self.run("outside, enters, exits, exits again", begin(0).put(0x48, hfi(EXIT)).put(0x4c, hfi(EXIT)), 50, (14, 3), |m| out(m, 0, 1, 0x4c));
+    }
+
+    fn crossings_that_stop(&mut self) {
+        let begin = || outside(hfi(ENTER)).with(|m| m.x[5] = 1);
+        let ins = |m: &mut Machine| {
+            (m.mode, m.options, m.pc) = (1, 1, 0x44);
+            m.fault.occurred = 0;
+        };
+        let jump = outside(hfi(ENTER_JUMP)).with(|m| (m.x[5], m.x[6]) = (5, 0xc0)).put(0xc0, hfi(EXIT));
+        self.run("outside, enters with jump, exits to the handler, 12 there", jump.with(|m| m.handler = 0x2460), 50, (12, 2), |m| {
+            (m.options, m.reason, m.exit_pc, m.pc) = (5, 1, 0xc0, 0x2460);
+            m.fault.occurred = 0;
+        })
+        .told
+        .address = 0x2460;
+        let far = begin().with(|m| m.regions[2].base = 0x100);
+        self.run("outside, enters, the next fetch is refused", far, 50, (11, 1), |m| {
+            ins(m);
+            m.fault = fault(0, 3, 0x44);
+        });
+        self.run("outside, enters, a load is refused", begin().put(0x44, load(0, 7, 0, 0)), 50, (16, 1), |m| {
+            ins(m);
+            m.fault = fault(0, 1, 0);
+        });
+        self.run("outside, enters, a locked word is forbidden", begin().put(0x44, hfi(GET_HANDLER)), 50, (14, 1), ins);
+        let grants = outside(hfi_fields(SELECT, 0, 1, 0))
+            .with(|m| (m.x[1], m.x[2], m.x[3], m.x[5]) = (1, 0x300, 0x10, 1))
+            .put(0x44, hfi_fields(SET_BASE, 0, 2, 0))
+            .put(0x48, hfi_fields(SET_BOUND, 0, 3, 0))
+            .put(0x4c, hfi(ENTER))
+            .put(0x50, hstore(3, 7, 8))
+            .put(0x54, hload(3, 4, 9));
+        self.run("outside, grants 16 bytes, enters locked, stores there, then is refused", grants, 50, (16, 5), |m| {
+            ins(m);
+            (m.pc, m.selector) = (0x54, 1);
+            m.regions[0] = Region { base: 0x300, bound: 0x10, permission: 3 };
+            m.fault = fault(1, 1, 0x310);
+        })
+        .stores(0x308, 8, 0x107);
+        let changes = outside(store(2, 7, 0, 0x44)).with(|m| m.x[7] = EBREAK as u64).put(0x44, NOP);
+        self.run("outside, stores its next word", changes, 50, (19, 1), |m| m.pc = 0x44).stores(0x44, 4, EBREAK as u64);
+    }
+
+    /// "a run that began in HFI mode ends there with 20"
+    fn runs_inside(&mut self) {
+        let exit = || inside(addi(10, 0, 5)).with(|m| m.options = 0).put(0x44, hfi(EXIT)).put(0x48, ECALL);
+        let left = |m: &mut Machine| (m.mode, m.reason, m.exit_pc, m.pc, m.x[10]) = (0, 1, 0x44, 0x48, 5);
+        self.run("inside, exits: 20, not ECALL's 18", exit(), 50, (20, 2), left);
+        self.run("inside, exits with the last step: 20, not 21", exit(), 2, (20, 2), left);
+        self.run("inside, budget used up before the exit", exit(), 1, (21, 1), |m| (m.pc, m.x[10]) = (0x44, 5));
+    }
+}
+
+/// What a word of funct7 3 to 12 that HFI allows does, with x5 as operand and x7 as rd.
+fn region_word(m: &mut Machine, funct7: u32) {
+    let (operand, chosen) = (m.x[5], (m.selector as usize).max(1) - 1);
+    match funct7 {
+        SELECT => m.selector = operand,
+        SET_BASE => m.regions[chosen].base = operand,
+        GET_BASE => m.x[7] = m.regions[chosen].base,
+        SET_BOUND => m.regions[chosen].bound = operand,
+        GET_BOUND => m.x[7] = m.regions[chosen].bound,
+        SET_PERMISSION => m.regions[chosen].permission = operand,
+        GET_PERMISSION => m.x[7] = m.regions[chosen].permission,
+        SET_HANDLER => m.handler = operand & 0x3fff_ffff_ffff_fffc,
+        GET_HANDLER => m.x[7] = m.handler,
+        _ => (m.regions, m.selector) = (Default::default(), 0),
+    }
+    m.pc = 0x44;
+}
+
+fn fault(region: u64, op: u64, address: u64) -> crate::Fault {
+    crate::Fault { occurred: 1, region, op, address }
+}
+
+type Change = (String, Box<dyn Fn(&mut Machine)>);
+
+fn change(name: &str, set: impl Fn(&mut Machine) + 'static) -> Change {
+    (name.to_string(), Box::new(set))
+}
+
+/// One clause of well formed broken each.
+fn broken() -> Vec<Change> {
+    let mut all = Vec::new();
+    for value in [1, 1 << 63] {
+        all.push(change(&format!("x0 {value:x}"), move |m| m.x[0] = value));
+    }
+    for value in [2, 1 << 32, ALL] {
+        all.push(change(&format!("mode {value:x}"), move |m| m.mode = value));
+    }
+    for value in [3, 1 << 32] {
+        all.push(change(&format!("reason {value:x}"), move |m| m.reason = value));
+    }
+    for value in [16, 1 << 32] {
+        all.push(change(&format!("options {value:x}"), move |m| m.options = value));
+    }
+    for place in [0, 1, 62, 63] {
+        all.push(change(&format!("handler bit {place}"), move |m| m.handler |= 1 << place));
+    }
+    for value in [4, 1 << 32] {
+        all.push(change(&format!("selector {value:x}"), move |m| m.selector = value));
+    }
+    for (number, places) in [(1, [2, 4, 63].as_slice()), (2, &[2, 3, 63]), (3, &[0, 1, 3, 63])] {
+        for place in places.iter().copied() {
+            all.push(change(&format!("region {number} permission bit {place}"), move |m| m.regions[number - 1].permission |= 1 << place));
+        }
+    }
+    for value in [2, 1 << 32] {
+        all.push(change(&format!("occurred {value:x}"), move |m| m.fault.occurred = value));
+    }
+    for value in [4, 1 << 32] {
+        all.push(change(&format!("fault region {value:x}"), move |m| m.fault.region = value));
+    }
+    for value in [4, 1 << 32] {
+        all.push(change(&format!("fault op {value:x}"), move |m| m.fault.op = value));
+    }
+    all
+}
+
+/// Each field at its largest good value, then all of them.
+fn largest() -> Vec<Change> {
+    let mut all = vec![
+        change("mode 1", |m| m.mode = 1),
+        change("reason 2", |m| m.reason = 2),
+        change("exit pc of ones", |m| m.exit_pc = ALL),
+        change("options f", |m| m.options = 15),
+        change("handler 3ffffffffffffffc", |m| m.handler = 0x3fff_ffff_ffff_fffc),
+        change("selector 3", |m| m.selector = 3),
+        change("region 1 permission b", |m| m.regions[0].permission = 0xb),
+        change("region 2 permission 3", |m| m.regions[1].permission = 3),
+        change("region 3 permission 4", |m| m.regions[2].permission = 4),
+        change("base and bound of ones", |m| (m.regions[0].base, m.regions[0].bound) = (ALL, ALL)),
+        change("fault region 3", |m| m.fault.region = 3),
+        change("fault op 3", |m| m.fault.op = 3),
+        change("fault address of ones", |m| m.fault.address = ALL),
+        change("x1 to x31 of ones", |m| (1..32).for_each(|n| m.x[n] = ALL)),
+    ];
+    let each = largest_of_all;
+    all.push(change("every field at its largest", each));
+    all
+}
+
+fn largest_of_all(m: &mut Machine) {
+    (m.mode, m.reason, m.exit_pc, m.options, m.handler, m.selector) = (1, 2, ALL, 15, 0x3fff_ffff_ffff_fffc, 3);
+    m.regions[0] = Region { base: ALL, bound: ALL, permission: 0xb };
+    m.regions[1] = Region { base: ALL, bound: ALL, permission: 3 };
+    m.fault = crate::Fault { occurred: 1, region: 3, op: 3, address: ALL };
+    (1..32).for_each(|n| m.x[n] = ALL);
+}
+
+pub fn directed() -> Vec<Directed> {
+    let mut list = List::default();
+    list.enters();
+    list.enters_refused();
+    list.exits();
+    list.h_words_outside();
+    list.locks();
+    list.regions();
+    list.permissions();
+    list.handler_and_reset();
+    list.system();
+    list.crossings();
+    list.crossings_that_stop();
+    list.runs_inside();
+    list.resumes();
+    list.ill_formed();
+    list.well_formed();
+    list.absent_words();
+    list.absent_data();
+    list.refused();
+    list.not_consulted();
+    list.all
+}
+
+/// Random calls: runs that cross the mode, steps of one word, short runs and
+/// resumptions of any machine.
+pub fn random(seed: u64, number: usize) -> Vec<Call> {
+    let mut supply = Supply::new(seed);
+    (0..number).map(|n| random_call(&mut supply, n)).collect()
+}
+
+fn random_call(supply: &mut Supply, n: usize) -> Call {
+    let (request, machine, lent) = match n % 8 {
+        0 | 1 => {
+            let (machine, memory) = supply.crossing_world(7);
+            (Request::Run(supply.below(60)), machine, memory)
+        }
+        2 => {
+            let machine = supply.any_state();
+            (Request::Resume(supply.edge()), machine, Vec::new())
+        }
+        3 => {
+            let length = supply.below(160) as usize;
+            let machine = supply.machine(length);
+            (Request::Run(supply.budget()), machine, supply.memory(length))
+        }
+        _ => {
+            let (machine, memory) = supply.single_step(256);
+            (Request::Step, machine, memory)
+        }
+    };
+    let length = lent.len();
+    let mut bytes = vec![0; ROOM];
+    bytes[..length].copy_from_slice(&lent);
+    // A byte past the end, which no call may touch.
+    bytes[length] = 0xee;
+    Call { name: format!("random {n}"), request, machine, length, bytes }
+}
+
+/// The stored calls, and what the oracle answers to them.
+pub fn stored() -> (String, String) {
+    let (mut data, mut printed) = (String::new(), String::new());
+    let mut both = |call: &Call, told: Option<&Answer>| {
+        let answer = call.answer(&crate::compare::Oracle).expect("the oracle answers");
+        assert!(told.map_or(true, |told| *told == answer), "{}: by hand {}oracle {}", call.name, told.unwrap().written(""), answer.written(""));
+        data.push_str(&call.written());
+        printed.push_str(&answer.written(&call.name));
+    };
+    for row in directed() {
+        both(&row.call, Some(&row.told));
+    }
+    for call in random(20, RANDOM) {
+        both(&call, None);
+    }
+    (data, printed)
+}
+
+/// How many of the stored calls are random.
+pub const RANDOM: usize = 160;
