@@ -2,7 +2,9 @@
 ghost use mathlib.Core.Path.{_≡_};
 ghost use Prim.Native.Nat.{_<_, _≤_};
 ghost use lib.ListN.{length};
-use libc::STDOUT_FILENO;
+use columns::print;
+use columns::print_decimal;
+use columns::read_file;
 use memory::bytes::read;
 use memory::bytes::write;
 use model::Fault;
@@ -19,10 +21,6 @@ use text::number::number;
 use text::print::put_hexadecimal;
 use text::scan::place;
 use text::scan::rest;
-
-fn print(text: &[u8]) {
-    io::write_all(STDOUT_FILENO, text);
-}
 
 // A comma and the number, in hexadecimal.
 fn print_field(n: u64) {
@@ -186,7 +184,7 @@ fn print_registers(x: [u64; 32]) {
     while i < 32 {
         if x[i] != 0 {
             print(b",");
-            io::print_decimal(STDOUT_FILENO, i as u64);
+            print_decimal(i as u64);
             print_field(x[i]);
         }
         i += 1;
@@ -211,7 +209,7 @@ fn print_memory(mem: &[u8; 65536]) {
 // What a call gave: the stop in decimal, count and address, and the state afterwards.
 fn print_answer(o: Ran) {
     print(b"\nstop,");
-    io::print_decimal(STDOUT_FILENO, o.stop);
+    print_decimal(o.stop);
     print_field(o.count);
     print_field(o.address);
     let m = o.machine;
@@ -261,12 +259,7 @@ fn show_all(s: &[u8]) {
 }
 
 fn main() {
-    let fd = os::open_read(b"calls");
-    if fd < 0 {
-        os::fail(b"calls");
-        return;
-    }
     let mut room = [0u8; 524288];
-    let n = io::read_full(fd, &mut room);
+    let n = read_file(b"calls", &mut room);
     show_all(&room[..n]);
 }
