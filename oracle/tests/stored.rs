@@ -72,14 +72,14 @@ fn calls() {
 
 #[test]
 fn values() {
-    let report = oracle::vectors::check_columns(&text("crates/values/data/values.columns"));
+    let report = oracle::vectors::check_columns(&text("crates/values/authoring/values.columns"));
     assert_eq!(report.failed, 0, "{:?}", report.lines);
     assert!(report.passed > 1000);
 }
 
 #[test]
 fn words() {
-    let report = oracle::vectors::check_words(&text("crates/decode_words/data/words.columns"));
+    let report = oracle::vectors::check_words(&text("crates/decode_words/authoring/words.columns"));
     assert_eq!(report.failed, 0, "{:?}", report.lines);
     assert!(report.passed > 5000);
 }

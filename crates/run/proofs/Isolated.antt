@@ -12,7 +12,7 @@ use Rattle.model.specs.Run.{Ended, runCall}
 use Rattle.model.specs.Isolation.{Locked}
 use Rattle.model.specs.declared.Machine.{Machine}
 use Rattle.model.specs.declared.Ran.{Ran}
-use Rattle.model.proofs.Isolation.{Settings, settings, locked-keeps, runs-isolated}
+use Rattle.model.proofs.Isolation.{settings, locked-keeps, runs-isolated}
 use Rattle.model.proofs.Runs.{count-at-most}
 use Rattle.run.specs.Answer.{answer}
 

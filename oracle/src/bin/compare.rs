@@ -224,14 +224,14 @@ fn stored(engine: &dyn Engine, counts: &mut Counts) {
     let root = std::path::Path::new(env!("CARGO_MANIFEST_DIR")).join("..");
     let text = |path: &str| String::from_utf8(std::fs::read(root.join(path)).expect(path)).expect("text");
     if engine.run(&mut Default::default(), &mut [], 0).is_some() {
-        let report = oracle::vectors::check_columns_with(&text("crates/values/data/values.columns"), &mut |m, bytes, budget| {
+        let report = oracle::vectors::check_columns_with(&text("crates/values/authoring/values.columns"), &mut |m, bytes, budget| {
             engine.run(m, bytes, budget).unwrap()
         });
         println!("values: {} passed, {} failed", report.passed, report.failed);
         counts.differences.extend(report.lines);
     }
     // Each stored word as a step outside HFI mode.
-    for line in text("crates/decode_words/data/words.columns").lines() {
+    for line in text("crates/decode_words/authoring/words.columns").lines() {
         let word = u32::from_str_radix(&line[0..8], 16).unwrap();
         let mut memory = vec![0x13u8; 0x100];
         memory[0x80..0x84].copy_from_slice(&word.to_le_bytes());
@@ -241,7 +241,7 @@ fn stored(engine: &dyn Engine, counts: &mut Counts) {
     }
     if engine.decode_encode(0).is_some() {
         let (mut passed, mut failed) = (0, 0);
-        for line in text("crates/decode_words/data/words.columns").lines() {
+        for line in text("crates/decode_words/authoring/words.columns").lines() {
             let word = u32::from_str_radix(&line[0..8], 16).unwrap();
             let expected = if &line[9..10] == "1" { (0, word) } else { (13, 0) };
             if engine.decode_encode(word) == Some(expected) {
