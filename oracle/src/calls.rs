@@ -1,7 +1,7 @@
 //! Stored calls: step, run and resume on machines that no sheet can make
-//! (`crates/calls`). A directed call carries its answer as worked out by hand
-//! from document 01, machine and memory included, and the oracle has to give
-//! the same; the random ones come from the supply.
+//! (`crates/calls`). A directed call carries its answer as read off
+//! document 01, machine and memory included, and the oracle has to give the
+//! same: it guards against slips. The random ones come from the supply.
 
 use crate::compare::Engine;
 use crate::machine::{Machine, Region};
@@ -99,7 +99,7 @@ fn state(machine: &Machine, bytes: &[u8]) -> String {
     text
 }
 
-/// A directed call and its answer, worked out by hand.
+/// A directed call and its answer, as read off document 01.
 pub struct Directed {
     pub call: Call,
     pub told: Answer,
@@ -859,7 +859,7 @@ pub fn stored() -> (String, String) {
     let (mut data, mut printed) = (String::new(), String::new());
     let mut both = |call: &Call, told: Option<&Answer>| {
         let answer = call.answer(&crate::compare::Oracle).expect("the oracle answers");
-        assert!(told.map_or(true, |told| *told == answer), "{}: by hand {}oracle {}", call.name, told.unwrap().written(""), answer.written(""));
+        assert!(told.map_or(true, |told| *told == answer), "{}: as written {}oracle {}", call.name, told.unwrap().written(""), answer.written(""));
         data.push_str(&call.written());
         printed.push_str(&answer.written(&call.name));
     };
