@@ -1,4 +1,4 @@
-/* libkoubospar.a and libkoubospar_codec.a: an RV64I machine with HFI, for the controller of an oven.
+/* libkoubospar.a and libkoubospar_codec.a: an RV64I machine with HFI, for a controller.
  *
  * `rt staticlib koubospar` and `rt staticlib koubospar_codec` build them in target/staticlib/; nothing of them is compiled
  * unless it is proved. The second has koubospar_decode and koubospar_encode, the first all else. Numbers and values are
@@ -9,9 +9,9 @@
  * whoever links it, libkoubospar_codec.a nothing.
  *
  * This header is written by hand. The proofs speak of the record by its fields' names, so they would not notice two
- * fields exchanged in it, and the library would be built all the same. `c/try` is the only guard: it asks the library
- * itself (koubospar_probe, koubospar_place, and calls) where each field stands. Run it after every build, with the compiler
- * of the controller's code, before you believe the declarations below.
+ * fields exchanged in it, and the library would be built all the same. `c/try` is this header's only guard: it asks the
+ * library itself (koubospar_probe, koubospar_place, and calls) where each field stands. Run it after every build, with the
+ * compiler of the controller's code (`CC=.. c/try`), before you believe the declarations below.
  *
  * The libraries are compiled for x86-64 alone, with the System V calling convention, and use SSE2, which every x86-64
  * has: a controller that calls them from an interrupt has to save those registers. Another machine takes a compiler back

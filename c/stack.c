@@ -46,7 +46,7 @@ static size_t used(int paint, size_t depth)
 static struct koubospar_machine before, m;
 static uint8_t memory[LONGEST + 1];
 static size_t length;
-static uint64_t budget, place, read_back, numbers;
+static uint64_t budget, place, read_back, written;
 static struct koubospar_stop stop;
 static struct koubospar_run_stop run_stop;
 static uint32_t word;
@@ -58,7 +58,7 @@ static uint8_t sheet[65537], output[KOUBOSPAR_MOST];
 static void step(void) { m = before, stop = koubospar_step(&m, memory, length); }
 static void run(void) { m = before, run_stop = koubospar_run(&m, memory, length, budget); }
 static void resume(void) { m = before, stop = koubospar_resume(&m, budget); }
-static void respond(void) { numbers = koubospar_respond(sheet, length, output); }
+static void respond(void) { written = koubospar_respond(sheet, length, output); }
 static void decode(void) { decoded = koubospar_decode(word); }
 static void encode(void) { encoded = koubospar_encode(instruction); }
 static void probe(void) { m = koubospar_probe(); }

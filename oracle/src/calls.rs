@@ -55,12 +55,17 @@ impl Call {
 
     /// The block of five lines that stands for it in `crates/calls/data/calls`.
     pub fn written(&self) -> String {
+        format!("{}\n{}", self.name, self.unnamed())
+    }
+
+    /// The block without its name.
+    fn unnamed(&self) -> String {
         let (number, argument) = match self.request {
             Request::Step => (1, 0),
             Request::Run(budget) => (2, budget),
             Request::Resume(value) => (3, value),
         };
-        format!("{}\ncall,{number},{argument:x},{:x}\n{}", self.name, self.length, state(&self.machine, &self.bytes))
+        format!("call,{number},{argument:x},{:x}\n{}", self.length, state(&self.machine, &self.bytes))
     }
 }
 
@@ -228,7 +233,7 @@ fn hstore(funct3: u32, rs2: u32, offset: i32) -> u32 {
 
 fn unchanged(_: &mut Machine) {}
 
-/// The directed calls, in the order of the questions that they are about.
+/// The directed calls, by subject.
 #[derive(Default)]
 struct List {
     all: Vec<Directed>,
@@ -295,6 +300,23 @@ impl List {
         let both = outside(hfi_fields(ENTER_JUMP, 0, 5, 5)).with(options(12));
         self.step("enter with jump, one register for both", both, 0, entered(12, 12));
         self.step("enter with jump, x0 for both", outside(hfi_fields(ENTER_JUMP, 0, 0, 0)), 0, entered(0, 0));
+    }
+
+    /// Questions 4, 7 and 9 of ordinary words.
+    fn asked(&mut self) {
+        for (place, world) in [("outside", outside as fn(u32) -> World), ("inside", inside)] {
+            for pc in [0x41, 0x42, 0x43] {
+                self.step(&format!("{place}, pc {pc:x}"), world(NOP).with(|m| m.pc = pc), 10, unchanged);
+            }
+            for word in [0, 0xffff_ffff, 0x0000_100f, 0x0400_015b] {
+                self.step(&format!("{place}, illegal word {word:x}"), world(word), 13, unchanged);
+            }
+            self.step(&format!("{place}, jal to a half word"), world(0x0020_006f), 15, unchanged);
+            self.step(&format!("{place}, jalr to a half word"), world(i_type(0x67, 0, 1, 0, 6)), 15, unchanged);
+            self.step(&format!("{place}, branch to a half word"), world(0x0000_0363), 15, unchanged);
+            self.step(&format!("{place}, branch not taken to a half word"), world(0x0002_8363), 0, |m| m.pc = 0x44);
+            self.step(&format!("{place}, ebreak"), world(EBREAK), 19, unchanged);
+        }
     }
 
     fn enters_refused(&mut self) {
@@ -797,6 +819,7 @@ fn largest_of_all(m: &mut Machine) {
 
 pub fn directed() -> Vec<Directed> {
     let mut list = List::default();
+    list.asked();
     list.enters();
     list.enters_refused();
     list.exits();
@@ -816,6 +839,9 @@ pub fn directed() -> Vec<Directed> {
     list.absent_data();
     list.refused();
     list.not_consulted();
+    // A call that two subjects share stands once, under the first.
+    let mut seen = std::collections::HashSet::new();
+    list.all.retain(|row| seen.insert(row.call.unnamed()));
     list.all
 }
 

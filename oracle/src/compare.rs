@@ -469,28 +469,8 @@ fn any_machine(left: &dyn Engine, right: &dyn Engine, supply: &mut Supply, memor
 
 /// A step of a single chosen word, so that each instruction is met.
 fn chosen_word(left: &dyn Engine, right: &dyn Engine, supply: &mut Supply, memory: &[u8], counts: &mut Counts) {
-    let mut m = supply.machine(memory.len());
-    m.pc = supply.below(memory.len() as u64 / 4) * 4;
-    m.mode = supply.below(2);
-    if m.mode == 1 {
-        let k = 12 + supply.below(8);
-        m.regions[2] = crate::Region { base: 0, bound: u64::MAX << k, permission: 4 };
-    }
     let mut bytes = memory.to_vec();
-    let mut word = supply.word();
-    if supply.once_in(3) {
-        // An HFI word with a small operand, mostly unlocked.
-        word = supply.hfi_word();
-        m.x[5] = match supply.below(4) {
-            0 => supply.edge(),
-            1 => supply.below(20) + (1 << (32 + supply.below(32))),
-            _ => supply.below(20),
-        };
-        m.x[6] = supply.below(64) * 4 + if supply.once_in(2) { supply.below(4) } else { 0 };
-        m.options &= supply.pick(&[14, 14, 14, 15]);
-    }
-    let at = m.pc as usize;
-    bytes[at..at + 4].copy_from_slice(&word.to_le_bytes());
+    let mut m = supply.chosen_word(&mut bytes);
     compare_step(left, right, &mut m, &mut bytes, counts);
 }
 

@@ -240,7 +240,7 @@ impl Supply {
     /// outside, one enters, 7 work inside, one leaves, one jumps to a block. The
     /// handler is the start of a block; x20 to x22 hold options, x23 to x25
     /// where the inner part of a block begins, x27 a region's number, x28 a
-    /// handler. Twice 2^k bytes.
+    /// handler. Twice 2^k bytes, now and then a few fewer.
     pub fn crossing_world(&mut self, k: u64) -> (Machine, Vec<u8>) {
         let (mut machine, mut memory) = self.steady_world_of(k);
         let blocks = (1u64 << k) / 64;
@@ -320,33 +320,46 @@ impl Supply {
     }
 
     /// A machine about to make a step of a chosen word, so that each
-    /// instruction is met; memory is as long as given, a multiple of 8.
+    /// instruction is met, over a nearly empty memory as long as given, a
+    /// multiple of 8.
     pub fn single_step(&mut self, length: usize) -> (Machine, Vec<u8>) {
-        let mut machine = self.machine(length);
-        machine.pc = self.below(length as u64 / 4) * 4;
-        machine.mode = self.below(2);
-        if machine.mode == 1 {
-            let k = 12 + self.below(8);
-            machine.regions[2] = Region { base: 0, bound: ALL << k, permission: 4 };
-        }
         let mut memory: Vec<u8> = vec![0; length];
         for _ in 0..4 {
             let at = self.below(length as u64 / 8) as usize * 8;
             memory[at..at + 8].copy_from_slice(&self.next().to_le_bytes());
         }
-        let mut word = self.word();
-        if self.once_in(3) {
-            word = self.hfi_word();
-            machine.x[5] = if self.once_in(3) { self.edge() } else { self.below(20) };
-            machine.x[6] = self.below(64) * 4 + if self.once_in(2) { self.below(4) } else { 0 };
-            machine.options &= self.pick(&[14, 14, 15]);
-        }
-        let at = machine.pc as usize;
-        memory[at..at + 4].copy_from_slice(&word.to_le_bytes());
+        let machine = self.chosen_word(&mut memory);
         (machine, memory)
     }
 
-    /// A machine with any numbers in its fields, well formed about as often as
+    /// A chosen word in a memory of at least 4 bytes, and a machine about to
+    /// make a step of it.
+    pub fn chosen_word(&mut self, memory: &mut [u8]) -> Machine {
+        let mut machine = self.machine(memory.len());
+        machine.pc = self.below(memory.len() as u64 / 4) * 4;
+        machine.mode = self.below(2);
+        if machine.mode == 1 {
+            let k = 12 + self.below(8);
+            machine.regions[2] = Region { base: 0, bound: ALL << k, permission: 4 };
+        }
+        let mut word = self.word();
+        if self.once_in(3) {
+            // An HFI word with a small operand, mostly unlocked.
+            word = self.hfi_word();
+            machine.x[5] = match self.below(4) {
+                0 => self.edge(),
+                1 => self.below(20) + (1 << (32 + self.below(32))),
+                _ => self.below(20),
+            };
+            machine.x[6] = self.below(64) * 4 + if self.once_in(2) { self.below(4) } else { 0 };
+            machine.options &= self.pick(&[14, 14, 14, 15]);
+        }
+        let at = machine.pc as usize;
+        memory[at..at + 4].copy_from_slice(&word.to_le_bytes());
+        machine
+    }
+
+    /// A machine with any numbers in its fields, well formed more often than
     /// not.
     pub fn any_state(&mut self) -> Machine {
         let mut machine = self.machine(4096);

@@ -197,7 +197,7 @@ pub const CODE: u64 = 0x1000;
 pub const DATA: u64 = 0x2000;
 pub const RECORD: usize = 256;
 
-/// One fixed-column record; see vectors/README.md for the offsets.
+/// One fixed-column record; `crates/values/data/README.md` has the offsets.
 pub struct Record {
     pub name: String,
     pub before: [u64; 4],

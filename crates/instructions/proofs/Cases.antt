@@ -265,6 +265,13 @@ refused =
     Branch Beq 0 0 3  -- an odd offset
     ∷ Branch Beq 0 0 4096  -- one bit too far
     ∷ Jal 0 (2 ^ 20)
+    ∷ Jal 0 1
+    ∷ Store Sb 0 0 (2 ^ 64 - 2049)
+    ∷ HLoad Lb 0 0 2048
+    ∷ HStore Sb 0 32 0
+    ∷ Fence 16 0 0 0 0
+    ∷ Fence 0 0 16 0 0
+    ∷ ShiftWord Slliw 0 0 32
     ∷ Immediate Addi 0 0 2048
     ∷ Immediate Addi 32 0 0
     ∷ Shift Slli 0 0 64

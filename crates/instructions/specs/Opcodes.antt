@@ -41,14 +41,14 @@ MISC-MEM = 0b0001111
 abbrev pub SYSTEM : ℕ
 SYSTEM = 0b1110011
 
--- document 01: opcode `0b`, in the specification's space custom-0
+-- "opcode 0b, funct3 0 to 6 for hlb, hlh, hlw, hld, hlbu, hlhu, hlwu", in the specification's space custom-0
 abbrev pub H-LOAD : ℕ
 H-LOAD = 0x0b
 
--- document 01: opcode `2b`, custom-1
+-- "opcode 2b, funct3 0 to 3 for hsb, hsh, hsw, hsd", custom-1
 abbrev pub H-STORE : ℕ
 H-STORE = 0x2b
 
--- document 01: opcode `5b`, custom-2
+-- "The rest (ours) are R-type words, opcode 5b, funct3 0.", custom-2
 abbrev pub HFI : ℕ
 HFI = 0x5b

@@ -1,4 +1,4 @@
-// The kinds of each group of instructions, in the order of the specification's listing.
+// The kinds of each group of instructions.
 pub enum UpperKind {
     Lui,
     Auipc,

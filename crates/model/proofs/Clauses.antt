@@ -1,6 +1,6 @@
 -- Clauses of document 01 that no sheet can reach, since a sheet starts in HFI mode and ends when it leaves: rows of one
--- table that one computed check covers, each with the whole machine and memory that the call leaves. Sentences of document
--- 01 are quoted above their rows.
+-- table that one computed check covers. A row of a call has the whole machine that it leaves, and the whole memory.
+-- Sentences of document 01 are quoted above their rows.
 -- Assumes nothing.
 use mathlib.Core.Path.{_≡_, refl}
 use mathlib.Core.Bool.{true, false}
@@ -16,10 +16,10 @@ use Rattle.model.specs.WellFormed.{stateFits, wellFormed}
 use Rattle.model.specs.Hfi.{hfiForbids, hWordForbids, hfiPerform}
 use Rattle.model.specs.Regions.{explicitRule, matches, firstMatch, implicitGrants, explicitGrants}
 use Rattle.model.specs.Access.{scan, firstRefused, firstAbsent, verdict}
-use Rattle.model.specs.Step.{load, store, perform, executeWord, advance, step, resume}
+use Rattle.model.specs.Step.{load, store, jump, branch, perform, executeWord, advance, step, resume}
 use Rattle.model.specs.Run.{ended, run, runCall}
 use Rattle.model.specs.declared.Machine.{Machine}
-use Rattle.model.proofs.Rows.{Row, found, stated, x, pc, mode, reason, epc, options, handler, selector, base, bound, permission, occurred, blamed, op, faulting, with, bytes}
+use Rattle.model.proofs.Rows.{Row, found, stated, x, pc, mode, reason, epc, options, handler, selector, base, bound, permission, occurred, blamed, op, faulting, puts, with, bytes}
 use Rattle.model.proofs.Rows.Question.{judging, stepping, running, resuming}
 use Rattle.model.proofs.Rows.Answer.{told, gave}
 
@@ -75,7 +75,17 @@ ebreak = 0x00100073
 abbrev seven : ℕ
 seven = 0x00700393
 
--- hlb x6 at 0, hsb x6 at 0, hld x6 at 0, ld x6, 0(x5), sd x6, 0(x5)
+-- jal x0, .+2; beq x0, x0, .+6; beq x5, x0, .+6
+abbrev jal : ℕ
+jal = 0x0020006f
+
+abbrev beq : ℕ
+beq = 0x00000363
+
+abbrev beq5 : ℕ
+beq5 = 0x00028363
+
+-- hlb x6 at 0, hsb x6 at 0, hld x6 at 0, ld x6, 0(x5), sd x6, 0(x5), and hlb x6 at 0 with rs1 x5
 abbrev hlb : ℕ
 hlb = 0x0000030b
 
@@ -90,6 +100,9 @@ ld = 0x0002b303
 
 abbrev sd : ℕ
 sd = 0x0062b023
+
+abbrev hlb5 : ℕ
+hlb5 = 0x0002830b
 
 -- ---- machines: outside or in HFI mode with these options, and something in every place that a word might change
 
@@ -127,6 +140,10 @@ goes start w changes = steps start w 0 ((pc, 4) ∷ changes)
 -- a step that question 8 stops
 abbrev forbidden : List (ℕ × ℕ) → ℕ → Row
 forbidden start w = steps start w 14 []
+
+-- a step that changes the memory too
+abbrev writes : List (ℕ × ℕ) → List ℕ → List (ℕ × ℕ) → List (ℕ × ℕ) → Row
+writes start mem changes written = (stepping (with start) mem, gave 0 0 0 (with (start ++ changes)) (puts mem written))
 
 -- a run over words: its budget, stop, count and address, and the places that it changes
 abbrev runs : List (ℕ × ℕ) → List ℕ → ℕ → ℕ → ℕ → ℕ → List (ℕ × ℕ) → Row
@@ -190,7 +207,7 @@ manipulating start =
 
 unfoldable pub locking : List Row
 locking =
-    -- "Bit 0 lock regions" is asked in HFI mode only; "set handler in HFI mode, locked or unlocked"
+    -- "bit 0 lock regions" is asked in HFI mode only; "set handler in HFI mode, locked or unlocked"
     manipulating (outside 1 ++ operands 3 0)
     ++ manipulating (inside 0xe ++ operands 3 0)
     -- "Set handler clears bits 0, 1, 62, 63."
@@ -232,6 +249,8 @@ running-on =
     ∷ runs (outside 0 ++ operands 0 0) (enter ∷ exit ∷ enter ∷ exit ∷ ebreak ∷ []) 9 19 4 0
     ((pc, 16) ∷ (reason, 1) ∷ (epc, 12) ∷ (options, 0) ∷ (occurred, 0) ∷ [])
     ∷ runs (outside 0 ++ operands 0 0) (enter ∷ seven ∷ ecall ∷ []) 9 18 2 0 ((pc, 8) ∷ (x 7, 7) ∷ (mode, 1) ∷ (occurred, 0) ∷ [])
+    ∷ runs (outside 0 ++ operands 2 0) (enter ∷ ecall ∷ []) 9 12 2 0x40
+    ((pc, 0x40) ∷ (reason, 2) ∷ (epc, 4) ∷ (options, 2) ∷ (occurred, 0) ∷ [])
     ∷ runs (inside 0) (seven ∷ exit ∷ seven ∷ []) 9 20 2 0 ((pc, 8) ∷ (x 7, 7) ∷ (mode, 0) ∷ (reason, 1) ∷ (epc, 4) ∷ [])
     ∷ runs (inside 6) (exit ∷ []) 1 20 1 0 ((pc, 0x40) ∷ (mode, 0) ∷ (reason, 1) ∷ (epc, 0) ∷ [])
     ∷ runs (inside 6) (ecall ∷ []) 9 20 1 0 ((pc, 0x40) ∷ (mode, 0) ∷ (reason, 2) ∷ (epc, 0) ∷ [])
@@ -244,6 +263,31 @@ running-on =
     ∷ runs (inside 16) (0 ∷ []) 0 3 0 0 []
     ∷ []
 
+unfoldable pub asking : List Row
+asking =
+    -- questions 4, 7 and 9 outside HFI mode, and in it
+    stepsOver (outside 0 ++ ((pc, 2) ∷ [])) (bytes (seven ∷ seven ∷ [])) 10 0 []
+    ∷ stepsOver (inside 0 ++ ((pc, 1) ∷ [])) (bytes (seven ∷ seven ∷ [])) 10 0 []
+    ∷ steps (outside 0) 0 13 []
+    ∷ steps (inside 0) 0 13 []
+    ∷ steps (outside 0) jal 15 []
+    ∷ steps (inside 0) jal 15 []
+    ∷ steps (outside 0) beq 15 []
+    ∷ steps (inside 0) beq 15 []
+    ∷ goes (outside 0 ++ operands 1 0) beq5 []
+    -- "5. In HFI mode, are all four bytes executable?" before "6. Are they in memory?"
+    ∷ stepsOver (inside 0 ++ ((pc, 0x20) ∷ [])) (bytes (seven ∷ [])) 11 0 ((occurred, 1) ∷ (blamed, 0) ∷ (op, 3) ∷ (faulting, 0x20) ∷ [])
+    -- 18 and 19 outside HFI mode
+    ∷ steps (outside 0) ecall 18 []
+    ∷ steps (outside 0) ebreak 19 []
+    -- "Misaligned data is allowed."
+    ∷ writes (outside 0 ++ operands 3 0) (bytes (ld ∷ 0x11223344 ∷ 0x55667788 ∷ [])) ((pc, 4) ∷ (x 6, 0x6677881122334400) ∷ []) []
+    ∷ writes (outside 0 ++ operands 5 0x0102030405060708) (bytes (sd ∷ 0 ∷ 0 ∷ 0 ∷ [])) ((pc, 4) ∷ [])
+    ((5, 8) ∷ (6, 7) ∷ (7, 6) ∷ (8, 5) ∷ (9, 4) ∷ (10, 3) ∷ (11, 2) ∷ (12, 1) ∷ [])
+    -- "rs1 is ignored, though the instruction carries the field"
+    ∷ goes (inside 0 ++ ((base 1, 0) ∷ (x 5, 0x80) ∷ [])) hlb5 ((x 6, 0xb) ∷ [])
+    ∷ []
+
 unfoldable pub absent : List Row
 absent =
     -- "12 and 17 also give the first absent address, counted from the access's start": here it is not the first byte
@@ -252,6 +296,8 @@ absent =
     ∷ stepsOver (outside 0 ++ operands 1 0) (bytes (ld ∷ []) ++ (0 ∷ [])) 17 5 []
     ∷ stepsOver (outside 0 ++ operands 2 0) (bytes (sd ∷ [])) 17 4 []
     ∷ stepsOver (inside 0 ++ ((base 1, 1) ∷ [])) (bytes (hld ∷ []) ++ (0 ∷ 0 ∷ [])) 17 6 []
+    ∷ runs (outside 0 ++ ((x 5, 2) ∷ [])) (seven ∷ ld ∷ []) 9 17 1 8 ((pc, 4) ∷ (x 7, 7) ∷ [])
+    ∷ runs (inside 0) (seven ∷ []) 9 12 1 4 ((pc, 4) ∷ (x 7, 7) ∷ [])
     -- and here it is
     ∷ stepsOver (outside 0 ++ ((pc, 0x44) ∷ [])) (bytes (0 ∷ [])) 12 0x44 []
     ∷ stepsOver (outside 0 ++ operands (2 ^ 64 - 1) 0) (bytes (ld ∷ [])) 17 (2 ^ 64 - 1) []
@@ -302,10 +348,12 @@ forming =
     ∷ judged (permission 2) 3
     ∷ misjudged (permission 2) 4
     ∷ misjudged (permission 2) 8
+    ∷ misjudged (permission 2) 16
     ∷ judged (permission 3) 4
     ∷ misjudged (permission 3) 1
     ∷ misjudged (permission 3) 2
     ∷ misjudged (permission 3) 8
+    ∷ misjudged (permission 3) 16
     -- "occurred at most 1, fault region and op at most 3"
     ∷ misjudged occurred 2
     ∷ judged blamed 3
@@ -326,10 +374,10 @@ forming =
     ∷ []
 
 abbrev pub rows : List Row
-rows = entering ++ leaving ++ locking ++ running-on ++ absent ++ going-on ++ forming
+rows = entering ++ leaving ++ locking ++ running-on ++ asking ++ absent ++ going-on ++ forming
 
 pub clauses : found rows ≡ stated rows
-unfolding entering leaving locking running-on absent going-on forming trailingZeros sext decodeWord matches explicitRule firstMatch implicitGrants explicitGrants scan firstRefused firstAbsent verdict value written allowed aligned settle stateFits wellFormed hfiForbids hWordForbids hfiPerform load store perform executeWord advance step resume run runCall
+unfolding entering leaving locking running-on asking absent going-on forming trailingZeros sext decodeWord matches explicitRule firstMatch implicitGrants explicitGrants scan firstRefused firstAbsent verdict value written allowed aligned settle stateFits wellFormed hfiForbids hWordForbids hfiPerform load store jump branch perform executeWord advance step resume run runCall
 clauses = refl
 
 -- ---- "Is memory no longer than 16,777,216?" of memories that are too long to write down

@@ -45,7 +45,7 @@ fetchAccess rs pc = implicitAccess rs codeRegions execute pc 4
 abbrev pub dataAccess : List Region → ℕ → ℕ → ℕ → Access
 dataAccess rs permission a n = implicitAccess rs dataRegions permission a n
 
--- "an h-load or h-store region 1 only .. The address is base + offset + i, modulo 2^64. .. Its fault region is 1 for explicit"
+-- "an h-load or h-store region 1 only"; "The address is base + offset + i, modulo 2^64."; "Its fault region is 1 for explicit"
 abbrev pub explicitAccess : List Region → ℕ → ℕ → ℤ → ℕ → Access
 explicitAccess rs n permission offset count =
     record {

@@ -24,7 +24,8 @@ pub record Agree (m : Machine) (s t : List ℕ) : Type 0 where
 
 -- what two runs from m, over s and over t, leave: e and f
 pub record Isolated (m : Machine) (s t : List ℕ) (e f : Ended) : Type 0 where
-  -- "both runs give the same stop, count, address and final machine": "The final machine is the whole record."
+  -- "both runs give the same stop, count, address and final machine": "The step count is that of the completed steps, a leaving
+  -- one included. The address is the one given with the stop. The final machine is the whole record."
   pub answers : e .result ≡ f .result
   -- "Each run has its own memory, compared at every address in it": neither memory changes its length
   pub long : (length (e .memory) ≡ length s) × (length (f .memory) ≡ length t)

@@ -21,7 +21,8 @@ outcome stop address m mem = record { result = record { stop = stop; address = a
 abbrev pub completed : Machine → List ℕ → Outcome
 completed m mem = outcome 0 0 m mem
 
--- "For 10 to 19 the stopping step .. changes nothing"; 12 and 17 alone give an address
+-- "For 10 to 19 the stopping step isn't counted and changes nothing"; "12 and 17 also give the first absent address .. all others
+-- give 0 there"
 abbrev pub stopped : ℕ → Machine → List ℕ → Outcome
 stopped stop m mem = outcome stop 0 m mem
 
@@ -35,11 +36,11 @@ moved m next = machine (m .x) next (m .hfi)
 
 -- ---- questions that lead to a stop, or to what `next` says
 
--- question 8, by its number: 0 where HFI allows the instruction
+-- "8. Does HFI allow it? No: 14", by the number that the rules give: 0 where HFI allows the instruction
 unfoldable pub allowed : Machine → List ℕ → ℕ → Outcome → Outcome
 allowed m mem forbidden next = cond (eqb forbidden 0) next (stopped forbidden m mem)
 
--- question 9: "Is the target .. a multiple of 4? No: 15."
+-- "9. Is the target of a taken branch, a jump or an enter with jump a multiple of 4? No: 15."
 unfoldable pub aligned : Machine → List ℕ → ℕ → Outcome → Outcome
 aligned m mem target next = cond (eqb (target % 4) 0) next (stopped 15 m mem)
 

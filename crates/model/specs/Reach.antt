@@ -44,7 +44,7 @@ pub data Executable (rs : List Region) (b : ℕ) : Type 0 where
 
 -- ---- the closed forms
 
--- what an h-word of 8 bytes reaches: offset 2,047, byte 7
+-- "So an hld at 2,047 in a region of bound 4,096 also reaches offsets 2,048 to 2,054."
 abbrev pub farthest : ℕ
 farthest = 2054
 

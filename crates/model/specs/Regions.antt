@@ -96,7 +96,8 @@ explicitRule r = cond (permits large r) (largeRule r) (smallRule r)
 
 -- ---- implicit regions
 
--- "A byte matches when its address, and-ed with the mask, equals base"; "a region that breaks its rule .. matches nothing"
+-- "A byte matches when its address, and-ed with the mask, equals base."; "A region that breaks its rule keeps its values and
+-- matches nothing"
 unfoldable pub matches : Region → ℕ → Bool
 matches r a = implicitRule r && eqb (bitAnd a (r .bound)) (r .base)
 

@@ -22,7 +22,8 @@ ended stop count address m mem =
 
 -- with a budget of `left` steps still, after `count` completed steps of a run that began in HFI mode or not.
 -- "Before each step of a run: does the budget have a step left? No: 21." "After a step of a run that began in HFI mode: is the
--- mode still on? No: 20." "For 10 to 19 the stopping step isn't counted .. 20 counts its step."
+-- mode still on? No: 20." "For 10 to 19 the stopping step isn't counted .. 20 counts its step." "A step leaves the sandbox when
+-- mode is 1 before it and 0 after it; a run that began in HFI mode ends there with 20."
 unfoldable pub run : Bool → ℕ → ℕ → Machine → List ℕ → Ended
 run began zero count m mem = ended 21 count 0 m mem
 run began (suc left) count m mem =
@@ -32,11 +33,11 @@ run began (suc left) count m mem =
     (cond (began && not (inside (o .result .machine .hfi))) (ended 20 (suc count) 0 (o .result .machine) (o .memory)) goes-on)
     (ended (o .result .stop) count (o .result .address) (o .result .machine) (o .memory))
 
--- "Is the budget at most 1,000,000?"
+-- "2. (Run) Is the budget at most 1,000,000? No: 2."
 abbrev pub largestBudget : ℕ
 largestBudget = 1000000
 
--- questions 1, 2 and 3, then the run; "For 1 to 3 nothing changes and the count is 0."
+-- questions 1, 2 and "3. Is the machine well formed? No: 3."; then the run. "For 1 to 3 nothing changes and the count is 0."
 unfoldable pub runCall : Machine → List ℕ → ℕ → Ended
 runCall m mem budget =
     cond (ltb longest (length mem)) (ended 1 0 0 m mem)

@@ -36,7 +36,7 @@ load m mem next a k rd = onData m mem 1 a (completed (assigned m next rd (extend
 unfoldable pub store : Machine → List ℕ → ℕ → Access → ℕ → Outcome
 store m mem next a v = onData m mem 2 a (completed (moved m next) (written mem (a .first) 0 (a .count) v))
 
--- ---- the instructions, in the order of the specification's listing
+-- ---- the instructions, a clause a group
 
 -- JALR sets the lowest bit of the sum to zero (specification, "Unconditional Jumps")
 abbrev pub jalrTarget : ℕ → ℕ → ℕ
@@ -96,11 +96,11 @@ advance m mem =
 
 -- ---- the calls
 
--- "Is memory no longer than 16,777,216?"
+-- "1. Is memory no longer than 16,777,216? No: 1."
 abbrev pub longest : ℕ
 longest = 16777216
 
--- questions 1 and 3, then the step; "For 1 to 3 nothing changes"
+-- question 1 and "3. Is the machine well formed? No: 3."; then the step. "For 1 to 3 nothing changes"
 unfoldable pub step : Machine → List ℕ → Outcome
 step m mem =
     cond (ltb longest (length mem)) (stopped 1 m mem)

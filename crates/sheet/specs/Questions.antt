@@ -43,7 +43,8 @@ unfoldable pub permissionsFit : List (List ℕ) → ℕ → ℕ → Bool
 permissionsFit fs k zero = true
 permissionsFit fs k (suc n) = leb (value fs (k + 2)) 0xff && permissionsFit fs (k + 3) n
 
--- 33 lets an empty budget pass
+-- "32: are there 13 fields (line 1) or 2? 33: has each field 1 to 16 digits (an empty budget passes)? 34: are options and
+-- permissions at most ff, budget and words at most ffffffff"
 abbrev pub setupQuestions : List (List ℕ) → List (Bool × ℕ)
 setupQuestions fs =
     ((eqb (length fs) 13, 32)
@@ -56,7 +57,8 @@ setupNo fs = firstNo (setupQuestions fs)
 
 -- ---- each further line: address, word
 
--- 35: the address is at least `least`, which is one more than the address before and 0 where there is none before
+-- 32 and 33 as of line 1; 34 of "words at most ffffffff, addresses multiples of 4 and at most fffc?"; "35: do addresses rise
+-- strictly?": the address is at least `least`, which is one more than the address before and 0 where there is none before
 abbrev pub wordQuestions : ℕ → List (List ℕ) → List (Bool × ℕ)
 wordQuestions least fs =
     ((eqb (length fs) 2, 32)

@@ -219,7 +219,7 @@ fn bent(instruction: oracle::Instruction, supply: &mut oracle::supply::Supply) -
     }
 }
 
-/// The stored value cases, words and sheets.
+/// The stored value cases, words, sheets and calls.
 fn stored(engine: &dyn Engine, counts: &mut Counts) {
     let root = std::path::Path::new(env!("CARGO_MANIFEST_DIR")).join("..");
     let text = |path: &str| String::from_utf8(std::fs::read(root.join(path)).expect(path)).expect("text");
