@@ -153,6 +153,32 @@ static void codec(void)
     IS(d.instruction.group, 0);
 }
 
+/* each stop's name against document 01's number, and each group's against what the library says of a word of it */
+static void names(void)
+{
+    static const int stops[][2] = {
+        {KOUBOSPAR_COMPLETED, 0},           {KOUBOSPAR_MEMORY_TOO_LONG, 1}, {KOUBOSPAR_BUDGET_TOO_LARGE, 2},
+        {KOUBOSPAR_ILL_FORMED, 3},          {KOUBOSPAR_PC_MISALIGNED, 10},  {KOUBOSPAR_FETCH_REFUSED, 11},
+        {KOUBOSPAR_FETCH_ABSENT, 12},       {KOUBOSPAR_ILLEGAL_WORD, 13},   {KOUBOSPAR_HFI_FORBIDS, 14},
+        {KOUBOSPAR_TARGET_MISALIGNED, 15},  {KOUBOSPAR_DATA_REFUSED, 16},   {KOUBOSPAR_DATA_ABSENT, 17},
+        {KOUBOSPAR_SYSTEM_CALL, 18},        {KOUBOSPAR_BREAKPOINT, 19},     {KOUBOSPAR_LEFT, 20},
+        {KOUBOSPAR_BUDGET_SPENT, 21},
+    };
+    for (size_t i = 0; i < sizeof stops / sizeof stops[0]; i++)
+        is("a stop by its name", (uint64_t)stops[i][0], (uint64_t)stops[i][1]);
+    IS(KOUBOSPAR_MOST, 1373); /* the array that koubospar_respond takes */
+    static const uint64_t groups[][2] = {
+        {KOUBOSPAR_UPPER, 0x37},       {KOUBOSPAR_JAL, 0x6f},           {KOUBOSPAR_JALR, 0x67},
+        {KOUBOSPAR_BRANCH, 0x63},      {KOUBOSPAR_LOAD, 0x03},          {KOUBOSPAR_STORE, 0x23},
+        {KOUBOSPAR_IMMEDIATE, 0x13},   {KOUBOSPAR_SHIFT, 0x1013},       {KOUBOSPAR_ADDIW, 0x1b},
+        {KOUBOSPAR_SHIFT_WORD, 0x101b}, {KOUBOSPAR_REGISTER, 0x33},     {KOUBOSPAR_REGISTER_WORD, 0x3b},
+        {KOUBOSPAR_FENCE, 0x0f},       {KOUBOSPAR_SYSTEM, 0x73},        {KOUBOSPAR_H_LOAD, 0x0b},
+        {KOUBOSPAR_H_STORE, 0x2b},     {KOUBOSPAR_HFI, 0x5b},
+    };
+    for (size_t i = 0; i < sizeof groups / sizeof groups[0]; i++)
+        is("a group by its name", koubospar_decode((uint32_t)groups[i][1]).instruction.group, groups[i][0]);
+}
+
 /* document 01's whole example, and a refusal */
 static void sheet(void)
 {
@@ -175,6 +201,7 @@ int main(void)
     machine();
     calls();
     codec();
+    names();
     sheet();
     puts(failed ? "layout FAILED" : "layout: every field as declared");
     return failed;

@@ -432,6 +432,13 @@ impl List {
 
     /// "a permission bit the region lacks"
     fn permissions(&mut self) {
+        for value in [3, 8] {
+            let large = outside(hfi(SET_PERMISSION)).with(|m| (m.selector, m.x[5], m.regions[0].permission) = (1, value, 0xb));
+            self.step(&format!("set permission {value:x} over b"), large, 0, move |m| {
+                m.regions[0].permission = value;
+                m.pc = 0x44;
+            });
+        }
         let largest: [u64; 3] = [0xb, 3, 4];
         for selector in 1..=3usize {
             let world = |value: u64| {
@@ -605,6 +612,12 @@ impl List {
         let top = |word: u32| inside(word).with(|m| m.regions[0].base = ALL);
         self.step("hld, region 1 breaks its rule, address wraps", top(hload(3, 7, 1)), 16, |m| m.fault = fault(1, 1, 0));
         self.step("hsb, region 1 breaks its rule", top(hstore(0, 7, -1)), 16, |m| m.fault = fault(1, 2, ALL - 1));
+        for (base, bound) in [(0x10000, 0x18000), (0x18000, 0x10000), (0x10000, 0), (0x10000, 1 << 48)] {
+            let large = inside(hload(0, 7, 0)).with(|m| m.regions[0] = Region { base, bound, permission: 0xb });
+            self.step(&format!("hlb, large region {base:x}, {bound:x} breaks its rule"), large, 16, |m| m.fault = fault(1, 1, base));
+        }
+        self.step("hlb into x0, refused", inside(hload(0, 0, 0x40)), 16, |m| m.fault = fault(1, 1, 0x240));
+        self.add("step: hlb into x0, absent", Request::Step, inside(hload(0, 0, 8)).length(0x208), (17, 0, 0x208), unchanged);
         let no_read = at(load(0, 7, 8, 0), 0x410).with(|m| m.regions[1].permission = 2);
         self.step("lb, region 2 without read", no_read, 16, |m| m.fault = fault(2, 1, 0x410));
         let no_code = inside(NOP).with(|m| m.regions[2].permission = 0);

@@ -426,6 +426,16 @@ impl Supply {
         }
     }
 
+    /// What makes a number no multiple of 65,536, now and then: any number, or
+    /// one bit, so that nearly whole multiples are met.
+    fn odd_part(&mut self) -> u64 {
+        match self.below(16) {
+            0 => self.below(65536),
+            1 => 1 << self.below(16),
+            _ => 0,
+        }
+    }
+
     /// The explicit region.
     fn explicit_region(&mut self, length: usize) -> Region {
         let permission = self.pick(&[3, 3, 3, 1, 2, 0, 8, 9, 10, 11, 11]);
@@ -437,8 +447,8 @@ impl Supply {
                     Region { base, bound: (1 << 48) - base + self.pick(&[0, 65536]), permission }
                 }
                 _ => Region {
-                    base: self.below(3) * 65536 + if self.once_in(8) { self.below(65536) } else { 0 },
-                    bound: self.below(4) * 65536 + if self.once_in(8) { self.below(65536) } else { 0 },
+                    base: self.below(3) * 65536 + self.odd_part(),
+                    bound: self.below(4) * 65536 + self.odd_part(),
                     permission,
                 },
             }

@@ -19,8 +19,8 @@ use Rattle.model.specs.Access.{scan, firstRefused, firstAbsent, verdict}
 use Rattle.model.specs.Step.{load, store, jump, branch, perform, executeWord, advance, step, resume}
 use Rattle.model.specs.Run.{ended, run, runCall}
 use Rattle.model.specs.declared.Machine.{Machine}
-use Rattle.model.proofs.Rows.{Row, found, stated, x, pc, mode, reason, epc, options, handler, selector, base, bound, permission, occurred, blamed, op, faulting, puts, with, bytes}
-use Rattle.model.proofs.Rows.Question.{judging, stepping, running, resuming}
+use Rattle.model.proofs.Rows.{Row, found, stated, x, pc, mode, reason, epc, options, handler, selector, base, bound, permission, occurred, blamed, op, faulting, puts, regionOf, with, bytes}
+use Rattle.model.proofs.Rows.Question.{matching, ruling, judging, stepping, running, resuming}
 use Rattle.model.proofs.Rows.Answer.{told, gave}
 
 -- ---- words; those that read a register read x5 (and x6), those that write one write x6
@@ -239,7 +239,35 @@ locking =
     ∷ forbidden (outside 0 ++ ((selector, 1) ∷ (x 5, 4) ∷ [])) setPermission
     ∷ forbidden (outside 0 ++ ((selector, 2) ∷ (x 5, 8) ∷ [])) setPermission
     ∷ forbidden (outside 0 ++ ((selector, 3) ∷ (x 5, 1) ∷ [])) setPermission
+    -- the bits are those given, and large may stand alone
+    ∷ goes (outside 0 ++ ((selector, 1) ∷ (permission 1, 0xb) ∷ (x 5, 3) ∷ [])) setPermission ((permission 1, 3) ∷ [])
+    ∷ goes (outside 0 ++ ((selector, 1) ∷ (x 5, 8) ∷ [])) setPermission ((permission 1, 8) ∷ [])
     ∷ [])
+
+unfoldable pub keeping : List Row
+keeping =
+    -- "bound is 1 to 2^32, first and last byte share the same multiple of 2^32, base + bound is at most 2^48"
+    (ruling (regionOf 0 (2 ^ 32) 3), told true)
+    ∷ (ruling (regionOf 0 (2 ^ 32 + 1) 3), told false)
+    ∷ (ruling (regionOf 0 0 3), told false)
+    ∷ (ruling (regionOf (2 ^ 48 - 1) 1 3), told true)
+    ∷ (ruling (regionOf (2 ^ 48) 1 3), told false)
+    -- sums are whole numbers
+    ∷ (ruling (regionOf (2 ^ 64 - 1) 1 3), told false)
+    ∷ (ruling (regionOf (2 ^ 64 - 65536) 65536 0xb), told false)
+    ∷ (matching (regionOf (2 ^ 64 - 16) (2 ^ 64 - 16) 3) (2 ^ 64 - 16), told false)
+    -- "base and bound are multiples of 65,536, bound is not 0, base + bound is at most 2^48"
+    ∷ (ruling (regionOf 0x10000 0x18000 0xb), told false)
+    ∷ (ruling (regionOf 0x18000 0x10000 0xb), told false)
+    ∷ (ruling (regionOf 0x10000 0 0xb), told false)
+    ∷ (ruling (regionOf 0 (2 ^ 48) 0xb), told true)
+    ∷ (ruling (regionOf 0x10000 (2 ^ 48) 0xb), told false)
+    -- "the count k of the mask's trailing zero bits is 0 to 48", "base + 2^k is at most 2^48"
+    ∷ (matching (regionOf 5 (2 ^ 64 - 1) 3) 5, told true)
+    ∷ (matching (regionOf 0 (2 ^ 64 - 2 ^ 48) 3) (2 ^ 48 - 1), told true)
+    ∷ (matching (regionOf 0 (2 ^ 64 - 2 ^ 49) 3) 0, told false)
+    ∷ (matching (regionOf (2 ^ 48) (2 ^ 64 - 16) 3) (2 ^ 48), told false)
+    ∷ []
 
 unfoldable pub running-on : List Row
 running-on =
@@ -301,6 +329,9 @@ absent =
     -- and here it is
     ∷ stepsOver (outside 0 ++ ((pc, 0x44) ∷ [])) (bytes (0 ∷ [])) 12 0x44 []
     ∷ stepsOver (outside 0 ++ operands (2 ^ 64 - 1) 0) (bytes (ld ∷ [])) 17 (2 ^ 64 - 1) []
+    -- a load into x0 asks as any other: hlb x0 at 8, and at 0
+    ∷ stepsOver (inside 0) (bytes (0x0080000b ∷ [])) 16 0 ((occurred, 1) ∷ (blamed, 1) ∷ (op, 1) ∷ (faulting, 0x18) ∷ [])
+    ∷ stepsOver (inside 0) (bytes (0x0000000b ∷ [])) 17 0x10 []
     -- every byte is asked for its region before any for memory's end
     ∷ stepsOver (inside 0 ++ operands 0x7c 0) (bytes (ld ∷ [])) 16 0 ((occurred, 1) ∷ (blamed, 0) ∷ (op, 1) ∷ (faulting, 0x80) ∷ [])
     ∷ []
@@ -343,6 +374,7 @@ forming =
     ∷ misjudged selector 4
     -- "only the permission bits listed"
     ∷ judged (permission 1) 0xb
+    ∷ judged (permission 1) 8
     ∷ misjudged (permission 1) 4
     ∷ misjudged (permission 1) 16
     ∷ judged (permission 2) 3
@@ -374,10 +406,10 @@ forming =
     ∷ []
 
 abbrev pub rows : List Row
-rows = entering ++ leaving ++ locking ++ running-on ++ asking ++ absent ++ going-on ++ forming
+rows = entering ++ leaving ++ locking ++ keeping ++ running-on ++ asking ++ absent ++ going-on ++ forming
 
 pub clauses : found rows ≡ stated rows
-unfolding entering leaving locking running-on asking absent going-on forming trailingZeros sext decodeWord matches explicitRule firstMatch implicitGrants explicitGrants scan firstRefused firstAbsent verdict value written allowed aligned settle stateFits wellFormed hfiForbids hWordForbids hfiPerform load store jump branch perform executeWord advance step resume run runCall
+unfolding entering leaving locking keeping running-on asking absent going-on forming trailingZeros sext decodeWord matches explicitRule firstMatch implicitGrants explicitGrants scan firstRefused firstAbsent verdict value written allowed aligned settle stateFits wellFormed hfiForbids hWordForbids hfiPerform load store jump branch perform executeWord advance step resume run runCall
 clauses = refl
 
 -- ---- "Is memory no longer than 16,777,216?" of memories that are too long to write down
