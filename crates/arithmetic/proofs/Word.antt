@@ -17,9 +17,9 @@ word-lt k (negsuc n) = omega (arith, pow-pos k)
 pub shift-lt : (a n k : ℕ) → a < 2 ^ k → a / 2 ^ n < 2 ^ k
 shift-lt a n k h = lt-of-le-of-lt (div-le-self a (2 ^ n)) h
 
--- the low 32 bits of 64
-pub low-of-wrapped : (n : ℕ) → field (n % 2 ^ 64) 0 32 ≡ n % 2 ^ 32
-low-of-wrapped n = omega arith
+-- the low 32 bits
+pub low : (n : ℕ) {r : ℕ} → r ≡ field n 0 32 → (r ≡ n % 2 ^ 32) × (r < 2 ^ 32)
+low n e = (omega (arith, e), omega (arith, e))
 
-pub low : (n : ℕ) → field n 0 32 ≡ n % 2 ^ 32
-low n = omega arith
+pub low-of-wrapped : (n : ℕ) {r : ℕ} → r ≡ field (n % 2 ^ 64) 0 32 → (r ≡ n % 2 ^ 32) × (r < 2 ^ 32)
+low-of-wrapped n e = (omega (arith, e), omega (arith, e))

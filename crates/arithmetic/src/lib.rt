@@ -1,8 +1,8 @@
 // What the operations make of values: the leaves of every instruction that only computes.
 ghost use mathlib.Core.Path.{_≡_};
 ghost use Prim.Native.Nat.{_*_, _^_, _<_};
-ghost use Rattle.instructions.specs.declared.kind.RegisterKind.the-variants.{Add, Sub, Sll, Srl, Sra};
-ghost use Rattle.model.specs.Access.{loadWidth, storeWidth};
+ghost use Rattle.model.specs.Access.{loadWidth};
+ghost use Rattle.model.specs.Step.{jalrTarget};
 ghost use Rattle.model.specs.Arithmetic.{flag as flagOf, operate as operateAt, operateWord, ofRegisterWord, ofImmediate, ofShift, ofShiftWord, taken as isTaken, extended as extendedOf};
 use instructions::kind::BranchKind;
 use instructions::kind::ImmediateKind;
@@ -11,7 +11,8 @@ use instructions::kind::RegisterKind;
 use instructions::kind::RegisterWordKind;
 use instructions::kind::ShiftKind;
 use instructions::kind::ShiftWordKind;
-use instructions::kind::StoreKind;
+use std::num::wrapping_add_u64;
+use std::num::wrapping_sub_u64;
 use words::bits;
 use words::shift_right_signed;
 use words::sign_extend;
@@ -23,122 +24,84 @@ fn flag(t: bool) -> u64
     if t { 1 } else { 0 }
 }
 
-fn shift_left(a: u64, b: u64) -> u64
-    ensures { λ r. ⌜ r ≡ operateAt 64 Sll a b ⌝ }
-{
-    a << (b % 64)
-}
-
-fn shift_right(a: u64, b: u64) -> u64
-    ensures { λ r. ⌜ r ≡ operateAt 64 Srl a b ⌝ }
-{
-    a >> (b % 64)
-}
-
-fn shift_right_sign(a: u64, b: u64) -> u64
-    ensures { λ r. ⌜ r ≡ operateAt 64 Sra a b ⌝ }
-{
-    shift_right_signed(a, 64, b % 64)
-}
-
 // An operation on 64 bits.
 pub fn operate(k: RegisterKind, a: u64, b: u64) -> u64
     ensures { λ r. ⌜ r ≡ operateAt 64 k a b ⌝ }
 {
     match k {
-        RegisterKind::Add => std::num::wrapping_add_u64(a, b),
-        RegisterKind::Sub => std::num::wrapping_sub_u64(a, b),
-        RegisterKind::Sll => shift_left(a, b),
+        RegisterKind::Add => wrapping_add_u64(a, b),
+        RegisterKind::Sub => wrapping_sub_u64(a, b),
+        RegisterKind::Sll => a << (b % 64),
         RegisterKind::Slt => flag(signed_less(a, b)),
         RegisterKind::Sltu => flag(a < b),
         RegisterKind::Xor => a ^ b,
-        RegisterKind::Srl => shift_right(a, b),
-        RegisterKind::Sra => shift_right_sign(a, b),
+        RegisterKind::Srl => a >> (b % 64),
+        RegisterKind::Sra => shift_right_signed(a, 64, b % 64),
         RegisterKind::Or => a | b,
         RegisterKind::And => a & b,
     }
 }
 
-pub fn operate_immediate(k: ImmediateKind, a: u64, imm: u64) -> u64
-    ensures { λ r. ⌜ r ≡ operateAt 64 (ofImmediate k) a imm ⌝ }
+// The same on 32 bits, of the kinds that have a word form.
+fn operate_32(k: RegisterWordKind, a: u64, b: u64) -> u64
+    requires { ⌜ (a < 2 ^ 32) × (b < 2 ^ 32) ⌝ }
+    ensures { λ r. ⌜ (r ≡ operateAt 32 (ofRegisterWord k) a b) × (r < 2 ^ 32) ⌝ }
 {
     match k {
-        ImmediateKind::Addi => std::num::wrapping_add_u64(a, imm),
-        ImmediateKind::Slti => flag(signed_less(a, imm)),
-        ImmediateKind::Sltiu => flag(a < imm),
-        ImmediateKind::Xori => a ^ imm,
-        ImmediateKind::Ori => a | imm,
-        ImmediateKind::Andi => a & imm,
+        RegisterWordKind::Addw => bits(a + b, 0, 32),
+        RegisterWordKind::Subw => bits(a + (0x1_0000_0000 - b), 0, 32),
+        RegisterWordKind::Sllw => bits(a << (b % 32), 0, 32),
+        RegisterWordKind::Srlw => a >> (b % 32),
+        RegisterWordKind::Sraw => shift_right_signed(a, 32, b % 32),
     }
 }
 
-pub fn operate_shift(k: ShiftKind, a: u64, amount: u64) -> u64
-    ensures { λ r. ⌜ r ≡ operateAt 64 (ofShift k) a amount ⌝ }
-{
-    match k {
-        ShiftKind::Slli => shift_left(a, amount),
-        ShiftKind::Srli => shift_right(a, amount),
-        ShiftKind::Srai => shift_right_sign(a, amount),
-    }
-}
-
-// The word forms: on the low 32 bits, the result sign extended.
-pub fn add_word(a: u64, b: u64) -> u64
-    ensures { λ r. ⌜ r ≡ operateWord Add a b ⌝ }
-{
-    sign_extend(bits(bits(a, 0, 32) + bits(b, 0, 32), 0, 32), 32)
-}
-
-fn sub_word(a: u64, b: u64) -> u64
-    ensures { λ r. ⌜ r ≡ operateWord Sub a b ⌝ }
-{
-    sign_extend(
-        bits(bits(a, 0, 32) + (0x1_0000_0000 - bits(b, 0, 32)), 0, 32),
-        32,
-    )
-}
-
-fn shift_left_word(a: u64, b: u64) -> u64
-    ensures { λ r. ⌜ r ≡ operateWord Sll a b ⌝ }
-{
-    sign_extend(bits(bits(a, 0, 32) << (bits(b, 0, 32) % 32), 0, 32), 32)
-}
-
-fn shift_right_word(a: u64, b: u64) -> u64
-    ensures { λ r. ⌜ r ≡ operateWord Srl a b ⌝ }
-{
-    sign_extend(bits(a, 0, 32) >> (bits(b, 0, 32) % 32), 32)
-}
-
-fn shift_right_sign_word(a: u64, b: u64) -> u64
-    ensures { λ r. ⌜ r ≡ operateWord Sra a b ⌝ }
-{
-    sign_extend(
-        shift_right_signed(bits(a, 0, 32), 32, bits(b, 0, 32) % 32),
-        32,
-    )
-}
-
+// A word form: on the low 32 bits, the result sign extended.
 pub fn operate_word(k: RegisterWordKind, a: u64, b: u64) -> u64
     ensures { λ r. ⌜ r ≡ operateWord (ofRegisterWord k) a b ⌝ }
 {
+    sign_extend(operate_32(k, bits(a, 0, 32), bits(b, 0, 32)), 32)
+}
+
+// The operation that each kind with an immediate or an amount is a form of.
+pub fn of_immediate(k: ImmediateKind) -> RegisterKind
+    ensures { λ r. ⌜ r ≡ ofImmediate k ⌝ }
+{
     match k {
-        RegisterWordKind::Addw => add_word(a, b),
-        RegisterWordKind::Subw => sub_word(a, b),
-        RegisterWordKind::Sllw => shift_left_word(a, b),
-        RegisterWordKind::Srlw => shift_right_word(a, b),
-        RegisterWordKind::Sraw => shift_right_sign_word(a, b),
+        ImmediateKind::Addi => RegisterKind::Add,
+        ImmediateKind::Slti => RegisterKind::Slt,
+        ImmediateKind::Sltiu => RegisterKind::Sltu,
+        ImmediateKind::Xori => RegisterKind::Xor,
+        ImmediateKind::Ori => RegisterKind::Or,
+        ImmediateKind::Andi => RegisterKind::And,
     }
 }
 
-pub fn operate_shift_word(k: ShiftWordKind, a: u64, amount: u64) -> u64
-    ensures { λ r. ⌜ r ≡ operateWord (ofShiftWord k) a amount ⌝ }
+pub fn of_shift(k: ShiftKind) -> RegisterKind
+    ensures { λ r. ⌜ r ≡ ofShift k ⌝ }
 {
     match k {
-        ShiftWordKind::Slliw => shift_left_word(a, amount),
-        ShiftWordKind::Srliw => shift_right_word(a, amount),
-        ShiftWordKind::Sraiw => shift_right_sign_word(a, amount),
+        ShiftKind::Slli => RegisterKind::Sll,
+        ShiftKind::Srli => RegisterKind::Srl,
+        ShiftKind::Srai => RegisterKind::Sra,
     }
+}
+
+pub fn of_shift_word(k: ShiftWordKind) -> RegisterWordKind
+    ensures { λ r. ⌜ ofRegisterWord r ≡ ofShiftWord k ⌝ }
+{
+    match k {
+        ShiftWordKind::Slliw => RegisterWordKind::Sllw,
+        ShiftWordKind::Srliw => RegisterWordKind::Srlw,
+        ShiftWordKind::Sraiw => RegisterWordKind::Sraw,
+    }
+}
+
+// The target of JALR: the lowest bit of the sum is zero.
+pub fn jalr_target(a: u64, imm: u64) -> u64
+    ensures { λ r. ⌜ r ≡ jalrTarget a imm ⌝ }
+{
+    wrapping_add_u64(a, imm) / 2 * 2
 }
 
 // Is the branch taken?
@@ -152,31 +115,6 @@ pub fn taken(k: BranchKind, a: u64, b: u64) -> bool
         BranchKind::Bge => !signed_less(a, b),
         BranchKind::Bltu => a < b,
         BranchKind::Bgeu => !(a < b),
-    }
-}
-
-pub fn load_width(k: LoadKind) -> u64
-    ensures { λ r. ⌜ r ≡ loadWidth k ⌝ }
-{
-    match k {
-        LoadKind::Lb => 1,
-        LoadKind::Lh => 2,
-        LoadKind::Lw => 4,
-        LoadKind::Ld => 8,
-        LoadKind::Lbu => 1,
-        LoadKind::Lhu => 2,
-        LoadKind::Lwu => 4,
-    }
-}
-
-pub fn store_width(k: StoreKind) -> u64
-    ensures { λ r. ⌜ r ≡ storeWidth k ⌝ }
-{
-    match k {
-        StoreKind::Sb => 1,
-        StoreKind::Sh => 2,
-        StoreKind::Sw => 4,
-        StoreKind::Sd => 8,
     }
 }
 

@@ -144,9 +144,9 @@ fn uncounted(s: Stepped) -> Ran {
 // Makes call 1, 2 or 3: a step, a run or a resumption.
 fn make(call: u64, argument: u64, m: Machine, mem: &mut [u8]) -> Ran {
     match call {
-        1 => uncounted(step::call::step(m, mem)),
-        2 => run::run(m, mem, argument),
-        _ => uncounted(step::call::resume(m, argument)),
+        1 => uncounted(step::call::step_call(m, mem)),
+        2 => run::run_call(m, mem, argument),
+        _ => uncounted(step::call::resume_call(m, argument)),
     }
 }
 

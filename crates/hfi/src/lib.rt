@@ -1,3 +1,2 @@
-// What a step answers, with the registers in place, and the words of opcode 5b.
-pub mod outcome;
+// The words of opcode 5b.
 pub mod word;

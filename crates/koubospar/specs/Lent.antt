@@ -8,11 +8,11 @@ use Rattle.model.specs.declared.Ran.{Ran}
 use Rattle.koubospar.specs.declared.lent.Stop.{Stop}
 use Rattle.koubospar.specs.declared.lent.RunStop.{RunStop}
 
-abbrev pub stepped : Stop → Machine → Stepped
-stepped r m = record { stop = r .stop; address = r .address; machine = m }
+abbrev pub stopWith : Stop → Machine → Stepped
+stopWith r m = record { stop = r .stop; address = r .address; machine = m }
 
-abbrev pub ran : RunStop → Machine → Ran
-ran r m = record { stop = r .stop; count = r .count; address = r .address; machine = m }
+abbrev pub runStopWith : RunStop → Machine → Ran
+runStopWith r m = record { stop = r .stop; count = r .count; address = r .address; machine = m }
 
 -- what a run of one step answers, as the step's own answer
 abbrev pub asStep : Ran → Stepped

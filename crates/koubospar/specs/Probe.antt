@@ -1,15 +1,28 @@
--- Another number in each place of the machine's record, and what stands in each place.
--- Assumes nothing.
+-- Another number in each place of the machine's record, and what stands in each place. Places count the record's 64-bit words.
+-- No promise rests on this file: it serves the test of the record's layout (c/try).
+-- Region, Fault and Machine are declared in model/src/lib.rt.
+use mathlib.Core.Bool.{cond}
 use mathlib.Core.List.{List, [], _∷_}
-use Prim.Native.Nat.{ℕ}
+use Prim.Native.Nat.{ℕ, zero, suc, _+_, _-_, _*_, _/_, _%_}
+use lib.Dec.{ltb}
 use lib.ListN.{replicate, set}
 use Rattle.instructions.specs.Table.{lookup}
-use Rattle.model.specs.Machine.{reg, region}
+use Rattle.model.specs.Machine.{reg, region, lastRegion}
 use Rattle.model.specs.declared.Region.{Region}
+use Rattle.model.specs.declared.Fault.{Fault}
 use Rattle.model.specs.declared.Machine.{Machine}
 
-abbrev regionAt : ℕ → ℕ → ℕ → Region
-regionAt base bound permission = record { base = base; bound = bound; permission = permission }
+-- k regions, the first with n in its first place
+abbrev regionsFrom : ℕ → ℕ → List Region
+regionsFrom n zero = []
+regionsFrom n (suc k) = record { base = n; bound = n + 1; permission = n + 2 } ∷ regionsFrom (n + 3) k
+
+-- the places of the first region and of the fault record
+abbrev pub firstRegion : ℕ
+firstRegion = 39
+
+abbrev pub firstFault : ℕ
+firstFault = firstRegion + 3 * lastRegion
 
 abbrev pub probe : Machine
 probe =
@@ -23,21 +36,27 @@ probe =
         options = 1036;
         handler = 1037;
         selector = 1038;
-        regions = regionAt 1039 1040 1041 ∷ regionAt 1042 1043 1044 ∷ regionAt 1045 1046 1047 ∷ [];
-        fault = record { occurred = 1048; region = 1049; op = 1050; address = 1051 };
+        regions = regionsFrom (1000 + firstRegion) lastRegion;
+        fault = record { occurred = 1000 + firstFault; region = 1001 + firstFault; op = 1002 + firstFault; address = 1003 + firstFault };
       };
     }
 
-abbrev pub places : Machine → List (ℕ × ℕ)
-places m =
+abbrev pub inHart : Machine → List (ℕ × ℕ)
+inHart m =
     (0, reg (m .x) 0) ∷ (31, reg (m .x) 31) ∷ (32, m .pc)
     ∷ (33, m .hfi .mode) ∷ (34, m .hfi .reason) ∷ (35, m .hfi .epc)
     ∷ (36, m .hfi .options) ∷ (37, m .hfi .handler) ∷ (38, m .hfi .selector)
-    ∷ (39, region (m .hfi .regions) 1 .base) ∷ (40, region (m .hfi .regions) 1 .bound) ∷ (41, region (m .hfi .regions) 1 .permission)
-    ∷ (42, region (m .hfi .regions) 2 .base) ∷ (43, region (m .hfi .regions) 2 .bound) ∷ (44, region (m .hfi .regions) 2 .permission)
-    ∷ (45, region (m .hfi .regions) 3 .base) ∷ (46, region (m .hfi .regions) 3 .bound) ∷ (47, region (m .hfi .regions) 3 .permission)
-    ∷ (48, m .hfi .fault .occurred) ∷ (49, m .hfi .fault .region) ∷ (50, m .hfi .fault .op) ∷ (51, m .hfi .fault .address)
     ∷ []
 
+abbrev pub inRegion : Region → List (ℕ × ℕ)
+inRegion r = (0, r .base) ∷ (1, r .bound) ∷ (2, r .permission) ∷ []
+
+abbrev pub inFault : Fault → List (ℕ × ℕ)
+inFault f = (0, f .occurred) ∷ (1, f .region) ∷ (2, f .op) ∷ (3, f .address) ∷ []
+
 abbrev pub placed : Machine → ℕ → ℕ
-placed m i = lookup 0 (places m) i
+placed m i =
+    let k = i - firstRegion in
+    cond (ltb i firstRegion) (lookup 0 (inHart m) i)
+    (cond (ltb i firstFault) (lookup 0 (inRegion (region (m .hfi .regions) (k / 3 + 1))) (k % 3))
+    (lookup 0 (inFault (m .hfi .fault)) (i - firstFault)))

@@ -1,10 +1,10 @@
 // "The oven's main loop keeps one machine record and lends it to each call, which updates it there."
 ghost use mathlib.Core.Path.{_≡_};
-ghost use Rattle.model.specs.Step.{step as stepOf, resume as resumeOf};
+ghost use Rattle.model.specs.Step.{stepCall as stepOf, resumeCall as resumeOf};
 ghost use Rattle.model.specs.Run.{runCall};
-ghost use Rattle.hfi.specs.Did.{after};
-ghost use Rattle.run.specs.Answer.{answer};
-ghost use Rattle.koubospar.specs.Lent.{stepped, ran};
+ghost use Rattle.model.specs.Outcome.{steppedWith};
+ghost use Rattle.model.specs.Run.{ranWith};
+ghost use Rattle.koubospar.specs.Lent.{stopWith, runStopWith};
 use crate::single::single_step;
 use model::Machine;
 
@@ -26,7 +26,7 @@ pub struct RunStop {
 // One step.
 #[no_mangle]
 pub extern "C" fn koubospar_step(m: &mut Machine, mem: &mut [u8]) -> Stop
-    ensures { λ r. ⌜ after (stepped r (now (m .exit))) (now (mem .exit)) ≡ stepOf (now (m .entry)) (now (mem .entry)) ⌝ }
+    ensures { λ r. ⌜ steppedWith (stopWith r (now (m .exit))) (now (mem .exit)) ≡ stepOf (now (m .entry)) (now (mem .entry)) ⌝ }
 {
     let r = single_step(*m, mem);
     *m = r.machine;
@@ -39,9 +39,9 @@ pub extern "C" fn koubospar_step(m: &mut Machine, mem: &mut [u8]) -> Stop
 // A run of at most `budget` steps.
 #[no_mangle]
 pub extern "C" fn koubospar_run(m: &mut Machine, mem: &mut [u8], budget: u64) -> RunStop
-    ensures { λ r. ⌜ answer (ran r (now (m .exit))) (now (mem .exit)) ≡ runCall (now (m .entry)) (now (mem .entry)) budget ⌝ }
+    ensures { λ r. ⌜ ranWith (runStopWith r (now (m .exit))) (now (mem .exit)) ≡ runCall (now (m .entry)) (now (mem .entry)) budget ⌝ }
 {
-    let r = run::run(*m, mem, budget);
+    let r = run::run_call(*m, mem, budget);
     *m = r.machine;
     RunStop {
         stop: r.stop,
@@ -53,9 +53,9 @@ pub extern "C" fn koubospar_run(m: &mut Machine, mem: &mut [u8], budget: u64) ->
 // `v` in x10, and pc past the word that it stands at: meant for stop 18.
 #[no_mangle]
 pub extern "C" fn koubospar_resume(m: &mut Machine, v: u64) -> Stop
-    ensures { λ r. ⌜ stepped r (now (m .exit)) ≡ resumeOf (now (m .entry)) v ⌝ }
+    ensures { λ r. ⌜ stopWith r (now (m .exit)) ≡ resumeOf (now (m .entry)) v ⌝ }
 {
-    let r = step::call::resume(*m, v);
+    let r = step::call::resume_call(*m, v);
     *m = r.machine;
     Stop {
         stop: r.stop,

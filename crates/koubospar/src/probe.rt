@@ -1,11 +1,30 @@
 // Another number in each place of the machine's record, there and back, by which a controller tests its own declaration
 // of the record. No contract sees the order of a record's fields, so this test (c/try) is the only guard of the layout.
 ghost use mathlib.Core.Path.{_≡_};
-ghost use Rattle.koubospar.specs.Probe.{probe, placed};
+ghost use Prim.Native.Nat.{_+_, _<_};
+ghost use Rattle.koubospar.specs.Probe.{probe, inHart, inRegion, inFault, placed};
+ghost use Rattle.instructions.specs.Table.{lookup};
 use model::Fault;
 use model::HfiState;
 use model::Machine;
 use model::Region;
+
+// The places of the first region and of the fault record.
+const FIRST_REGION: u64 = 39;
+
+const FIRST_FAULT: u64 = 48;
+
+// A region with n and the numbers after it.
+fn numbered(n: u64) -> Region
+    requires { ⌜ n < 2000 ⌝ }
+    ensures { λ r. ⌜ r ≡ record { base = n; bound = n + 1; permission = n + 2 } ⌝ }
+{
+    Region {
+        base: n,
+        bound: n + 1,
+        permission: n + 2,
+    }
+}
 
 // Place i of the record, counted in 64-bit words from its start, holds 1000 + i, but for the registers between x0 and
 // x31, which are 0.
@@ -16,22 +35,7 @@ pub extern "C" fn koubospar_probe() -> Machine
     let mut x = [0u64; 32];
     x[0] = 1000;
     x[31] = 1031;
-    let one = Region {
-        base: 1039,
-        bound: 1040,
-        permission: 1041,
-    };
-    let two = Region {
-        base: 1042,
-        bound: 1043,
-        permission: 1044,
-    };
-    let three = Region {
-        base: 1045,
-        bound: 1046,
-        permission: 1047,
-    };
-    let regions = [one, two, three];
+    let regions = [numbered(1039), numbered(1042), numbered(1045)];
     let fault = Fault {
         occurred: 1048,
         region: 1049,
@@ -55,13 +59,11 @@ pub extern "C" fn koubospar_probe() -> Machine
     }
 }
 
-// What stands in place i of the record; 0 for a register between x0 and x31, and past the end.
-#[no_mangle]
-pub extern "C" fn koubospar_place(m: Machine, i: u64) -> u64
-    ensures { λ r. ⌜ r ≡ placed m i ⌝ }
+// What stands in place i of the registers, pc and the HFI state before its regions.
+fn in_hart(m: Machine, i: u64) -> u64
+    ensures { λ r. ⌜ r ≡ lookup 0 (inHart m) i ⌝ }
 {
     let hfi = m.hfi;
-    let regions = hfi.regions;
     match i {
         0 => m.x[0],
         31 => m.x[31],
@@ -72,19 +74,47 @@ pub extern "C" fn koubospar_place(m: Machine, i: u64) -> u64
         36 => hfi.options,
         37 => hfi.handler,
         38 => hfi.selector,
-        39 => regions[0].base,
-        40 => regions[0].bound,
-        41 => regions[0].permission,
-        42 => regions[1].base,
-        43 => regions[1].bound,
-        44 => regions[1].permission,
-        45 => regions[2].base,
-        46 => regions[2].bound,
-        47 => regions[2].permission,
-        48 => hfi.fault.occurred,
-        49 => hfi.fault.region,
-        50 => hfi.fault.op,
-        51 => hfi.fault.address,
         _ => 0,
     }
+}
+
+fn in_region(r: Region, i: u64) -> u64
+    ensures { λ q. ⌜ q ≡ lookup 0 (inRegion r) i ⌝ }
+{
+    match i {
+        0 => r.base,
+        1 => r.bound,
+        2 => r.permission,
+        _ => 0,
+    }
+}
+
+fn in_fault(f: Fault, i: u64) -> u64
+    ensures { λ r. ⌜ r ≡ lookup 0 (inFault f) i ⌝ }
+{
+    match i {
+        0 => f.occurred,
+        1 => f.region,
+        2 => f.op,
+        3 => f.address,
+        _ => 0,
+    }
+}
+
+// What stands in place i of the record; 0 for a register between x0 and x31, and past the end.
+#[no_mangle]
+pub extern "C" fn koubospar_place(m: Machine, i: u64) -> u64
+    ensures { λ r. ⌜ r ≡ placed m i ⌝ }
+{
+    let hfi = m.hfi;
+    let regions = hfi.regions;
+    let fault = hfi.fault;
+    if i < FIRST_REGION {
+        return in_hart(m, i);
+    }
+    if i < FIRST_FAULT {
+        let k = i - FIRST_REGION;
+        return in_region(regions[(k / 3) as usize], k % 3);
+    }
+    in_fault(fault, i - FIRST_FAULT)
 }

@@ -3,4 +3,4 @@ pub mod Rules
 pub mod Halves
 pub mod Widths
 pub mod Loops
-pub mod Permissions
+pub mod Fits

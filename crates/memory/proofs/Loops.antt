@@ -24,50 +24,52 @@ use Rattle.memory.specs.Loops.{implicitRefused, presenceOf}
 use Rattle.memory.proofs.Truth.{implicit-once, explicit-once}
 
 -- the test of the loop over an implicit region
-pub implicit-asked : (mode : ℕ) (r : Region) (permission a i : ℕ) {rule permitted : Bool} {at : ℕ}
-    → rule ≡ implicitRule r → permitted ≡ permits permission r → at ≡ byteOf a i
+pub implicit-asked : (mode : ℕ) (r : Region) (wanted a i : ℕ) {rule permitted : Bool} {at : ℕ}
+    → rule ≡ implicitRule r → permitted ≡ permits wanted r → at ≡ byteOf a i
     → (eqb mode 0 || ((rule && permitted) && eqb (bitAnd at (r .bound)) (r .base)))
-    ≡ cond (eqb mode 0) true (matches r (byteOf a i) && permits permission r)
+    ≡ cond (eqb mode 0) true (cond (matches r (byteOf a i)) (permits wanted r) false)
 unfolding matches
-implicit-asked mode r permission a i p q e =
-    rw (p, q, e) (implicit-once (eqb mode 0) (implicitRule r) (permits permission r) (eqb (bitAnd (byteOf a i) (r .bound)) (r .base)))
+implicit-asked mode r wanted a i p q e =
+    rw (p, q, e) (implicit-once (eqb mode 0) (implicitRule r) (permits wanted r) (eqb (bitAnd (byteOf a i) (r .bound)) (r .base)))
 
 -- the test of the loop over an explicit region
-pub explicit-asked : (mode : ℕ) (r : Region) (permission offset i : ℕ) {rule permitted : Bool} {at : ℕ}
-    → rule ≡ explicitRule r → permitted ≡ permits permission r → at ≡ byteOf offset i → offset < 2 ^ 64 → i < 8
+pub explicit-asked : (mode : ℕ) (r : Region) (wanted offset i : ℕ) {rule permitted : Bool} {at : ℕ}
+    → rule ≡ explicitRule r → permitted ≡ permits wanted r → at ≡ byteOf offset i → offset < 2 ^ 64 → i < 8
     → (eqb mode 0 || ((rule && permitted) && ltb at (r .bound)))
-    ≡ cond (eqb mode 0) true (explicitGrants r permission (signed 64 offset) i)
+    ≡ cond (eqb mode 0) true (explicitGrants r wanted (signed 64 offset) i)
 unfolding explicitGrants
-explicit-asked mode r permission offset i p q e h l =
+explicit-asked mode r wanted offset i p q e h l =
     rw (p, q, e)
-    (explicit-once (eqb mode 0) (explicitRule r) (permits permission r) (ltb (byteOf offset i) (r .bound)) (below (signed 64 offset +ℤ pos i) (r .bound))
+    (explicit-once (eqb mode 0) (explicitRule r) (permits wanted r) (ltb (byteOf offset i) (r .bound)) (below (signed 64 offset +ℤ pos i) (r .bound))
     (λ t. sym (below-word offset i (r .bound) h (omega arith) (omega (arith, explicit-ends r t .1)))))
 
--- where one implicit region decides, it matches the byte and permits it
-one-grants : (rs : List Region) (n b a : ℕ) → 0 < n → implicitGrants rs (n ∷ []) b a ≡ (matches (region rs n) a && permits b (region rs n))
+-- over any list of implicit regions: the first, where it matches the byte, decides whether it is granted
+pub first-grants : (rs : List Region) (n : ℕ) (ns : List ℕ) (b a : ℕ) → 0 < n
+    → cond (matches (region rs n) a) (permits b (region rs n)) (implicitGrants rs ns b a) ≡ implicitGrants rs (n ∷ ns) b a
 unfolding implicitGrants firstMatch
-one-grants rs n b a h = go (matches (region rs n) a)
+first-grants rs n ns b a h = go (matches (region rs n) a)
   where
-    go : (m : Bool) → granting rs b (cond m n 0) ≡ (m && permits b (region rs n))
+    go : (m : Bool) → cond m (permits b (region rs n)) (granting rs b (firstMatch rs ns a)) ≡ granting rs b (cond m n (firstMatch rs ns a))
     go true = rw (ne-eqb n 0 (λ e. omega arith)) refl
     go false = refl
 
-pub one-refused : (mode : ℕ) (rs : List Region) (n permission a count : ℕ) {i : ℕ} → 0 < n → i ≡ implicitRefused mode (region rs n) permission a count
-    → i ≡ firstRefused mode (implicitAccess rs (n ∷ []) permission a count)
-unfolding firstRefused
-one-refused mode rs n permission a count h e =
-    e ∙ scan-same _ _ count 0 (λ j p q. ap (cond (eqb mode 0) true) (sym (one-grants rs n permission (byteOf a j) h)))
-
--- and it is the fault region of a byte that it matches
-pub one-blamed : (rs : List Region) (n a : ℕ) {at : ℕ} {matched t : Bool} → matched ≡ matches (region rs n) at → at ≡ a → matched ≡ t
-    → cond t n 0 ≡ firstMatch rs (n ∷ []) a
+-- and is the fault region
+pub first-blamed : (rs : List Region) (n : ℕ) (ns : List ℕ) (a : ℕ) {at : ℕ} {matched t : Bool} → matched ≡ matches (region rs n) at → at ≡ a → matched ≡ t
+    → cond t n (firstMatch rs ns a) ≡ firstMatch rs (n ∷ ns) a
 unfolding firstMatch
-one-blamed rs n a e p q = ap (λ (b : Bool). cond b n 0) (sym q ∙ e ∙ ap (matches (region rs n)) p)
+first-blamed rs n ns a e p q = ap (λ (b : Bool). cond b n (firstMatch rs ns a)) (sym q ∙ e ∙ ap (matches (region rs n)) p)
+
+-- so the loop over one region finds what the access of a list of one asks
+pub alone-refused : (mode : ℕ) (rs : List Region) (n wanted a count : ℕ) {i : ℕ} → 0 < n → i ≡ implicitRefused mode (region rs n) wanted a count
+    → i ≡ firstRefused mode (implicitAccess rs (n ∷ []) wanted a count)
+unfolding firstRefused implicitGrants firstMatch
+alone-refused mode rs n wanted a count h e =
+    e ∙ scan-same _ _ count 0 (λ j p q. ap (cond (eqb mode 0) true) (first-grants rs n [] wanted (byteOf a j) h))
 
 -- ---- the verdict, from what the loops find
 
 pub refused-verdict : (mode length : ℕ) (a : Access) {i at blamed : ℕ} → i ≡ firstRefused mode a → i < a .count
-    → at ≡ byteOf (a .first) i → blamed ≡ a .blames i → Refused at blamed ≡ verdict mode length a
+    → at ≡ byteOf (a .first) i → blamed ≡ a .faultRegion i → Refused at blamed ≡ verdict mode length a
 unfolding verdict
 refused-verdict mode length a {i} e p q b = rw (← e) (rw (lt-ltb i (a .count) p, q, b) refl)
 

@@ -16,11 +16,11 @@ same-order m n p q f g = go (leb m n) (leb p q) refl refl
     go false false e d = e ∙ sym d
 
 -- the rule and the permission are asked once, before the loop over the bytes
-pub implicit-once : (m rule permitted here : Bool) → (m || ((rule && permitted) && here)) ≡ cond m true ((rule && here) && permitted)
+pub implicit-once : (m rule permitted here : Bool) → (m || ((rule && permitted) && here)) ≡ cond m true (cond (rule && here) permitted false)
 implicit-once true rule permitted here = refl
 implicit-once false false permitted here = refl
-implicit-once false true true here = sym (and-true here)
-implicit-once false true false here = sym (and-false here)
+implicit-once false true permitted true = and-true permitted
+implicit-once false true permitted false = and-false permitted
 
 pub explicit-once : (m rule permitted here inside : Bool) → (rule ≡ true → here ≡ inside)
     → (m || ((rule && permitted) && here)) ≡ cond m true (rule && (permitted && inside))

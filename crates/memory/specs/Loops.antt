@@ -1,6 +1,7 @@
--- What the loops of `access` find, before it is known to be what model's definitions ask.
+-- What the loops of `access` find. No promise rests on this file: each of these is proved to be what model's definitions ask.
+-- Region and Verdict are declared in model/src/lib.rt.
 -- Assumes nothing.
-use mathlib.Core.Bool.{true, cond, _&&_}
+use mathlib.Core.Bool.{true, false, cond}
 use mathlib.Core.List.{List}
 use Prim.Native.Nat.{ℕ}
 use lib.Dec.{eqb, ltb}
@@ -14,14 +15,14 @@ use Rattle.model.specs.declared.Region.{Region}
 use Rattle.model.specs.declared.Verdict.{Verdict}
 use Rattle.model.specs.declared.Verdict.the-variants.{Passed, Absent}
 
--- of one implicit region: the byte matches, and the region permits it
+-- of one implicit region, where it alone decides
 abbrev pub implicitRefused : ℕ → Region → ℕ → ℕ → ℕ → ℕ
-implicitRefused mode r permission a n =
-    scan (λ i. cond (eqb mode 0) true (matches r (byteOf a i) && permits permission r)) 0 n
+implicitRefused mode r wanted a n =
+    scan (λ i. cond (eqb mode 0) true (cond (matches r (byteOf a i)) (permits wanted r) false)) 0 n
 
 abbrev pub explicitRefused : ℕ → Region → ℕ → ℕ → ℕ → ℕ
-explicitRefused mode r permission offset n =
-    scan (λ i. cond (eqb mode 0) true (explicitGrants r permission (signed 64 offset) i)) 0 n
+explicitRefused mode r wanted offset n =
+    scan (λ i. cond (eqb mode 0) true (explicitGrants r wanted (signed 64 offset) i)) 0 n
 
 abbrev pub presenceOf : ℕ → ℕ → ℕ → Verdict
 presenceOf length first count =

@@ -1,23 +1,26 @@
-// The questions that every byte of an access is asked before any is touched.
+// The questions that every byte of an access is asked before any is touched. `wanted` is a permission by its bit number.
 ghost use mathlib.Core.Path.{_≡_};
 ghost use mathlib.Core.List.{[], _∷_};
 ghost use Prim.Native.Nat.{_<_, _≤_};
 ghost use Rattle.words.specs.Word.{signed};
+ghost use Rattle.model.specs.Machine.{lastRegion};
 ghost use Rattle.model.specs.Access.{fetchAccess, dataAccess, implicitAccess, explicitAccess, firstAbsent, verdict};
 ghost use Rattle.memory.specs.Loops.{implicitRefused, explicitRefused, presenceOf, explicitFirst};
 use crate::region::explicit_rule;
 use crate::region::implicit_rule;
 use crate::region::matches;
 use crate::region::permits;
+use model::EXECUTE;
+use model::REGIONS;
 use model::Region;
 use model::Verdict;
 
-// The place of the first byte, of the `n` from `a` on, that the implicit region does not grant, or `n`.
-fn first_refused_implicit(mode: u64, r: Region, permission: u64, a: u64, n: u64) -> u64
-    requires { ⌜ permission < 64 ⌝ }
-    ensures { λ q. ⌜ q ≡ implicitRefused mode r permission a n ⌝ }
+// The first byte, of the `n` from `a` on, that the implicit region does not grant, or `n`.
+fn first_refused_implicit(mode: u64, r: Region, wanted: u64, a: u64, n: u64) -> u64
+    requires { ⌜ wanted < 64 ⌝ }
+    ensures { λ q. ⌜ q ≡ implicitRefused mode r wanted a n ⌝ }
 {
-    let ok = implicit_rule(r) & permits(permission, r);
+    let ok = implicit_rule(r) & permits(wanted, r);
     let mut i: u64 = 0;
     loop {
         if n <= i {
@@ -31,13 +34,13 @@ fn first_refused_implicit(mode: u64, r: Region, permission: u64, a: u64, n: u64)
     }
 }
 
-// The place of the first byte that the explicit region does not grant, or `n`. A place before the region's start wraps far
-// beyond any bound.
-fn first_refused_explicit(mode: u64, r: Region, permission: u64, offset: u64, n: u64) -> u64
-    requires { ⌜ (permission < 64) × (n ≤ 8) ⌝ }
-    ensures { λ q. ⌜ q ≡ explicitRefused mode r permission offset n ⌝ }
+// The first byte that the explicit region does not grant, or `n`. An offset before the region's start wraps far beyond any
+// bound.
+fn first_refused_explicit(mode: u64, r: Region, wanted: u64, offset: u64, n: u64) -> u64
+    requires { ⌜ (wanted < 64) × (n ≤ 8) ⌝ }
+    ensures { λ q. ⌜ q ≡ explicitRefused mode r wanted offset n ⌝ }
 {
-    let ok = explicit_rule(r) & permits(permission, r);
+    let ok = explicit_rule(r) & permits(wanted, r);
     let mut i: u64 = 0;
     loop {
         if n <= i {
@@ -50,7 +53,7 @@ fn first_refused_explicit(mode: u64, r: Region, permission: u64, offset: u64, n:
     }
 }
 
-// The place of the first byte that is not in a memory of `len` bytes, or `n`.
+// The first byte that is not in a memory of `len` bytes, or `n`.
 fn first_absent(len: u64, a: u64, n: u64) -> u64
     ensures { λ q. ⌜ q ≡ firstAbsent len a n ⌝ }
 {
@@ -81,18 +84,18 @@ fn presence(len: u64, a: u64, n: u64) -> Verdict
 // The verdict on an access that the implicit region `number` decides.
 fn check_implicit(
     mode: u64,
-    rs: [Region; 3],
+    rs: [Region; REGIONS],
     number: u64,
-    permission: u64,
+    wanted: u64,
     len: u64,
     a: u64,
     n: u64,
 ) -> Verdict
-    requires { ⌜ (0 < number) × (number ≤ 3) × (permission < 64) ⌝ }
-    ensures { λ q. ⌜ q ≡ verdict mode len (implicitAccess rs (number ∷ []) permission a n) ⌝ }
+    requires { ⌜ (0 < number) × (number ≤ lastRegion) × (wanted < 64) ⌝ }
+    ensures { λ q. ⌜ q ≡ verdict mode len (implicitAccess rs (number ∷ []) wanted a n) ⌝ }
 {
     let r = rs[(number - 1) as usize];
-    let i = first_refused_implicit(mode, r, permission, a, n);
+    let i = first_refused_implicit(mode, r, wanted, a, n);
     if i < n {
         let at = std::num::wrapping_add_u64(a, i);
         let blamed = if matches(r, at) { number } else { 0 };
@@ -102,41 +105,48 @@ fn check_implicit(
 }
 
 // Questions 5 and 6 of the four bytes at `pc`.
-pub fn check_fetch(mode: u64, rs: [Region; 3], len: u64, pc: u64) -> Verdict
+pub fn check_fetch(mode: u64, rs: [Region; REGIONS], len: u64, pc: u64) -> Verdict
     ensures { λ q. ⌜ q ≡ verdict mode len (fetchAccess rs pc) ⌝ }
 {
-    check_implicit(mode, rs, 3, 2, len, pc, 4)
+    check_implicit(mode, rs, 3, EXECUTE, len, pc, 4)
 }
 
-// Questions 10 and 11 of an ordinary load (permission 0) or store (permission 1).
-pub fn check_data(mode: u64, rs: [Region; 3], permission: u64, len: u64, a: u64, n: u64) -> Verdict
-    requires { ⌜ permission < 64 ⌝ }
-    ensures { λ q. ⌜ q ≡ verdict mode len (dataAccess rs permission a n) ⌝ }
+// Questions 10 and 11 of an ordinary load or store.
+pub fn check_data(
+    mode: u64,
+    rs: [Region; REGIONS],
+    wanted: u64,
+    len: u64,
+    a: u64,
+    n: u64,
+) -> Verdict
+    requires { ⌜ wanted < 64 ⌝ }
+    ensures { λ q. ⌜ q ≡ verdict mode len (dataAccess rs wanted a n) ⌝ }
 {
-    check_implicit(mode, rs, 2, permission, len, a, n)
+    check_implicit(mode, rs, 2, wanted, len, a, n)
 }
 
 // The address of the first byte of an h-load or h-store.
-pub fn explicit_address(rs: [Region; 3], offset: u64) -> u64
+pub fn explicit_address(rs: [Region; REGIONS], offset: u64) -> u64
     ensures { λ q. ⌜ q ≡ explicitFirst rs offset ⌝ }
 {
     std::num::wrapping_add_u64(rs[0].base, offset)
 }
 
-// Questions 10 and 11 of an h-load (permission 0) or h-store (permission 1).
+// Questions 10 and 11 of an h-load or h-store.
 pub fn check_explicit(
     mode: u64,
-    rs: [Region; 3],
-    permission: u64,
+    rs: [Region; REGIONS],
+    wanted: u64,
     len: u64,
     offset: u64,
     n: u64,
 ) -> Verdict
-    requires { ⌜ (permission < 64) × (n ≤ 8) ⌝ }
-    ensures { λ q. ⌜ q ≡ verdict mode len (explicitAccess rs 1 permission (signed 64 offset) n) ⌝ }
+    requires { ⌜ (wanted < 64) × (n ≤ 8) ⌝ }
+    ensures { λ q. ⌜ q ≡ verdict mode len (explicitAccess rs 1 wanted (signed 64 offset) n) ⌝ }
 {
     let r = rs[0];
-    let i = first_refused_explicit(mode, r, permission, offset, n);
+    let i = first_refused_explicit(mode, r, wanted, offset, n);
     let a = explicit_address(rs, offset);
     if i < n {
         return Verdict::Refused(std::num::wrapping_add_u64(a, i), 1);

@@ -3,4 +3,4 @@
 pub mod access;
 pub mod bytes;
 pub mod region;
-pub mod well_formed;
+pub mod width;

@@ -1,34 +1,17 @@
-// One region: its rule, its permissions and the bytes that it matches.
+// One region: its rule, its permission and the bytes that it matches.
 ghost use mathlib.Core.Path.{_≡_};
 ghost use Prim.Native.Nat.{_+_, _^_, _<_};
 ghost use lib.Dec.{leb};
-ghost use Rattle.model.specs.Regions.{kindOf, permissionBits, permits as isPermitted, permissionFits, maskZeros, implicitRule, smallRule, largeRule, explicitRule, matches as isMatched};
+ghost use Rattle.model.specs.Regions.{permits as isPermitted, maskZeros, implicitRule, smallRule, largeRule, explicitRule, matches as isMatched};
+use model::LARGE;
 use model::Region;
 
-// Does region `r` have permission bit `b`?
-pub fn permits(b: u64, r: Region) -> bool
-    requires { ⌜ b < 64 ⌝ }
-    ensures { λ q. ⌜ q ≡ isPermitted b r ⌝ }
+// Does region `r` have the permission `wanted`, a bit number?
+pub fn permits(wanted: u64, r: Region) -> bool
+    requires { ⌜ wanted < 64 ⌝ }
+    ensures { λ q. ⌜ q ≡ isPermitted wanted r ⌝ }
 {
-    words::bits(r.permission, b, 1) == 1
-}
-
-// The permission bits that region `n` has.
-fn permission_bits(n: u64) -> u64
-    ensures { λ q. ⌜ q ≡ permissionBits (kindOf n) ⌝ }
-{
-    match n {
-        1 => 0b1011,
-        2 => 0b0011,
-        _ => 0b0100,
-    }
-}
-
-// Has `p` no permission bit that region `n` lacks?
-pub fn permission_fits(n: u64, p: u64) -> bool
-    ensures { λ q. ⌜ q ≡ permissionFits n p ⌝ }
-{
-    (p & permission_bits(n)) == p
+    words::bits(r.permission, wanted, 1) == 1
 }
 
 // The count of the mask's trailing zero bits.
@@ -82,7 +65,7 @@ fn large_rule(r: Region) -> bool
 pub fn explicit_rule(r: Region) -> bool
     ensures { λ q. ⌜ q ≡ explicitRule r ⌝ }
 {
-    if permits(3, r) {
+    if permits(LARGE, r) {
         large_rule(r)
     } else {
         small_rule(r)

@@ -16,12 +16,12 @@ use Rattle.instructions.specs.declared.instruction.Decoded.the-variants.{Legal,
 use Rattle.model.specs.Bytes.{value, written}
 use Rattle.model.specs.Outcome.{allowed, settle}
 use Rattle.model.specs.WellFormed.{stateFits, wellFormed}
-use Rattle.model.specs.Hfi.{hfiForbids, hWordForbids, hfiPerform}
+use Rattle.model.specs.Hfi.{hfiStop, hWordStop, hfiPerform}
 use Rattle.model.specs.Regions.{explicitRule, matches, firstMatch, implicitGrants, explicitGrants}
 use Rattle.model.specs.Access.{scan, firstRefused, firstAbsent, verdict}
-use Rattle.model.specs.Step.{store, perform, executeWord, advance, step}
-use Rattle.model.specs.Run.{run, runCall}
-use Rattle.model.proofs.Rows.{Row, found, stated, x, pc, mode, base, bound, permission, handler, occurred, blamed, op, faulting, puts, regionOf, with, bytes}
+use Rattle.model.specs.Step.{store, perform, executeWord, step, stepCall}
+use Rattle.model.specs.Run.{runBy, runCall}
+use Rattle.model.proofs.Rows.{Row, found, stated, x, pc, mode, base, bound, permission, handler, occurred, faultRegion, op, faulting, puts, regionOf, with, bytes}
 use Rattle.model.proofs.Rows.Question.{decoding, matching, ruling, stepping, running}
 use Rattle.model.proofs.Rows.Answer.{decoded, told, gave}
 
@@ -40,7 +40,7 @@ memory w = bytes (w ∷ []) ++ replicate 0x21c 0
 abbrev refused : ℕ → ℕ → Row
 refused w a = (
   stepping (with storing) (memory w),
-  gave 16 0 0 (with (storing ++ ((occurred, 1) ∷ (blamed, 1) ∷ (op, 2) ∷ (faulting, a) ∷ []))) (memory w),
+  gave 16 0 0 (with (storing ++ ((occurred, 1) ∷ (faultRegion, 1) ∷ (op, 2) ∷ (faulting, a) ∷ []))) (memory w),
 )
 
 unfoldable pub rows : List Row
@@ -94,5 +94,5 @@ rows =
     ∷ []
 
 pub cases : found rows ≡ stated rows
-unfolding rows trailingZeros sext decodeWord matches explicitRule firstMatch implicitGrants explicitGrants scan firstRefused firstAbsent verdict value written allowed settle stateFits wellFormed hfiForbids hWordForbids hfiPerform store perform executeWord advance step run runCall
+unfolding rows trailingZeros sext decodeWord matches explicitRule firstMatch implicitGrants explicitGrants scan firstRefused firstAbsent verdict value written allowed settle stateFits wellFormed hfiStop hWordStop hfiPerform store perform executeWord step stepCall runBy runCall
 cases = refl

@@ -13,13 +13,13 @@ use Rattle.instructions.specs.Decode.{decodeWord}
 use Rattle.model.specs.Bytes.{value, written}
 use Rattle.model.specs.Outcome.{stopped, allowed, aligned, settle}
 use Rattle.model.specs.WellFormed.{stateFits, wellFormed}
-use Rattle.model.specs.Hfi.{hfiForbids, hWordForbids, hfiPerform}
+use Rattle.model.specs.Hfi.{hfiStop, hWordStop, hfiPerform}
 use Rattle.model.specs.Regions.{explicitRule, matches, firstMatch, implicitGrants, explicitGrants}
 use Rattle.model.specs.Access.{scan, firstRefused, firstAbsent, verdict}
-use Rattle.model.specs.Step.{load, store, jump, branch, perform, executeWord, advance, step, resume}
-use Rattle.model.specs.Run.{ended, run, runCall}
+use Rattle.model.specs.Step.{load, store, jump, branch, perform, executeWord, step, stepCall, resumeCall}
+use Rattle.model.specs.Run.{ended, runBy, runCall}
 use Rattle.model.specs.declared.Machine.{Machine}
-use Rattle.model.proofs.Rows.{Row, found, stated, x, pc, mode, reason, epc, options, handler, selector, base, bound, permission, occurred, blamed, op, faulting, puts, regionOf, with, bytes}
+use Rattle.model.proofs.Rows.{Row, found, stated, x, pc, mode, reason, epc, options, handler, selector, base, bound, permission, occurred, faultRegion, op, faulting, puts, regionOf, with, bytes}
 use Rattle.model.proofs.Rows.Question.{matching, ruling, judging, stepping, running, resuming}
 use Rattle.model.proofs.Rows.Answer.{told, gave}
 
@@ -112,7 +112,7 @@ busy =
     ∷ (base 1, 0x10) ∷ (bound 1, 8) ∷ (permission 1, 3)
     ∷ (base 2, 0x40) ∷ (bound 2, 0xffffffffffffffc0) ∷ (permission 2, 1)
     ∷ (bound 3, 0xffffffffffffffe0) ∷ (permission 3, 4)
-    ∷ (occurred, 1) ∷ (blamed, 2) ∷ (op, 1) ∷ (faulting, 0x99) ∷ []
+    ∷ (occurred, 1) ∷ (faultRegion, 2) ∷ (op, 1) ∷ (faulting, 0x99) ∷ []
 
 abbrev outside : ℕ → List (ℕ × ℕ)
 outside o = busy ++ ((options, o) ∷ [])
@@ -304,7 +304,7 @@ asking =
     ∷ steps (inside 0) beq 15 []
     ∷ goes (outside 0 ++ operands 1 0) beq5 []
     -- "5. In HFI mode, are all four bytes executable?" before "6. Are they in memory?"
-    ∷ stepsOver (inside 0 ++ ((pc, 0x20) ∷ [])) (bytes (seven ∷ [])) 11 0 ((occurred, 1) ∷ (blamed, 0) ∷ (op, 3) ∷ (faulting, 0x20) ∷ [])
+    ∷ stepsOver (inside 0 ++ ((pc, 0x20) ∷ [])) (bytes (seven ∷ [])) 11 0 ((occurred, 1) ∷ (faultRegion, 0) ∷ (op, 3) ∷ (faulting, 0x20) ∷ [])
     -- 18 and 19 outside HFI mode
     ∷ steps (outside 0) ecall 18 []
     ∷ steps (outside 0) ebreak 19 []
@@ -330,10 +330,10 @@ absent =
     ∷ stepsOver (outside 0 ++ ((pc, 0x44) ∷ [])) (bytes (0 ∷ [])) 12 0x44 []
     ∷ stepsOver (outside 0 ++ operands (2 ^ 64 - 1) 0) (bytes (ld ∷ [])) 17 (2 ^ 64 - 1) []
     -- a load into x0 asks as any other: hlb x0 at 8, and at 0
-    ∷ stepsOver (inside 0) (bytes (0x0080000b ∷ [])) 16 0 ((occurred, 1) ∷ (blamed, 1) ∷ (op, 1) ∷ (faulting, 0x18) ∷ [])
+    ∷ stepsOver (inside 0) (bytes (0x0080000b ∷ [])) 16 0 ((occurred, 1) ∷ (faultRegion, 1) ∷ (op, 1) ∷ (faulting, 0x18) ∷ [])
     ∷ stepsOver (inside 0) (bytes (0x0000000b ∷ [])) 17 0x10 []
     -- every byte is asked for its region before any for memory's end
-    ∷ stepsOver (inside 0 ++ operands 0x7c 0) (bytes (ld ∷ [])) 16 0 ((occurred, 1) ∷ (blamed, 0) ∷ (op, 1) ∷ (faulting, 0x80) ∷ [])
+    ∷ stepsOver (inside 0 ++ operands 0x7c 0) (bytes (ld ∷ [])) 16 0 ((occurred, 1) ∷ (faultRegion, 0) ∷ (op, 1) ∷ (faulting, 0x80) ∷ [])
     ∷ []
 
 unfoldable pub going-on : List Row
@@ -388,8 +388,8 @@ forming =
     ∷ misjudged (permission 3) 16
     -- "occurred at most 1, fault region and op at most 3"
     ∷ misjudged occurred 2
-    ∷ judged blamed 3
-    ∷ misjudged blamed 4
+    ∷ judged faultRegion 3
+    ∷ misjudged faultRegion 4
     ∷ judged op 3
     ∷ misjudged op 4
     -- nothing is asked of the others
@@ -409,21 +409,21 @@ abbrev pub rows : List Row
 rows = entering ++ leaving ++ locking ++ keeping ++ running-on ++ asking ++ absent ++ going-on ++ forming
 
 pub clauses : found rows ≡ stated rows
-unfolding entering leaving locking keeping running-on asking absent going-on forming trailingZeros sext decodeWord matches explicitRule firstMatch implicitGrants explicitGrants scan firstRefused firstAbsent verdict value written allowed aligned settle stateFits wellFormed hfiForbids hWordForbids hfiPerform load store jump branch perform executeWord advance step resume run runCall
+unfolding entering leaving locking keeping running-on asking absent going-on forming trailingZeros sext decodeWord matches explicitRule firstMatch implicitGrants explicitGrants scan firstRefused firstAbsent verdict value written allowed aligned settle stateFits wellFormed hfiStop hWordStop hfiPerform load store jump branch perform executeWord step stepCall resumeCall runBy runCall
 clauses = refl
 
 -- ---- "Is memory no longer than 16,777,216?" of memories that are too long to write down
 
-pub longest-step : (m : Machine) (mem : List ℕ) → length mem ≡ 16777216 → wellFormed m ≡ true → step m mem ≡ advance m mem
-unfolding step
+pub longest-step : (m : Machine) (mem : List ℕ) → length mem ≡ 16777216 → wellFormed m ≡ true → stepCall m mem ≡ step m mem
+unfolding stepCall
 longest-step m mem e w = rw (e, w) refl
 
-pub too-long-step : (m : Machine) (mem : List ℕ) → length mem ≡ 16777217 → step m mem ≡ stopped 1 m mem
-unfolding step
+pub too-long-step : (m : Machine) (mem : List ℕ) → length mem ≡ 16777217 → stepCall m mem ≡ stopped 1 m mem
+unfolding stepCall
 too-long-step m mem e = rw e refl
 
 pub longest-run : (m : Machine) (mem : List ℕ) → length mem ≡ 16777216 → wellFormed m ≡ true → runCall m mem 0 ≡ ended 21 0 0 m mem
-unfolding runCall run
+unfolding runCall runBy
 longest-run m mem e w = rw (e, w) refl
 
 pub too-long-run : (m : Machine) (mem : List ℕ) (budget : ℕ) → length mem ≡ 16777217 → runCall m mem budget ≡ ended 1 0 0 m mem

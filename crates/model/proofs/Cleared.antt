@@ -8,6 +8,7 @@ use lib.Dec.{eqb, ltb}
 use borrow.Author.Tests.{ltb-true, ltb-false, lt-ltb, le-ltb}
 use Rattle.model.specs.Bytes.{byteOf}
 use Rattle.model.specs.Access.{Access, scan, firstRefused, firstAbsent, verdict}
+use Rattle.model.specs.Reach.{Passes}
 use Rattle.model.specs.declared.Verdict.the-variants.{Passed, Refused, Absent}
 use Rattle.model.proofs.Scan.{scan-passed, scan-all}
 
@@ -27,7 +28,7 @@ cleared mode length a h =
     let n = a .count in
     let i = scan (λ k. cond (eqb mode 0) true (a .grants k)) 0 n in
     let j = scan (λ k. ltb (byteOf (a .first) k) length) 0 n in
-    let b = neither (ltb i n) (ltb j n) (byteOf (a .first) i) (a .blames i) (byteOf (a .first) j) h in
+    let b = neither (ltb i n) (ltb j n) (byteOf (a .first) i) (a .faultRegion i) (byteOf (a .first) j) h in
     record {
       granted = λ k p. scan-passed (λ k. cond (eqb mode 0) true (a .grants k)) n 0 (omega (arith, ltb-false i n (b .0))) k (omega arith) (omega arith);
       present = λ k p. ltb-true _ _ (scan-passed (λ k. ltb (byteOf (a .first) k) length) n 0 (omega (arith, ltb-false j n (b .1))) k (omega arith) (omega arith));
@@ -40,6 +41,10 @@ passes mode length a h =
     let e : scan (λ k. cond (eqb mode 0) true (a .grants k)) 0 n ≡ 0 + n = scan-all _ n 0 (λ j p q. h .granted j (omega arith)) in
     let f : scan (λ k. ltb (byteOf (a .first) k) length) 0 n ≡ 0 + n = scan-all _ n 0 (λ j p q. lt-ltb _ _ (h .present j (omega arith))) in
     rw (e, f) (rw (le-ltb (0 + n) n (omega arith)) refl)
+
+-- in HFI mode each byte of a passed access passes its region
+pub passing : (mode length : ℕ) (a : Access) → mode ≡ 1 → verdict mode length a ≡ Passed → (j : ℕ) → j < a .count → Passes a (byteOf (a .first) j)
+passing mode length a on h j p = record { index = j; within = p; there = refl; passes = rw on at (cleared mode length a h .granted j p) }
 
 -- no byte of an access that is all in memory wraps
 straight : (length a n : ℕ) → a < 2 ^ 64 → length < 2 ^ 64 → ((i : ℕ) → i < n → byteOf a i < length) → (i : ℕ) → i < n → a + i < length

@@ -10,4 +10,5 @@ pub mod Isolation
 pub mod Reach
 pub mod Witness
 pub mod Runs
-pub mod WellKept
+pub mod Formed
+pub mod Moves

@@ -10,7 +10,7 @@ use lib.Dec.{eqb, ltb, lit<, lit≤}
 use lib.ListN.{set, replicate}
 use lib.Seq.{getD-set-same}
 use lib.IntN.{pos, _+ℤ_}
-use borrow.Author.Tests.{ltb-true, ltb-false, lt-ltb, eqb-true, eq-eqb, ne-eqb}
+use borrow.Author.Tests.{ltb-true, ltb-false, lt-ltb, eqb-true, eq-eqb}
 use Rattle.words.specs.Word.{field, signed, word, sext, fitsSigned}
 use Rattle.words.proofs.Extend.{sext-low-half, sext-high-half}
 use Rattle.words.proofs.Fields.{field-lt, field-all}
@@ -28,11 +28,33 @@ use Rattle.instructions.proofs.RoundTrip.{decode-of-encode, decoded-range}
 use Rattle.model.specs.Machine.{reg, region}
 use Rattle.model.specs.Regions.{read, write, execute, permits, below, dataRegions, codeRegions, matches, firstMatch, granting, implicitGrants, explicitRule, explicitGrants}
 use Rattle.model.specs.Bytes.{byteOf}
-use Rattle.model.specs.Access.{address, loadWidth, storeWidth, implicitAccess, explicitAccess}
-use Rattle.model.specs.Reach.{Passes, Readable, Writable, Executable, InExplicit, InImplicit, InData}
+use Rattle.model.specs.Access.{effectiveAddress, loadWidth, storeWidth, implicitAccess, explicitAccess}
+use Rattle.model.specs.Reach.{Passes, Readable, Writable, Executable}
 use Rattle.model.specs.declared.Region.{Region}
 use Rattle.model.proofs.Offset.{word-sum, below-word}
 use Rattle.model.proofs.Intervals.{both, explicit-ends}
+
+-- ---- the closed forms
+
+-- "So an hld at 2,047 in a region of bound 4,096 also reaches offsets 2,048 to 2,054."
+abbrev pub farthest : ℕ
+farthest = 2054
+
+-- an explicit region's bytes that h-words with permission p reach
+pub record InExplicit (r : Region) (p b : ℕ) : Type 0 where
+  pub rule : explicitRule r ≡ true
+  pub permitted : permits p r ≡ true
+  pub start : r .base ≤ b
+  pub end : b < r .base + r .bound
+  pub near : b ≤ r .base + farthest
+
+-- the bytes that the implicit regions numbered ns grant for p
+pub record InImplicit (rs : List Region) (ns : List ℕ) (p b : ℕ) : Type 0 where
+  pub granted : implicitGrants rs ns p b ≡ true
+  pub address : b < 2 ^ 64
+
+abbrev pub InData : List Region → ℕ → ℕ → Type 0
+InData rs p b = InImplicit rs dataRegions p b ⊎ InExplicit (region rs 1) p b
 
 -- ---- immediates of 12 bits
 
@@ -84,28 +106,28 @@ near r p imm i b f u g e =
 -- an offset and a byte of 8 that reach b
 record Reached (r : Region) (p b : ℕ) : Type 0 where
   imm : ℕ
-  place : ℕ
+  index : ℕ
   small : imm < 2 ^ 11
-  among : place < 8
-  granted : explicitGrants r p (signed 64 imm) place ≡ true
-  there : b ≡ byteOf (word 64 (pos (r .base) +ℤ signed 64 imm)) place
+  within : index < 8
+  granted : explicitGrants r p (signed 64 imm) index ≡ true
+  there : b ≡ byteOf (word 64 (pos (r .base) +ℤ signed 64 imm)) index
 
 reached : (r : Region) (p b : ℕ) → InExplicit r p b → Reached r p b
 unfolding explicitGrants
 reached r p b h = go (ltb (b - r .base) (2 ^ 11)) refl (explicit-ends r (h .rule) .1)
   where
-    at : (imm place : ℕ) → imm < 2 ^ 11 → place < 8 → r .base + imm + place ≡ b → r .base + r .bound ≤ 2 ^ 48 → Reached r p b
-    at imm place s u e l =
+    at : (imm index : ℕ) → imm < 2 ^ 11 → index < 8 → r .base + imm + index ≡ b → r .base + r .bound ≤ 2 ^ 48 → Reached r p b
+    at imm index s u e l =
         let w : imm < 2 ^ 64 = omega arith in
-        let v : (imm + place) % 2 ^ 64 < r .bound = omega (arith, h .end) in
-        let a : b ≡ byteOf ((r .base + imm) % 2 ^ 64) place = omega (arith, h .end) in
+        let v : (imm + index) % 2 ^ 64 < r .bound = omega (arith, h .end) in
+        let a : b ≡ byteOf ((r .base + imm) % 2 ^ 64) index = omega (arith, h .end) in
         record {
           imm = imm;
-          place = place;
+          index = index;
           small = s;
-          among = u;
-          granted = rw (h .rule, h .permitted) (below-word imm place (r .bound) w (omega arith) (omega arith) ∙ lt-ltb _ _ v);
-          there = a ∙ ap (λ (n : ℕ). byteOf n place) (sym (word-sum (r .base) imm w));
+          within = u;
+          granted = rw (h .rule, h .permitted) (below-word imm index (r .bound) w (omega arith) (omega arith) ∙ lt-ltb _ _ v);
+          there = a ∙ ap (λ (n : ℕ). byteOf n index) (sym (word-sum (r .base) imm w));
         }
 
     go : (t : Bool) → ltb (b - r .base) (2 ^ 11) ≡ t → r .base + r .bound ≤ 2 ^ 48 → Reached r p b
@@ -118,7 +140,7 @@ reached r p b h = go (ltb (b - r .base) (2 ^ 11)) refl (explicit-ends r (h .rule
 through : ℕ → List ℕ
 through b = set (replicate 32 0) 1 b
 
-through-there : (b : ℕ) → b < 2 ^ 64 → b ≡ byteOf (address (through b) 1 0) 0
+through-there : (b : ℕ) → b < 2 ^ 64 → b ≡ byteOf (effectiveAddress (through b) 1 0) 0
 unfolding through
 through-there b h =
     let e : reg (through b) 1 ≡ b = getD-set-same (replicate 32 0) 1 b 0 (lit< tt) in
@@ -133,16 +155,16 @@ module _ (rs : List Region) (ns : List ℕ) (p : ℕ) where
       }
 
   passes-there : (a n i b : ℕ) → i < n → b ≡ byteOf a i → InImplicit rs ns p b → Passes (implicitAccess rs ns p a n) b
-  passes-there a n i b l e h = record { place = i; among = l; there = e; passes = rw (sym e) (h .granted) }
+  passes-there a n i b l e h = record { index = i; within = l; there = e; passes = rw (sym e) (h .granted) }
 
 explicit-there : (rs : List Region) (p imm n b : ℕ) → fitsSigned 12 imm ≡ true → n ≤ 8
     → Passes (explicitAccess rs 1 p (signed 64 imm) n) b → InExplicit (region rs 1) p b
-explicit-there rs p imm n b f u h = near (region rs 1) p imm (h .place) b f (omega (arith, h .among)) (h .passes) (h .there)
+explicit-there rs p imm n b f u h = near (region rs 1) p imm (h .index) b f (omega (arith, h .within)) (h .passes) (h .there)
 
 explicit-passes : (rs : List Region) (p b : ℕ) (r : Reached (region rs 1) p b) → Passes (explicitAccess rs 1 p (signed 64 (r .imm)) 8) b
-explicit-passes rs p b r = record { place = r .place; among = r .among; there = r .there; passes = r .granted }
+explicit-passes rs p b r = record { index = r .index; within = r .within; there = r .there; passes = r .granted }
 
-load-width : (k : LoadKind) → loadWidth k ≤ 8
+pub load-width : (k : LoadKind) → loadWidth k ≤ 8
 load-width Lb = lit≤ tt
 load-width Lh = lit≤ tt
 load-width Lw = lit≤ tt
@@ -151,7 +173,7 @@ load-width Lbu = lit≤ tt
 load-width Lhu = lit≤ tt
 load-width Lwu = lit≤ tt
 
-store-width : (k : StoreKind) → storeWidth k ≤ 8
+pub store-width : (k : StoreKind) → storeWidth k ≤ 8
 store-width Sb = lit≤ tt
 store-width Sh = lit≤ tt
 store-width Sw = lit≤ tt
@@ -161,7 +183,7 @@ store-width Sd = lit≤ tt
 third : (a b : ℕ) (t : Bool) → two a b t ≡ true → t ≡ true
 third a b t h = both (ltb b 32) t (both (ltb a 32) (ltb b 32 && t) h .1) .1
 
-encodes : (i : Instruction) → inRange i ≡ true → decodeWord (wordOf (encodeFields i)) ≡ Legal i
+pub encodes : (i : Instruction) → inRange i ≡ true → decodeWord (wordOf (encodeFields i)) ≡ Legal i
 unfolding encodeWord
 encodes i h = decode-of-encode i (wordOf (encodeFields i)) (rw h refl)
 
@@ -200,17 +222,20 @@ pub form-executable : (rs : List Region) (b : ℕ) → InImplicit rs codeRegions
 form-executable rs b h =
     Executable.byFetch (b / 4 * 4) (omega arith) (passes-there rs codeRegions execute (b / 4 * 4) 4 (b % 4) b (omega arith) (omega (arith, h .address)) h)
 
--- ---- what one implicit region grants is an interval
+-- ---- what implicit regions grant, one of them grants
 
--- the regions numbered n alone
-pub single-granted : (rs : List Region) (n p b : ℕ) → implicitGrants rs (n ∷ []) p b ≡ true → (matches (region rs n) b ≡ true) × (permits p (region rs n) ≡ true)
+abbrev pub Each : (ℕ → Type 0) → List ℕ → Type 0
+Each P [] = Unit {0}
+Each P (n ∷ ns) = P n × Each P ns
+
+-- what follows of each region that matches and permits follows of the grant
+pub granted-by : (rs : List Region) (ns : List ℕ) (p b : ℕ) (X : Type 0)
+    → Each (λ n. matches (region rs n) b ≡ true → permits p (region rs n) ≡ true → X) ns → implicitGrants rs ns p b ≡ true → X
 unfolding implicitGrants firstMatch
-single-granted rs n p b h = go (matches (region rs n) b) h
+granted-by rs [] p b X h g = let z : _≡_ {A = ℕ} 0 1 = cc in absurd (omega arith)
+granted-by rs (n ∷ ns) p b X h g = go (matches (region rs n) b) refl g (granted-by rs ns p b X (h .1))
   where
-    go : (t : Bool) → granting rs p (cond t n 0) ≡ true → (t ≡ true) × (permits p (region rs n) ≡ true)
-    go true g = (refl, both (not (eqb n 0)) (permits p (region rs n)) g .1)
-    go false g = let z : _≡_ {A = ℕ} 0 1 = cc in absurd (omega arith)
-
-pub granted-single : (rs : List Region) (n p b : ℕ) → 0 < n → matches (region rs n) b ≡ true → permits p (region rs n) ≡ true → implicitGrants rs (n ∷ []) p b ≡ true
-unfolding implicitGrants firstMatch
-granted-single rs n p b h m g = rw m (rw (ne-eqb n 0 (λ e. omega (arith, e))) g)
+    go : (t : Bool) → matches (region rs n) b ≡ t → granting rs p (cond t n (firstMatch rs ns b)) ≡ true
+        → (granting rs p (firstMatch rs ns b) ≡ true → X) → X
+    go true e g k = h .0 e (both (not (eqb n 0)) (permits p (region rs n)) g .1)
+    go false e g k = k g

@@ -2,14 +2,14 @@
 -- Assumes nothing.
 use mathlib.Core.Bool.{Bool}
 use mathlib.Core.List.{List, [], _∷_}
-use Prim.Native.Nat.{ℕ, _+_, _*_, _/_, _%_}
+use Prim.Native.Nat.{ℕ, zero, suc, _+_, _*_, _/_, _%_}
 use lib.ListN.{getD, set, take, replicate}
 use Rattle.instructions.specs.Decode.{decodeWord}
 use Rattle.instructions.specs.declared.instruction.Decoded.{Decoded}
-use Rattle.model.specs.Machine.{machine}
+use Rattle.model.specs.Machine.{lastRegion, machine}
 use Rattle.model.specs.Regions.{matches, explicitRule}
 use Rattle.model.specs.WellFormed.{wellFormed}
-use Rattle.model.specs.Step.{step, resume}
+use Rattle.model.specs.Step.{stepCall, resumeCall}
 use Rattle.model.specs.Run.{runCall}
 use Rattle.model.specs.declared.Region.{Region}
 use Rattle.model.specs.declared.Machine.{Machine}
@@ -52,16 +52,16 @@ permission n = 38 + 3 * n
 
 -- the fault record's four
 abbrev pub occurred : ℕ
-occurred = 48
+occurred = base (lastRegion + 1)
 
-abbrev pub blamed : ℕ
-blamed = 49
+abbrev pub faultRegion : ℕ
+faultRegion = occurred + 1
 
 abbrev pub op : ℕ
-op = 50
+op = occurred + 2
 
 abbrev pub faulting : ℕ
-faulting = 51
+faulting = occurred + 3
 
 -- numbers with v put in place n, for each pair (n, v); a later pair counts
 abbrev pub puts : List ℕ → List (ℕ × ℕ) → List ℕ
@@ -71,8 +71,10 @@ puts ns (p ∷ ps) = puts (set ns (p .0) (p .1)) ps
 abbrev pub regionOf : ℕ → ℕ → ℕ → Region
 regionOf b n p = record { base = b; bound = n; permission = p }
 
-abbrev regionIn : List ℕ → ℕ → Region
-regionIn ns n = regionOf (getD ns (base n) 0) (getD ns (bound n) 0) (getD ns (permission n) 0)
+-- k regions from region n on
+abbrev regionsIn : List ℕ → ℕ → ℕ → List Region
+regionsIn ns n zero = []
+regionsIn ns n (suc k) = regionOf (getD ns (base n) 0) (getD ns (bound n) 0) (getD ns (permission n) 0) ∷ regionsIn ns (suc n) k
 
 abbrev machineIn : List ℕ → Machine
 machineIn ns =
@@ -84,13 +86,13 @@ machineIn ns =
       options = getD ns options 0;
       handler = getD ns handler 0;
       selector = getD ns selector 0;
-      regions = regionIn ns 1 ∷ regionIn ns 2 ∷ regionIn ns 3 ∷ [];
-      fault = record { occurred = getD ns occurred 0; region = getD ns blamed 0; op = getD ns op 0; address = getD ns faulting 0 };
+      regions = regionsIn ns 1 lastRegion;
+      fault = record { occurred = getD ns occurred 0; region = getD ns faultRegion 0; op = getD ns op 0; address = getD ns faulting 0 };
     })
 
 -- the machine that is all 0 but for these places
 abbrev pub with : List (ℕ × ℕ) → Machine
-with ps = machineIn (puts (replicate 52 0) ps)
+with ps = machineIn (puts (replicate (faulting + 1) 0) ps)
 
 -- ---- memories
 
@@ -126,10 +128,10 @@ answered (decoding w) = decoded (decodeWord w)
 answered (matching r a) = told (matches r a)
 answered (ruling r) = told (explicitRule r)
 answered (judging m) = told (wellFormed m)
-answered (stepping m mem) = let o = step m mem in gave (o .result .stop) 0 (o .result .address) (o .result .machine) (o .memory)
+answered (stepping m mem) = let o = stepCall m mem in gave (o .result .stop) 0 (o .result .address) (o .result .machine) (o .memory)
 answered (running m mem budget) =
     let e = runCall m mem budget in gave (e .result .stop) (e .result .count) (e .result .address) (e .result .machine) (e .memory)
-answered (resuming m v) = let r = resume m v in gave (r .stop) 0 (r .address) (r .machine) []
+answered (resuming m v) = let r = resumeCall m v in gave (r .stop) 0 (r .address) (r .machine) []
 
 -- a question with the answer that it must have
 abbrev pub Row : Type 0

@@ -1,38 +1,45 @@
--- Laws of the run: how it goes on from each step, and what it leaves.
+-- Laws of the run: how it goes on from each step, what it leaves, and that its steps are the step call's.
 -- Assumes nothing.
-use mathlib.Core.Path.{_≡_, refl, ap, sym, _∙_}
-use mathlib.Core.Bool.{Bool, true, false, cond, not, _&&_}
+use mathlib.Core.Path.{_≡_, refl, ap, sym, subst, _∙_}
+use mathlib.Core.Bool.{Bool, true, false, cond, not, _&&_, _||_}
 use mathlib.Core.List.{List}
+use mathlib.Core.Logic.{_⊎_, inl, inr}
 use Prim.Native.Nat.{ℕ, zero, suc, _+_, _-_, _<_, _≤_}
 use native.Mathlib.Omega.{arith}
 use lib.Dec.{eqb, ltb}
-use lib.ListN.{length}
-use borrow.Author.Tests.{eq-eqb, ne-eqb, eqb-false}
+use lib.ListN.{length, getD}
+use borrow.Author.Tests.{eqb-true, eq-eqb, ne-eqb, eqb-false}
 use Rattle.model.specs.Machine.{inside}
 use Rattle.model.specs.WellFormed.{wellFormed}
 use Rattle.model.specs.Outcome.{Outcome}
-use Rattle.model.specs.Step.{advance, longest}
-use Rattle.model.specs.Run.{Ended, ended, run, runCall, largestBudget}
+use Rattle.model.specs.Step.{step, longest, stepCall}
+use Rattle.model.specs.Run.{Ended, ended, runBy, run, runCall, largestBudget}
+use Rattle.model.specs.Reach.{Writable}
+use Rattle.model.specs.Isolation.{Locked}
 use Rattle.model.specs.declared.Machine.{Machine}
+use Rattle.model.proofs.Bytes.{length-written, written-other}
+use Rattle.model.proofs.Cleared.{passing}
+use Rattle.model.proofs.Intervals.{both}
+use Rattle.model.proofs.Moves.{Settings, settings, Stored, clash, step-does}
 
 -- ---- for the loop
 
--- no step is left
+-- no step remains
 pub run-out : (began : Bool) (n k : ℕ) (m : Machine) (mem : List ℕ) → n ≤ 0 → run began n k m mem ≡ ended 21 k 0 m mem
-unfolding run
+unfolding runBy
 run-out began n k m mem p = let e : n ≡ 0 = omega arith in rw e refl
 
 -- one step is made, with the outcome o
-module _ (began : Bool) (n k : ℕ) (m : Machine) (mem : List ℕ) (o : Outcome) (p : 0 < n) (e : o ≡ advance m mem) where
+module _ (began : Bool) (n k : ℕ) (m : Machine) (mem : List ℕ) (o : Outcome) (p : 0 < n) (e : o ≡ step m mem) where
   -- it stops
   pub run-stops : (o .result .stop ≡ 0 → ⊥) → run began n k m mem ≡ ended (o .result .stop) k (o .result .address) (o .result .machine) (o .memory)
-  unfolding run
+  unfolding runBy
   run-stops q = let s : n ≡ suc (n - 1) = omega arith in ap (λ x. run began x k m mem) s ∙ simp (sym e, ne-eqb _ _ q)
 
   -- it completes and leaves HFI mode, in which the run began
   pub run-leaves : o .result .stop ≡ 0 → (began && not (inside (o .result .machine .hfi))) ≡ true
       → run began n k m mem ≡ ended 20 (k + 1) 0 (o .result .machine) (o .memory)
-  unfolding run
+  unfolding runBy
   run-leaves q d =
       let s : n ≡ suc (n - 1) = omega arith in
       let t : k + 1 ≡ suc k = omega arith in
@@ -41,61 +48,208 @@ module _ (began : Bool) (n k : ℕ) (m : Machine) (mem : List ℕ) (o : Outcome)
   -- it completes, and the run goes on
   pub run-goes-on : o .result .stop ≡ 0 → (began && not (inside (o .result .machine .hfi))) ≡ false
       → run began n k m mem ≡ run began (n - 1) (k + 1) (o .result .machine) (o .memory)
-  unfolding run
+  unfolding runBy
   run-goes-on q d =
       let s : n ≡ suc (n - 1) = omega arith in
       let t : k + 1 ≡ suc k = omega arith in
       ap (λ x. run began x k m mem) s ∙ rw t (simp (sym e, eq-eqb _ _ q, d))
 
--- ---- the count
+-- ---- induction over the steps of a run
 
--- what holds of both holds of the one that a test picks
-either : (P : Ended → Type 0) (b : Bool) (x y : Ended) → P x → P y → P (cond b x y)
-either P true x y p q = p
-either P false x y p q = q
+-- Q of the steps that remain, the count, the machine and the memory, and of how the run ends from there
+module _ (began : Bool) (Q : ℕ → ℕ → Machine → List ℕ → Ended → Type 0)
+    (spent : (k : ℕ) (m : Machine) (mem : List ℕ) → Q 0 k m mem (ended 21 k 0 m mem))
+    (stops : (n k : ℕ) (m : Machine) (mem : List ℕ) → (step m mem .result .stop ≡ 0 → ⊥)
+        → Q (suc n) k m mem (ended (step m mem .result .stop) k (step m mem .result .address) (step m mem .result .machine) (step m mem .memory)))
+    (leaves : (n k : ℕ) (m : Machine) (mem : List ℕ) → Q (suc n) k m mem (ended 20 (suc k) 0 (step m mem .result .machine) (step m mem .memory)))
+    (goes-on : (n k : ℕ) (m : Machine) (mem : List ℕ) (e : Ended) → (began ≡ true → inside (step m mem .result .machine .hfi) ≡ true)
+        → Q n (suc k) (step m mem .result .machine) (step m mem .memory) e → Q (suc n) k m mem e)
+  where
+  run-ind : (n k : ℕ) (m : Machine) (mem : List ℕ) → Q n k m mem (run began n k m mem)
+  unfolding runBy
+  run-ind zero k m mem = spent k m mem
+  run-ind (suc n) k m mem =
+      go (eqb (step m mem .result .stop) 0) refl (began && not (inside (step m mem .result .machine .hfi))) refl
+      (run-ind n (suc k) (step m mem .result .machine) (step m mem .memory))
+    where
+      still-on : (b c : Bool) → (b && not c) ≡ false → b ≡ true → c ≡ true
+      still-on true true e f = refl
+      still-on true false e f = sym e
+      still-on false c e f = absurd (clash refl f)
 
-counted : (began : Bool) (n k : ℕ) (m : Machine) (mem : List ℕ) → run began n k m mem .result .count ≤ k + n
-unfolding run
-counted began zero k m mem = omega arith
-counted began (suc n) k m mem =
-    let o = advance m mem in
-    let h = counted began n (suc k) (o .result .machine) (o .memory) in
-    let P : Ended → Type 0 = λ e. e .result .count ≤ k + suc n in
-    either P (eqb (o .result .stop) 0) _ _
-    (either P (began && not (inside (o .result .machine .hfi))) _ _ (omega arith) (omega (arith, h))) (omega arith)
+      go : (b : Bool) → eqb (step m mem .result .stop) 0 ≡ b → (c : Bool) → (began && not (inside (step m mem .result .machine .hfi))) ≡ c
+          → {r : Ended} → Q n (suc k) (step m mem .result .machine) (step m mem .memory) r
+          → Q (suc n) k m mem (cond b (cond c (ended 20 (suc k) 0 (step m mem .result .machine) (step m mem .memory)) r)
+          (ended (step m mem .result .stop) k (step m mem .result .address) (step m mem .result .machine) (step m mem .memory)))
+      go true q true d h = leaves n k m mem
+      go true q false d h = goes-on n k m mem _ (still-on began (inside (step m mem .result .machine .hfi)) d) h
+      go false q c d h = stops n k m mem (eqb-false _ 0 q)
+
+-- what holds of a refusal and of the run holds of the call
+call-ind : (Q : Ended → Type 0) (m : Machine) (mem : List ℕ) (budget : ℕ) → Q (ended 1 0 0 m mem) → Q (ended 2 0 0 m mem) → Q (ended 3 0 0 m mem)
+    → (wellFormed m ≡ true → Q (run (inside (m .hfi)) budget 0 m mem)) → Q (runCall m mem budget)
+unfolding runCall
+call-ind Q m mem budget one two three r = go (ltb longest (length mem)) (ltb largestBudget budget) (wellFormed m) refl
+  where
+    go : (a b c : Bool) → wellFormed m ≡ c → Q (cond a (ended 1 0 0 m mem) (cond b (ended 2 0 0 m mem) (cond c (run (inside (m .hfi)) budget 0 m mem) (ended 3 0 0 m mem))))
+    go true b c e = one
+    go false true c e = two
+    go false false true e = r e
+    go false false false e = three
+
+-- ---- the count and the stop
 
 -- a run's count is at most its budget
 pub count-at-most : (m : Machine) (mem : List ℕ) (budget : ℕ) → runCall m mem budget .result .count ≤ budget
-unfolding runCall
 count-at-most m mem budget =
-    let P : Ended → Type 0 = λ e. e .result .count ≤ budget in
-    either P (ltb longest (length mem)) _ _ (omega arith)
-    (either P (ltb largestBudget budget) _ _ (omega arith)
-    (either P (wellFormed m) _ _ (omega (arith, counted (inside (m .hfi)) budget 0 m mem)) (omega arith)))
-
--- ---- a run always stops with a number of its own
+    call-ind (λ e. e .result .count ≤ budget) m mem budget (omega arith) (omega arith) (omega arith)
+    (λ w.
+    let c = run-ind (inside (m .hfi)) (λ n k l mem e. e .result .count ≤ k + n) (λ k l mem. omega arith) (λ n k l mem q. omega arith) (λ n k l mem. omega arith) (λ n k l mem e i h. omega (arith, h)) budget 0 m mem in
+    omega (arith, c))
 
 -- 0 says that a step is completed; no run answers it
-stops : (began : Bool) (n k : ℕ) (m : Machine) (mem : List ℕ) → run began n k m mem .result .stop ≡ 0 → ⊥
-unfolding run
-stops began zero k m mem e = omega (arith, e)
-stops began (suc n) k m mem e =
-    let o = advance m mem in
-    go (eqb (o .result .stop) 0) refl (began && not (inside (o .result .machine .hfi))) (stops began n (suc k) (o .result .machine) (o .memory)) e
-  where
-    go : (b : Bool) → eqb (advance m mem .result .stop) 0 ≡ b → (c : Bool)
-        → (run began n (suc k) (advance m mem .result .machine) (advance m mem .memory) .result .stop ≡ 0 → ⊥)
-        → cond b (cond c (ended 20 (suc k) 0 (advance m mem .result .machine) (advance m mem .memory))
-        (run began n (suc k) (advance m mem .result .machine) (advance m mem .memory)))
-        (ended (advance m mem .result .stop) k (advance m mem .result .address) (advance m mem .result .machine) (advance m mem .memory)) .result .stop ≡ 0 → ⊥
-    go true q true h e = omega (arith, e)
-    go true q false h e = h e
-    go false q c h e = eqb-false (advance m mem .result .stop) 0 q e
-
 pub never-zero : (m : Machine) (mem : List ℕ) (budget : ℕ) → runCall m mem budget .result .stop ≡ 0 → ⊥
-unfolding runCall
 never-zero m mem budget =
-    let P : Ended → Type 0 = λ e. e .result .stop ≡ 0 → ⊥ in
-    either P (ltb longest (length mem)) _ _ (λ e. omega (arith, e))
-    (either P (ltb largestBudget budget) _ _ (λ e. omega (arith, e))
-    (either P (wellFormed m) _ _ (stops (inside (m .hfi)) budget 0 m mem) (λ e. omega (arith, e))))
+    call-ind (λ e. e .result .stop ≡ 0 → ⊥) m mem budget (λ e. omega (arith, e)) (λ e. omega (arith, e)) (λ e. omega (arith, e))
+    (λ w.
+    run-ind (inside (m .hfi)) (λ n k l mem e. e .result .stop ≡ 0 → ⊥) (λ k l mem e. omega (arith, e)) (λ n k l mem q. q)
+    (λ n k l mem e. omega (arith, e)) (λ n k l mem e i h. h) budget 0 m mem)
+
+-- a completed step gives no address, and 21 is no step's number
+module _ (m : Machine) (mem : List ℕ) where
+  proper-parts : ((not (eqb (step m mem .result .stop) 0) || eqb (step m mem .result .address) 0) ≡ true)
+      × ((not (eqb (step m mem .result .stop) 20) && not (eqb (step m mem .result .stop) 21)) ≡ true)
+  proper-parts = both _ _ (step-does m mem .stop)
+
+  pub no-address : step m mem .result .stop ≡ 0 → step m mem .result .address ≡ 0
+  no-address e =
+      let z : eqb (step m mem .result .stop) 0 ≡ true = eq-eqb _ 0 e in
+      eqb-true _ 0 (rw z at (proper-parts .0))
+
+  not-spent : step m mem .result .stop ≡ 21 → ⊥
+  not-spent e = clash (ap not (eq-eqb _ 21 e)) (both (not (eqb (step m mem .result .stop) 20)) _ (proper-parts .1) .1)
+
+-- so it says that the budget is used up; a run that began in HFI mode is then still in it
+module _ (m : Machine) (mem : List ℕ) (budget : ℕ) (q : runCall m mem budget .result .stop ≡ 21) where
+  pub spent-count : runCall m mem budget .result .count ≡ budget
+  spent-count =
+      call-ind (λ e. e .result .stop ≡ 21 → e .result .count ≡ budget) m mem budget (λ e. omega (arith, e)) (λ e. omega (arith, e)) (λ e. omega (arith, e))
+      (λ w e.
+      run-ind (inside (m .hfi)) (λ n k l s e. e .result .stop ≡ 21 → e .result .count ≡ k + n) (λ k l s e. omega arith)
+      (λ n k l s z e. absurd (not-spent l s e)) (λ n k l s e. omega (arith, e)) (λ n k l s e i h f. h f ∙ omega arith) budget 0 m mem e ∙ omega arith)
+      q
+
+  pub spent-inside : inside (m .hfi) ≡ true → inside (runCall m mem budget .result .machine .hfi) ≡ true
+  spent-inside i =
+      call-ind (λ e. e .result .stop ≡ 21 → inside (e .result .machine .hfi) ≡ true) m mem budget (λ e. i) (λ e. i) (λ e. i)
+      (λ w.
+      run-ind (inside (m .hfi)) (λ n k l s e. (inside (m .hfi) ≡ true → inside (l .hfi) ≡ true) → e .result .stop ≡ 21 → inside (e .result .machine .hfi) ≡ true) (λ k l s f e. f i)
+      (λ n k l s z f e. absurd (not-spent l s e)) (λ n k l s f e. absurd (omega (arith, e))) (λ n k l s e j h f. h j) budget 0 m mem (λ e. e))
+      q
+
+  pub spent-well-formed : wellFormed m ≡ true
+  spent-well-formed =
+      call-ind (λ e. e .result .stop ≡ 21 → wellFormed m ≡ true) m mem budget (λ e. absurd (omega (arith, e))) (λ e. absurd (omega (arith, e))) (λ e. absurd (omega (arith, e))) (λ w e. w) q
+
+-- ---- what a run keeps
+
+-- what every step keeps, a run keeps; a run that began in HFI mode makes all its steps in it
+module _ (m : Machine) (P : Machine → List ℕ → Type 0)
+    (keeps : (l : Machine) (s : List ℕ) → (inside (m .hfi) ≡ true → inside (l .hfi) ≡ true) → P l s → P (step l s .result .machine) (step l s .memory)) where
+  run-keeps : (mem : List ℕ) (budget : ℕ) → P m mem → P (runCall m mem budget .result .machine) (runCall m mem budget .memory)
+  run-keeps mem budget p =
+      call-ind (λ e. P (e .result .machine) (e .memory)) m mem budget p p p
+      (λ w.
+      run-ind (inside (m .hfi)) (λ n k l s e. (inside (m .hfi) ≡ true → inside (l .hfi) ≡ true) → P l s → P (e .result .machine) (e .memory)) (λ k l s i h. h)
+      (λ n k l s z i h. keeps l s i h) (λ n k l s i h. keeps l s i h) (λ n k l s e j h i x. h j (keeps l s i x)) budget 0 m mem (λ e. e) p)
+
+pub step-length : (m : Machine) (mem : List ℕ) → length (step m mem .memory) ≡ length mem
+step-length m mem = go (step-does m mem .memory)
+  where
+    go : (step m mem .memory ≡ mem) ⊎ Stored m mem (step m mem .memory) → length (step m mem .memory) ≡ length mem
+    go (inl e) = ap length e
+    go (inr w) = ap length (w .bytes) ∙ length-written (w .access .count) 0 mem (w .access .first) (w .stored)
+
+pub run-length : (m : Machine) (mem : List ℕ) (budget : ℕ) → length (runCall m mem budget .memory) ≡ length mem
+run-length m mem budget = run-keeps m (λ l s. length s ≡ length mem) (λ l s i e. step-length l s ∙ e) mem budget refl
+
+pub run-well-formed : (m : Machine) (mem : List ℕ) (budget : ℕ) → wellFormed m ≡ true → wellFormed (runCall m mem budget .result .machine) ≡ true
+run-well-formed m mem budget = run-keeps m (λ l s. wellFormed l ≡ true) (λ l s i w. step-does l s .kept .well w) mem budget
+
+-- in HFI mode options do not change, in the leaving step neither
+pub run-options : (m : Machine) (mem : List ℕ) (budget : ℕ) → inside (m .hfi) ≡ true → runCall m mem budget .result .machine .hfi .options ≡ m .hfi .options
+run-options m mem budget on =
+    run-keeps m (λ l s. l .hfi .options ≡ m .hfi .options) (λ l s i e. step-does l s .kept .options (i on) ∙ e) mem budget refl
+
+-- nor does a locked machine's regions, options, handler or selector
+pub step-settings : (m : Machine) (mem : List ℕ) → Locked m → settings (step m mem .result .machine) ≡ settings m
+step-settings m mem k = step-does m mem .kept .lock (rw (eq-eqb _ 1 (k .mode)) (eq-eqb _ _ (k .lock)))
+
+-- a byte that a locked machine may not write is as it was after a step
+step-unwritten : (m : Machine) (mem : List ℕ) (b : ℕ) → Locked m → (Writable (m .hfi .regions) b → ⊥) → getD (step m mem .memory) b 0 ≡ getD mem b 0
+step-unwritten m mem b k n = go (step-does m mem .memory)
+  where
+    go : (step m mem .memory ≡ mem) ⊎ Stored m mem (step m mem .memory) → getD (step m mem .memory) b 0 ≡ getD mem b 0
+    go (inl e) = ap (λ s. getD s b 0) e
+    go (inr w) =
+        let a = w .access in
+        ap (λ s. getD s b 0) (w .bytes)
+        ∙ written-other (a .count) 0 mem (a .first) (w .stored) b
+        (λ j p q e. n (subst (Writable (m .hfi .regions)) (sym e) (w .may .reach _ (passing (m .hfi .mode) (length mem) a (k .mode) (w .passed) j (omega arith)))))
+
+-- a machine in HFI mode with the settings of a locked one is locked
+locked-too : (m l : Machine) → Locked m → settings l ≡ settings m → inside (l .hfi) ≡ true → Locked l
+locked-too m l k e i = record { mode = eqb-true _ _ i; lock = rw (ap (λ (t : Settings). t .options) e) (k .lock) }
+
+module _ (m : Machine) (mem : List ℕ) (budget : ℕ) (k : Locked m) where
+  on : inside (m .hfi) ≡ true
+  on = eq-eqb _ _ (k .mode)
+
+  pub locked-keeps : settings (runCall m mem budget .result .machine) ≡ settings m
+  locked-keeps =
+      run-keeps m (λ l s. settings l ≡ settings m) (λ l s i e. step-settings l s (locked-too m l k e (i on)) ∙ e) mem budget refl
+
+  -- what a locked run leaves alone
+  pub locked-unwritten : (b : ℕ) → (Writable (m .hfi .regions) b → ⊥) → getD (runCall m mem budget .memory) b 0 ≡ getD mem b 0
+  locked-unwritten b n =
+      run-keeps m (λ l s. (settings l ≡ settings m) × (getD s b 0 ≡ getD mem b 0))
+      (λ l s i h.
+      let c = locked-too m l k (h .0) (i on) in
+      (step-settings l s c ∙ h .0, step-unwritten l s b c (λ w. n (rw (ap (λ (t : Settings). t .regions) (h .0)) at w)) ∙ h .1)) mem budget (refl, refl) .1
+
+  -- one that ends in 21 is still locked, well formed and in HFI mode
+  pub spent-locked : runCall m mem budget .result .stop ≡ 21
+      → Locked (runCall m mem budget .result .machine) × (wellFormed (runCall m mem budget .result .machine) ≡ true)
+  spent-locked q = (
+        locked-too m _ k locked-keeps (spent-inside m mem budget q on),
+        run-well-formed m mem budget (spent-well-formed m mem budget q),
+      )
+
+-- ---- a run is steps of the step call
+
+repeated : (began : Bool) (n k : ℕ) (m : Machine) (mem : List ℕ) → wellFormed m ≡ true → ltb longest (length mem) ≡ false
+    → run began n k m mem ≡ runBy stepCall began n k m mem
+unfolding runBy stepCall
+repeated began zero k m mem w l = refl
+repeated began (suc n) k m mem w l =
+    rw (l, w)
+    (ap (λ r. cond (eqb (step m mem .result .stop) 0)
+    (cond (began && not (inside (step m mem .result .machine .hfi))) (ended 20 (suc k) 0 (step m mem .result .machine) (step m mem .memory)) r)
+    (ended (step m mem .result .stop) k (step m mem .result .address) (step m mem .result .machine) (step m mem .memory)))
+    (repeated began n (suc k) (step m mem .result .machine) (step m mem .memory) (step-does m mem .kept .well w) (ap (ltb longest) (step-length m mem) ∙ l)))
+
+-- for every machine, memory and budget: questions 1 to 3, then the step call again and again, with 20, 21 and the counts
+pub run-is-step-calls : (m : Machine) (mem : List ℕ) (budget : ℕ)
+    → runCall m mem budget
+    ≡ cond (ltb longest (length mem)) (ended 1 0 0 m mem)
+    (cond (ltb largestBudget budget) (ended 2 0 0 m mem)
+    (cond (wellFormed m) (runBy stepCall (inside (m .hfi)) budget 0 m mem) (ended 3 0 0 m mem)))
+unfolding runCall
+run-is-step-calls m mem budget = go (ltb longest (length mem)) (wellFormed m) refl refl
+  where
+    go : (a c : Bool) → ltb longest (length mem) ≡ a → wellFormed m ≡ c
+        → cond a (ended 1 0 0 m mem) (cond (ltb largestBudget budget) (ended 2 0 0 m mem) (cond c (run (inside (m .hfi)) budget 0 m mem) (ended 3 0 0 m mem)))
+        ≡ cond a (ended 1 0 0 m mem) (cond (ltb largestBudget budget) (ended 2 0 0 m mem) (cond c (runBy stepCall (inside (m .hfi)) budget 0 m mem) (ended 3 0 0 m mem)))
+    go true c l w = refl
+    go false true l w = ap (λ r. cond (ltb largestBudget budget) (ended 2 0 0 m mem) r) (repeated (inside (m .hfi)) budget 0 m mem w l)
+    go false false l w = refl

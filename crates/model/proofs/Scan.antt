@@ -1,4 +1,4 @@
--- Laws of the search for the first place that fails a test.
+-- Laws of the search for the first index that fails a test.
 -- Assumes nothing.
 use mathlib.Core.Path.{_≡_, refl, ap, _∙_}
 use mathlib.Core.Bool.{Bool, true, false, cond}
@@ -7,7 +7,7 @@ use native.Mathlib.Decide.{ℕ-discrete}
 use native.Mathlib.Omega.{arith}
 use Rattle.model.specs.Access.{scan}
 
--- a loop from 0 to n has n - i places left at i
+-- a loop from 0 to n has n - i indices still to go at i
 module _ (ok : ℕ → Bool) (i n : ℕ) where
   pub scan-next : i < n → ok i ≡ true → scan ok i (n - i) ≡ scan ok (i + 1) (n - (i + 1))
   unfolding scan
@@ -27,14 +27,14 @@ module _ (ok : ℕ → Bool) (i n : ℕ) where
 pub scan-start : (ok : ℕ → Bool) (n : ℕ) → scan ok 0 (n - 0) ≡ scan ok 0 n
 scan-start ok n = let e : n - 0 ≡ n = omega arith in rw e refl
 
--- tests that agree at each place find the same
+-- tests that agree at each index find the same
 pub scan-same : (ok ok′ : ℕ → Bool) (k i : ℕ) → ((j : ℕ) → i ≤ j → j < i + k → ok j ≡ ok′ j) → scan ok i k ≡ scan ok′ i k
 unfolding scan
 scan-same ok ok′ zero i h = refl
 scan-same ok ok′ (suc k) i h =
     cc (h i (omega arith) (omega arith), scan-same ok ok′ k (suc i) (λ j p q. h j (omega arith) (omega arith)))
 
--- a search that ends past its places passed the test at each
+-- a search that ends past its indices passed the test at each
 pub scan-passed : (ok : ℕ → Bool) (k i : ℕ) → i + k ≤ scan ok i k → (j : ℕ) → i ≤ j → j < i + k → ok j ≡ true
 unfolding scan
 scan-passed ok zero i h j p q = absurd (omega arith)
@@ -46,7 +46,7 @@ scan-passed ok (suc k) i h j p q = go (ok i) refl h (ℕ-discrete j i) (λ h2 p2
     go true e g (no r) ih = ih (omega (arith, g)) (omega (arith, r))
     go false e g d ih = absurd (omega (arith, g))
 
--- and where every place passes, it ends past them
+-- and where every index passes, it ends past them
 pub scan-all : (ok : ℕ → Bool) (k i : ℕ) → ((j : ℕ) → i ≤ j → j < i + k → ok j ≡ true) → scan ok i k ≡ i + k
 unfolding scan
 scan-all ok zero i h = omega arith

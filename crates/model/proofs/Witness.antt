@@ -15,16 +15,15 @@ use Rattle.model.specs.Machine.{region}
 use Rattle.model.specs.Bytes.{value, written}
 use Rattle.model.specs.Outcome.{allowed, settle}
 use Rattle.model.specs.WellFormed.{stateFits, wellFormed}
-use Rattle.model.specs.Hfi.{hfiForbids, hWordForbids, hfiPerform}
-use Rattle.model.specs.Regions.{read, execute, codeRegions, explicitRule, matches, firstMatch, implicitGrants, explicitGrants}
+use Rattle.model.specs.Hfi.{hfiStop, hWordStop, hfiPerform}
+use Rattle.model.specs.Regions.{read, execute, dataRegions, codeRegions, explicitRule, matches, firstMatch, implicitGrants, explicitGrants}
 use Rattle.model.specs.Access.{scan, firstRefused, firstAbsent, verdict}
-use Rattle.model.specs.Reach.{InData, InImplicit}
-use Rattle.model.specs.Step.{load, store, perform, executeWord, advance}
-use Rattle.model.specs.Run.{run, runCall}
+use Rattle.model.specs.Step.{load, store, perform, executeWord, step}
+use Rattle.model.specs.Run.{runBy, runCall}
 use Rattle.model.specs.Isolation.{Locked, Agree}
 use Rattle.model.specs.declared.Machine.{Machine}
 use Rattle.model.proofs.Intervals.{zero-matches-none, matches-inside}
-use Rattle.model.proofs.Reach.{readable-form, executable-form, single-granted}
+use Rattle.model.proofs.Reach.{InData, InImplicit, readable-form, executable-form, granted-by}
 use Rattle.model.proofs.Rows.{Row, Answer, found, stated, x, pc, mode, reason, epc, options, base, bound, permission, puts, with, bytes}
 use Rattle.model.proofs.Rows.Question.{running}
 use Rattle.model.proofs.Rows.Answer.{gave}
@@ -68,20 +67,20 @@ unmatched : (b : ℕ) → matches (region (guest .hfi .regions) 2) b ≡ true �
 unmatched b e = false≢true (sym (zero-matches-none (region (guest .hfi .regions) 2) b refl) ∙ e)
 
 agree-read : (b : ℕ) → InData (guest .hfi .regions) read b → getD one b 0 ≡ getD two b 0
-agree-read b (inl i) = absurd (unmatched b (single-granted (guest .hfi .regions) 2 read b (i .granted) .0))
+agree-read b (inl i) = granted-by (guest .hfi .regions) dataRegions read b _ ((λ t p. absurd (unmatched b t)), tt) (i .granted)
 agree-read b (inr i) = common-same b (i .end)
 
 agree-execute : (b : ℕ) → InImplicit (guest .hfi .regions) codeRegions execute b → getD one b 0 ≡ getD two b 0
 unfolding trailingZeros
 agree-execute b i =
-    let h = matches-inside (region (guest .hfi .regions) 3) b (i .address) (single-granted (guest .hfi .regions) 3 execute b (i .granted) .0) in
-    let l : b < 16 = h .1 in
-    common-same b (omega arith)
+    granted-by (guest .hfi .regions) codeRegions execute b _
+    ((λ t p. let h : b < 16 = matches-inside (region (guest .hfi .regions) 3) b (i .address) t .1 in common-same b (omega arith)), tt)
+    (i .granted)
 
 pub agree : Agree guest one two
 agree =
     record {
-      long = refl;
+      lengths = refl;
       readable = λ b h. agree-read b (readable-form (guest .hfi .regions) b h);
       executable = λ b h. agree-execute b (executable-form (guest .hfi .regions) b h);
     }
@@ -96,5 +95,5 @@ abbrev rows : List Row
 rows = (running guest one 9, answer one) ∷ (running guest two 9, answer two) ∷ []
 
 pub runs-done : found rows ≡ stated rows
-unfolding trailingZeros sext decodeWord matches explicitRule firstMatch implicitGrants explicitGrants scan firstRefused firstAbsent verdict value written allowed settle stateFits wellFormed hfiForbids hWordForbids hfiPerform load store perform executeWord advance run runCall
+unfolding trailingZeros sext decodeWord matches explicitRule firstMatch implicitGrants explicitGrants scan firstRefused firstAbsent verdict value written allowed settle stateFits wellFormed hfiStop hWordStop hfiPerform load store perform executeWord step runBy runCall
 runs-done = refl

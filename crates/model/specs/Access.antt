@@ -1,5 +1,5 @@
 -- One access: its bytes, what the regions say to each, and the questions that all of them are asked before any is touched.
--- Assumes nothing.
+-- Region and Verdict are declared in src/lib.rt, LoadKind and StoreKind in instructions/src/kind.rt. Assumes nothing.
 use mathlib.Core.Bool.{Bool, true, cond}
 use mathlib.Core.List.{List}
 use Prim.Native.Nat.{ℕ, zero, suc}
@@ -23,18 +23,18 @@ pub record Access : Type 0 where
   pub count : ℕ
   -- byte i passes its region, in HFI mode; and the fault region where it does not
   pub grants : ℕ → Bool
-  pub blames : ℕ → ℕ
+  pub faultRegion : ℕ → ℕ
 
 -- ---- the accesses that there are
 
--- n bytes from a on, which the implicit regions numbered ns decide
+-- n bytes from a on, which the implicit regions numbered ns decide; `wanted` is a permission by its bit number
 abbrev pub implicitAccess : List Region → List ℕ → ℕ → ℕ → ℕ → Access
-implicitAccess rs ns permission a n =
+implicitAccess rs ns wanted a n =
     record {
       first = a;
       count = n;
-      grants = λ i. implicitGrants rs ns permission (byteOf a i);
-      blames = λ i. firstMatch rs ns (byteOf a i);
+      grants = λ i. implicitGrants rs ns wanted (byteOf a i);
+      faultRegion = λ i. firstMatch rs ns (byteOf a i);
     }
 
 -- "A fetch asks region 3"
@@ -43,16 +43,16 @@ fetchAccess rs pc = implicitAccess rs codeRegions execute pc 4
 
 -- "an ordinary load or store region 2"
 abbrev pub dataAccess : List Region → ℕ → ℕ → ℕ → Access
-dataAccess rs permission a n = implicitAccess rs dataRegions permission a n
+dataAccess rs wanted a n = implicitAccess rs dataRegions wanted a n
 
 -- "an h-load or h-store region 1 only"; "The address is base + offset + i, modulo 2^64."; "Its fault region is 1 for explicit"
 abbrev pub explicitAccess : List Region → ℕ → ℕ → ℤ → ℕ → Access
-explicitAccess rs n permission offset count =
+explicitAccess rs n wanted offset count =
     record {
       first = word 64 (pos (region rs n .base) +ℤ offset);
       count = count;
-      grants = explicitGrants (region rs n) permission offset;
-      blames = λ i. n;
+      grants = explicitGrants (region rs n) wanted offset;
+      faultRegion = λ i. n;
     }
 
 -- ---- the accesses of the instructions
@@ -73,18 +73,18 @@ storeWidth Sw = 4
 storeWidth Sd = 8
 
 -- the effective address of an ordinary load or store: "Misaligned data is allowed."
-abbrev pub address : List ℕ → ℕ → ℕ → ℕ
-address x rs1 imm = sum (reg x rs1) imm
+abbrev pub effectiveAddress : List ℕ → ℕ → ℕ → ℕ
+effectiveAddress x rs1 imm = sum (reg x rs1) imm
 
 -- "rs1 is ignored, though the instruction carries the field: the offset is the signed 12-bit immediate"
 abbrev pub offset : List ℕ → ℕ → ℕ → ℤ
 offset x rs1 imm = signed 64 imm
 
 abbrev pub loadAccess : List Region → List ℕ → LoadKind → ℕ → ℕ → Access
-loadAccess rs x k rs1 imm = dataAccess rs read (address x rs1 imm) (loadWidth k)
+loadAccess rs x k rs1 imm = dataAccess rs read (effectiveAddress x rs1 imm) (loadWidth k)
 
 abbrev pub storeAccess : List Region → List ℕ → StoreKind → ℕ → ℕ → Access
-storeAccess rs x k rs1 imm = dataAccess rs write (address x rs1 imm) (storeWidth k)
+storeAccess rs x k rs1 imm = dataAccess rs write (effectiveAddress x rs1 imm) (storeWidth k)
 
 abbrev pub hloadAccess : List Region → List ℕ → LoadKind → ℕ → ℕ → Access
 hloadAccess rs x k rs1 imm = explicitAccess rs 1 read (offset x rs1 imm) (loadWidth k)
@@ -94,7 +94,7 @@ hstoreAccess rs x k rs1 imm = explicitAccess rs 1 write (offset x rs1 imm) (stor
 
 -- ---- the questions
 
--- the first of the k places from i on at which the test fails, or the place after them
+-- the first of the k indices from i on at which the test fails, or the index after them
 unfoldable pub scan : (ℕ → Bool) → ℕ → ℕ → ℕ
 scan ok i zero = i
 scan ok i (suc k) = cond (ok i) (scan ok (suc i) k) i
@@ -113,5 +113,5 @@ unfoldable pub verdict : ℕ → ℕ → Access → Verdict
 verdict mode length a =
     let i = firstRefused mode a in
     let j = firstAbsent length (a .first) (a .count) in
-    cond (ltb i (a .count)) (Refused (byteOf (a .first) i) (a .blames i))
+    cond (ltb i (a .count)) (Refused (byteOf (a .first) i) (a .faultRegion i))
     (cond (ltb j (a .count)) (Absent (byteOf (a .first) j)) Passed)

@@ -1,5 +1,5 @@
 -- What RV64I's operations make of two values, over the width of the operands (specification, chapters "RV32I" and "RV64I").
--- Assumes nothing.
+-- The kinds are declared in instructions/src/kind.rt. Assumes nothing.
 use mathlib.Core.Bool.{Bool, not, cond}
 use Prim.Native.Nat.{ℕ, _+_, _-_, _*_, _/_, _%_, _^_}
 use lib.Dec.{eqb, ltb}

@@ -1,13 +1,13 @@
 -- The words of opcode 5b: what question 8 forbids, and what each does. Document 01, the list after the table, and question 8.
--- Assumes nothing.
+-- Region, HfiState and Machine are declared in src/lib.rt, HfiKind in instructions/src/kind.rt. Assumes nothing.
 use mathlib.Core.Bool.{Bool, false, cond, not, _&&_, _||_}
 use mathlib.Core.List.{List}
 use Prim.Native.Nat.{ℕ}
 use lib.Dec.{eqb, leb, ltb}
 use Rattle.instructions.specs.declared.kind.HfiKind.{HfiKind}
 use Rattle.instructions.specs.declared.kind.HfiKind.the-variants.{Enter, EnterJump, Exit, SelectRegion, SetBase, GetBase, SetBound, GetBound, SetPermission, GetPermission, SetHandler, GetHandler, ResetRegions}
-use Rattle.model.specs.Machine.{reg, inside, locked, redirectsExits, region, setRegion, withBase, withBound, withPermission, zeroRegions, entered, left, withHandler, withRegions, machine}
-use Rattle.model.specs.Regions.{lastRegion, permissionFits}
+use Rattle.model.specs.Machine.{reg, largestOptions, inside, locked, redirectsExits, region, setRegion, withBase, withBound, withPermission, zeroRegions, entered, exited, withHandler, withSelector, withRegions, machine, lastRegion}
+use Rattle.model.specs.Regions.{permissionFits}
 use Rattle.model.specs.WellFormed.{clearHandler}
 use Rattle.model.specs.Outcome.{Outcome, completed, assigned, aligned}
 use Rattle.model.specs.declared.Region.{Region}
@@ -34,8 +34,8 @@ modeForbids h ResetRegions = locked h
 -- "an options operand above 15; a selected number not 1 to 3; funct7 4 to 9 with selector 0; a permission bit the region
 -- lacks", with a the whole register rs1
 abbrev pub operandForbids : HfiState → HfiKind → ℕ → Bool
-operandForbids h Enter a = ltb 15 a
-operandForbids h EnterJump a = ltb 15 a
+operandForbids h Enter a = ltb largestOptions a
+operandForbids h EnterJump a = ltb largestOptions a
 operandForbids h Exit a = false
 operandForbids h SelectRegion a = not (leb 1 a && leb a lastRegion)
 operandForbids h SetBase a = eqb (h .selector) 0
@@ -49,16 +49,16 @@ operandForbids h GetHandler a = false
 operandForbids h ResetRegions a = false
 
 -- question 8: 14, or 0 where nothing is forbidden
-unfoldable pub hfiForbids : HfiState → HfiKind → ℕ → ℕ
-hfiForbids h k a = cond (modeForbids h k) 14 (cond (operandForbids h k a) 14 0)
+unfoldable pub hfiStop : HfiState → HfiKind → ℕ → ℕ
+hfiStop h k a = cond (modeForbids h k) 14 (cond (operandForbids h k a) 14 0)
 
 -- "an h-word outside" HFI mode
-unfoldable pub hWordForbids : HfiState → ℕ
-hWordForbids h = cond (inside h) 0 14
+unfoldable pub hWordStop : HfiState → ℕ
+hWordStop h = cond (inside h) 0 14
 
 -- the state with the selected region changed
 abbrev pub changed : HfiState → Region → HfiState
-changed h r = withRegions h (h .selector) (setRegion (h .regions) (h .selector) r)
+changed h r = withRegions h (setRegion (h .regions) (h .selector) r)
 
 abbrev pub selected : HfiState → Region
 selected h = region (h .regions) (h .selector)
@@ -72,9 +72,9 @@ hfiPerform m mem next EnterJump rd rs1 rs2 =
     aligned m mem (reg (m .x) rs2) (completed (machine (m .x) (reg (m .x) rs2) (entered (m .hfi) (reg (m .x) rs1))) mem)
 -- "Exit: mode 0, reason 1, exit pc is this pc; then pc is the handler if exits are redirected, else pc + 4."
 hfiPerform m mem next Exit rd rs1 rs2 =
-    completed (machine (m .x) (cond (redirectsExits (m .hfi)) (m .hfi .handler) next) (left (m .hfi) 1 (m .pc))) mem
+    completed (machine (m .x) (cond (redirectsExits (m .hfi)) (m .hfi .handler) next) (exited (m .hfi) 1 (m .pc))) mem
 hfiPerform m mem next SelectRegion rd rs1 rs2 =
-    completed (machine (m .x) next (withRegions (m .hfi) (reg (m .x) rs1) (m .hfi .regions))) mem
+    completed (machine (m .x) next (withSelector (m .hfi) (reg (m .x) rs1))) mem
 hfiPerform m mem next SetBase rd rs1 rs2 =
     completed (machine (m .x) next (changed (m .hfi) (withBase (selected (m .hfi)) (reg (m .x) rs1)))) mem
 hfiPerform m mem next GetBase rd rs1 rs2 = completed (assigned m next rd (selected (m .hfi) .base)) mem
@@ -89,4 +89,4 @@ hfiPerform m mem next SetHandler rd rs1 rs2 =
     completed (machine (m .x) next (withHandler (m .hfi) (clearHandler (reg (m .x) rs1)))) mem
 hfiPerform m mem next GetHandler rd rs1 rs2 = completed (assigned m next rd (m .hfi .handler)) mem
 -- "Reset zeroes regions and selector."
-hfiPerform m mem next ResetRegions rd rs1 rs2 = completed (machine (m .x) next (withRegions (m .hfi) 0 zeroRegions)) mem
+hfiPerform m mem next ResetRegions rd rs1 rs2 = completed (machine (m .x) next (withSelector (withRegions (m .hfi) zeroRegions) 0)) mem

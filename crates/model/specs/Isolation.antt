@@ -1,6 +1,6 @@
 -- Demand 3, as one claim about whole runs: the run call that demand 2 defines, refused runs and the leaving step included.
 -- Quotations here are of the demand, and of document 01, "What demand 3 compares".
--- Assumes nothing.
+-- Machine is declared in src/lib.rt, Ended in Run.antt. Assumes nothing.
 use mathlib.Core.Path.{_≡_}
 use mathlib.Core.List.{List}
 use Prim.Native.Nat.{ℕ}
@@ -18,7 +18,7 @@ pub record Locked (m : Machine) : Type 0 where
 -- "any two memories of one length that agree wherever the recipe may read or execute", "judged by the regions of the
 -- machine its run starts from"
 pub record Agree (m : Machine) (s t : List ℕ) : Type 0 where
-  pub long : length s ≡ length t
+  pub lengths : length s ≡ length t
   pub readable : (a : ℕ) → Readable (m .hfi .regions) a → getD s a 0 ≡ getD t a 0
   pub executable : (a : ℕ) → Executable (m .hfi .regions) a → getD s a 0 ≡ getD t a 0
 
@@ -28,7 +28,7 @@ pub record Isolated (m : Machine) (s t : List ℕ) (e f : Ended) : Type 0 where
   -- one included. The address is the one given with the stop. The final machine is the whole record."
   pub answers : e .result ≡ f .result
   -- "Each run has its own memory, compared at every address in it": neither memory changes its length
-  pub long : (length (e .memory) ≡ length s) × (length (f .memory) ≡ length t)
+  pub lengths : (length (e .memory) ≡ length s) × (length (f .memory) ≡ length t)
   -- "every byte that agreed at the start agrees at the end"
   pub agreeing : (a : ℕ) → getD s a 0 ≡ getD t a 0 → getD (e .memory) a 0 ≡ getD (f .memory) a 0
   -- "no byte that the recipe may not write has changed", in either run

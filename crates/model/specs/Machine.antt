@@ -1,10 +1,10 @@
 -- Reading and changing the parts of the machine.
--- Assumes nothing.
+-- Region, Fault, HfiState and Machine are declared in src/lib.rt. Assumes nothing.
 use mathlib.Core.Bool.{Bool, false, cond}
-use mathlib.Core.List.{List, [], _∷_}
+use mathlib.Core.List.{List}
 use Prim.Native.Nat.{ℕ, _+_, _-_, _%_, _^_}
 use lib.Dec.{eqb}
-use lib.ListN.{getD, set}
+use lib.ListN.{getD, set, replicate}
 use Rattle.words.specs.Word.{field}
 use Rattle.model.specs.declared.Region.{Region}
 use Rattle.model.specs.declared.Fault.{Fault}
@@ -27,7 +27,22 @@ setReg x i v = cond (eqb i 0) x (set x i v)
 abbrev pub bit : ℕ → ℕ → Bool
 bit n x = eqb (field x n 1) 1
 
+-- ---- the fault record's op: "0 none, 1 load, 2 store, 3 fetch"
+
+abbrev pub loadOp : ℕ
+loadOp = 1
+
+abbrev pub storeOp : ℕ
+storeOp = 2
+
+abbrev pub fetchOp : ℕ
+fetchOp = 3
+
 -- ---- options and mode
+
+-- "options (4 bits)"
+abbrev pub largestOptions : ℕ
+largestOptions = 15
 
 -- in HFI mode
 abbrev pub inside : HfiState → Bool
@@ -51,6 +66,10 @@ redirectsExits h = bit 2 (h .options)
 
 -- ---- regions by number, from 1 on; question 8 sees to it that no instruction asks for number 0
 
+-- the highest number: the record has as many regions
+abbrev pub lastRegion : ℕ
+lastRegion = 3
+
 abbrev pub noRegion : Region
 noRegion = record { base = 0; bound = 0; permission = 0 }
 
@@ -71,7 +90,7 @@ withPermission r v = record { base = r .base; bound = r .bound; permission = v }
 
 -- "Reset zeroes regions and selector": all the regions
 abbrev pub zeroRegions : List Region
-zeroRegions = noRegion ∷ noRegion ∷ noRegion ∷ []
+zeroRegions = replicate lastRegion noRegion
 
 -- ---- the HFI state, changed in some fields
 
@@ -90,8 +109,8 @@ entered h options =
     }
 
 -- "mode 0, reason .., exit pc is this pc"
-abbrev pub left : HfiState → ℕ → ℕ → HfiState
-left h reason pc =
+abbrev pub exited : HfiState → ℕ → ℕ → HfiState
+exited h reason pc =
     record {
       mode = 0;
       reason = reason;
@@ -116,15 +135,28 @@ withHandler h v =
       fault = h .fault;
     }
 
-abbrev pub withRegions : HfiState → ℕ → List Region → HfiState
-withRegions h selector rs =
+abbrev pub withSelector : HfiState → ℕ → HfiState
+withSelector h v =
     record {
       mode = h .mode;
       reason = h .reason;
       epc = h .epc;
       options = h .options;
       handler = h .handler;
-      selector = selector;
+      selector = v;
+      regions = h .regions;
+      fault = h .fault;
+    }
+
+abbrev pub withRegions : HfiState → List Region → HfiState
+withRegions h rs =
+    record {
+      mode = h .mode;
+      reason = h .reason;
+      epc = h .epc;
+      options = h .options;
+      handler = h .handler;
+      selector = h .selector;
       regions = rs;
       fault = h .fault;
     }

@@ -1,5 +1,5 @@
 -- What a step answers, and the memory that it leaves.
--- Assumes nothing.
+-- Machine, Verdict and Stepped are declared in src/lib.rt. Assumes nothing.
 use mathlib.Core.Bool.{cond}
 use mathlib.Core.List.{List}
 use Prim.Native.Nat.{ℕ, _%_}
@@ -17,6 +17,10 @@ pub record Outcome : Type 0 where
 abbrev pub outcome : ℕ → ℕ → Machine → List ℕ → Outcome
 outcome stop address m mem = record { result = record { stop = stop; address = address; machine = m }; memory = mem }
 
+-- the answer of a call, and the memory after it
+abbrev pub steppedWith : Stepped → List ℕ → Outcome
+steppedWith r mem = record { result = r; memory = mem }
+
 -- "A completed step answers 0"
 abbrev pub completed : Machine → List ℕ → Outcome
 completed m mem = outcome 0 0 m mem
@@ -31,18 +35,18 @@ abbrev pub assigned : Machine → ℕ → ℕ → ℕ → Machine
 assigned m next rd v = machine (setReg (m .x) rd v) next (m .hfi)
 
 -- the machine as it was, but for pc
-abbrev pub moved : Machine → ℕ → Machine
-moved m next = machine (m .x) next (m .hfi)
+abbrev pub withPc : Machine → ℕ → Machine
+withPc m next = machine (m .x) next (m .hfi)
 
--- ---- questions that lead to a stop, or to what `next` says
+-- ---- questions that lead to a stop, or to the rest of the step
 
 -- "8. Does HFI allow it? No: 14", by the number that the rules give: 0 where HFI allows the instruction
 unfoldable pub allowed : Machine → List ℕ → ℕ → Outcome → Outcome
-allowed m mem forbidden next = cond (eqb forbidden 0) next (stopped forbidden m mem)
+allowed m mem forbidden rest = cond (eqb forbidden 0) rest (stopped forbidden m mem)
 
 -- "9. Is the target of a taken branch, a jump or an enter with jump a multiple of 4? No: 15."
 unfoldable pub aligned : Machine → List ℕ → ℕ → Outcome → Outcome
-aligned m mem target next = cond (eqb (target % 4) 0) next (stopped 15 m mem)
+aligned m mem target rest = cond (eqb (target % 4) 0) rest (stopped 15 m mem)
 
 -- "11 and 16 write the fault record"
 abbrev pub faulted : Machine → ℕ → ℕ → ℕ → Machine
@@ -51,6 +55,6 @@ faulted m op at region =
 
 -- questions 5 and 6, or 10 and 11, by the verdict on the access: the number `refused`, or the number `absent` with its address
 unfoldable pub settle : Machine → List ℕ → ℕ → ℕ → ℕ → Verdict → Outcome → Outcome
-settle m mem op refused absent (Refused at region) next = stopped refused (faulted m op at region) mem
-settle m mem op refused absent (Absent at) next = outcome absent at m mem
-settle m mem op refused absent Passed next = next
+settle m mem op refused absent (Refused at region) rest = stopped refused (faulted m op at region) mem
+settle m mem op refused absent (Absent at) rest = outcome absent at m mem
+settle m mem op refused absent Passed rest = rest

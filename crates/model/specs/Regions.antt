@@ -1,5 +1,5 @@
 -- Document 01, "Regions": each kind's rule, which bytes a region matches, and which region decides.
--- Assumes nothing.
+-- Region is declared in src/lib.rt. Assumes nothing.
 use mathlib.Core.Bool.{Bool, true, false, cond, not, _&&_}
 use mathlib.Core.List.{List, [], _∷_}
 use Prim.Native.Nat.{ℕ, _+_, _-_, _/_, _%_, _^_}
@@ -13,10 +13,10 @@ use Rattle.model.specs.declared.Region.{Region}
 
 -- ---- kinds by number: "Region 1 is explicit data .. Region 2 is implicit data .. Region 3 is implicit code .."
 
-pub data Kind : Type 0 where
-  explicit : Kind
-  implicitData : Kind
-  implicitCode : Kind
+pub data RegionKind : Type 0 where
+  explicit : RegionKind
+  implicitData : RegionKind
+  implicitCode : RegionKind
 
 abbrev pub explicitRegions : List ℕ
 explicitRegions = 1 ∷ []
@@ -27,18 +27,14 @@ dataRegions = 2 ∷ []
 abbrev pub codeRegions : List ℕ
 codeRegions = 3 ∷ []
 
--- the highest number of a region
-abbrev pub lastRegion : ℕ
-lastRegion = 3
-
 abbrev pub among : ℕ → List ℕ → Bool
 among n [] = false
 among n (k ∷ ks) = cond (eqb n k) true (among n ks)
 
-abbrev pub kindOf : ℕ → Kind
-kindOf n = cond (among n explicitRegions) explicit (cond (among n dataRegions) implicitData implicitCode)
+abbrev pub regionKind : ℕ → RegionKind
+regionKind n = cond (among n explicitRegions) explicit (cond (among n dataRegions) implicitData implicitCode)
 
--- ---- permissions: bit numbers, and the bits that a kind has
+-- ---- permissions: the bit numbers, of which one is `wanted` by an access, and the bits that a kind has
 
 abbrev pub read : ℕ
 read = 0
@@ -53,17 +49,17 @@ abbrev pub large : ℕ
 large = 3
 
 abbrev pub permits : ℕ → Region → Bool
-permits b r = bit b (r .permission)
+permits wanted r = bit wanted (r .permission)
 
 -- "explicit data (bits 0, 1, 3) .. implicit data (bits 0, 1) .. implicit code (bit 2)"
-abbrev pub permissionBits : Kind → ℕ
+abbrev pub permissionBits : RegionKind → ℕ
 permissionBits explicit = 0b1011
 permissionBits implicitData = 0b0011
 permissionBits implicitCode = 0b0100
 
 -- a permission with no bit that region n lacks
 abbrev pub permissionFits : ℕ → ℕ → Bool
-permissionFits n p = eqb (bitAnd p (permissionBits (kindOf n))) p
+permissionFits n p = eqb (bitAnd p (permissionBits (regionKind n))) p
 
 -- ---- the rules; sums are whole numbers, which do not wrap
 
@@ -109,10 +105,10 @@ firstMatch rs (n ∷ ns) a = cond (matches (region rs n) a) n (firstMatch rs ns 
 
 -- whether the region that decides permits it
 abbrev pub granting : List Region → ℕ → ℕ → Bool
-granting rs b n = not (eqb n 0) && permits b (region rs n)
+granting rs wanted n = not (eqb n 0) && permits wanted (region rs n)
 
 unfoldable pub implicitGrants : List Region → List ℕ → ℕ → ℕ → Bool
-implicitGrants rs ns b a = granting rs b (firstMatch rs ns a)
+implicitGrants rs ns wanted a = granting rs wanted (firstMatch rs ns a)
 
 -- ---- explicit regions
 
@@ -123,4 +119,4 @@ below z bound = leZ (pos 0) z && ltZ z (pos bound)
 -- "byte i passes when region 1 keeps its rule, has the read or write permission wanted, and offset + i is at least 0 and
 -- below the bound"
 unfoldable pub explicitGrants : Region → ℕ → ℤ → ℕ → Bool
-explicitGrants r b offset i = explicitRule r && (permits b r && below (offset +ℤ pos i) (r .bound))
+explicitGrants r wanted offset i = explicitRule r && (permits wanted r && below (offset +ℤ pos i) (r .bound))

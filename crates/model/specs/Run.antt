@@ -1,5 +1,5 @@
 -- A run: steps until one of document 01's questions stops it.
--- Assumes nothing.
+-- Machine and Ran are declared in src/lib.rt. Assumes nothing.
 use mathlib.Core.Bool.{Bool, cond, not, _&&_}
 use mathlib.Core.List.{List}
 use Prim.Native.Nat.{ℕ, zero, suc}
@@ -7,7 +7,8 @@ use lib.Dec.{eqb, ltb}
 use lib.ListN.{length}
 use Rattle.model.specs.Machine.{inside}
 use Rattle.model.specs.WellFormed.{wellFormed}
-use Rattle.model.specs.Step.{advance, longest}
+use Rattle.model.specs.Outcome.{Outcome}
+use Rattle.model.specs.Step.{step, longest}
 use Rattle.model.specs.declared.Machine.{Machine}
 use Rattle.model.specs.declared.Ran.{Ran}
 
@@ -20,18 +21,26 @@ abbrev pub ended : ℕ → ℕ → ℕ → Machine → List ℕ → Ended
 ended stop count address m mem =
     record { result = record { stop = stop; count = count; address = address; machine = m }; memory = mem }
 
--- with a budget of `left` steps still, after `count` completed steps of a run that began in HFI mode or not.
+-- the answer of a call, and the memory after it
+abbrev pub ranWith : Ran → List ℕ → Ended
+ranWith r mem = record { result = r; memory = mem }
+
+-- with a budget of `remaining` steps still, after `count` completed steps of a run that began in HFI mode or not.
 -- "Before each step of a run: does the budget have a step left? No: 21." "After a step of a run that began in HFI mode: is the
 -- mode still on? No: 20." "For 10 to 19 the stopping step isn't counted .. 20 counts its step." "A step leaves the sandbox when
 -- mode is 1 before it and 0 after it; a run that began in HFI mode ends there with 20."
-unfoldable pub run : Bool → ℕ → ℕ → Machine → List ℕ → Ended
-run began zero count m mem = ended 21 count 0 m mem
-run began (suc left) count m mem =
-    let o = advance m mem in
-    let goes-on = run began left (suc count) (o .result .machine) (o .memory) in
+-- `one` makes a step: the step itself or, which makes the same run (proofs/Runs.antt), the step call
+unfoldable pub runBy : (Machine → List ℕ → Outcome) → Bool → ℕ → ℕ → Machine → List ℕ → Ended
+runBy one began zero count m mem = ended 21 count 0 m mem
+runBy one began (suc remaining) count m mem =
+    let o = one m mem in
+    let goes-on = runBy one began remaining (suc count) (o .result .machine) (o .memory) in
     cond (eqb (o .result .stop) 0)
     (cond (began && not (inside (o .result .machine .hfi))) (ended 20 (suc count) 0 (o .result .machine) (o .memory)) goes-on)
     (ended (o .result .stop) count (o .result .address) (o .result .machine) (o .memory))
+
+abbrev pub run : Bool → ℕ → ℕ → Machine → List ℕ → Ended
+run = runBy step
 
 -- "2. (Run) Is the budget at most 1,000,000? No: 2."
 abbrev pub largestBudget : ℕ

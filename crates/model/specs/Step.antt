@@ -1,5 +1,5 @@
 -- One step: document 01, "Questions a call puts", and the effect of each instruction.
--- Assumes nothing.
+-- Machine and Stepped are declared in src/lib.rt, the instructions in instructions/src/instruction.rt. Assumes nothing.
 use mathlib.Core.Bool.{Bool, cond}
 use mathlib.Core.List.{List}
 use Prim.Native.Nat.{ℕ, _*_, _/_, _%_}
@@ -14,27 +14,27 @@ use Rattle.instructions.specs.declared.instruction.Instruction.{Instruction}
 use Rattle.instructions.specs.declared.instruction.Instruction.the-variants.{Upper, Jal, Jalr, Branch, Load, Store, Immediate, Shift, Addiw, ShiftWord, Register, RegisterWord, Fence, System, HLoad, HStore, Hfi}
 use Rattle.instructions.specs.declared.instruction.Decoded.{Decoded}
 use Rattle.instructions.specs.declared.instruction.Decoded.the-variants.{Legal, Illegal}
-use Rattle.model.specs.Machine.{sum, reg, setReg, redirectsCalls, left, machine}
+use Rattle.model.specs.Machine.{sum, reg, setReg, loadOp, storeOp, fetchOp, redirectsCalls, exited, machine}
 use Rattle.model.specs.WellFormed.{wellFormed}
 use Rattle.model.specs.Bytes.{value, written}
-use Rattle.model.specs.Outcome.{Outcome, completed, stopped, assigned, moved, allowed, aligned, settle}
+use Rattle.model.specs.Outcome.{Outcome, completed, stopped, assigned, withPc, allowed, aligned, settle}
 use Rattle.model.specs.Access.{Access, fetchAccess, loadAccess, storeAccess, hloadAccess, hstoreAccess, verdict}
 use Rattle.model.specs.Arithmetic.{operate, operateWord, ofRegisterWord, ofImmediate, ofShift, ofShiftWord, taken, extended}
-use Rattle.model.specs.Hfi.{hfiForbids, hWordForbids, hfiPerform}
+use Rattle.model.specs.Hfi.{hfiStop, hWordStop, hfiPerform}
 use Rattle.model.specs.declared.Machine.{Machine}
 use Rattle.model.specs.declared.Stepped.{Stepped}
 
 -- ---- memory
 
--- "10. Is every data byte granted? No: 16." "11. Are they in memory? No: 17." For a load (op 1) or a store (op 2)
+-- "10. Is every data byte granted? No: 16." "11. Are they in memory? No: 17."
 abbrev pub onData : Machine → List ℕ → ℕ → Access → Outcome → Outcome
-onData m mem op a next = settle m mem op 16 17 (verdict (m .hfi .mode) (length mem) a) next
+onData m mem op a rest = settle m mem op 16 17 (verdict (m .hfi .mode) (length mem) a) rest
 
 unfoldable pub load : Machine → List ℕ → ℕ → Access → LoadKind → ℕ → Outcome
-load m mem next a k rd = onData m mem 1 a (completed (assigned m next rd (extended k (value mem (a .first) 0 (a .count)))) mem)
+load m mem next a k rd = onData m mem loadOp a (completed (assigned m next rd (extended k (value mem (a .first) 0 (a .count)))) mem)
 
 unfoldable pub store : Machine → List ℕ → ℕ → Access → ℕ → Outcome
-store m mem next a v = onData m mem 2 a (completed (moved m next) (written mem (a .first) 0 (a .count) v))
+store m mem next a v = onData m mem storeOp a (completed (withPc m next) (written mem (a .first) 0 (a .count) v))
 
 -- ---- the instructions, a clause a group
 
@@ -46,11 +46,11 @@ unfoldable pub jump : Machine → List ℕ → ℕ → ℕ → ℕ → Outcome
 jump m mem next rd target = aligned m mem target (completed (assigned m target rd next) mem)
 
 unfoldable pub branch : Machine → List ℕ → ℕ → Bool → ℕ → Outcome
-branch m mem next takes target = cond takes (aligned m mem target (completed (moved m target) mem)) (completed (moved m next) mem)
+branch m mem next takes target = cond takes (aligned m mem target (completed (withPc m target) mem)) (completed (withPc m next) mem)
 
 -- "ECALL in HFI mode with bit 1 set: mode 0, reason 2, exit pc is this pc, pc is the handler"
 abbrev pub redirected : Machine → Machine
-redirected m = machine (m .x) (m .hfi .handler) (left (m .hfi) 2 (m .pc))
+redirected m = machine (m .x) (m .hfi .handler) (exited (m .hfi) 2 (m .pc))
 
 -- `next` is the pc after the instruction, which is also the link value of a jump
 unfoldable pub perform : Machine → List ℕ → ℕ → Instruction → Outcome
@@ -68,16 +68,16 @@ perform m mem next (ShiftWord k rd rs1 amount) = completed (assigned m next rd (
 perform m mem next (Register k rd rs1 rs2) = completed (assigned m next rd (operate 64 k (reg (m .x) rs1) (reg (m .x) rs2))) mem
 perform m mem next (RegisterWord k rd rs1 rs2) = completed (assigned m next rd (operateWord (ofRegisterWord k) (reg (m .x) rs1) (reg (m .x) rs2))) mem
 -- "FENCE carries its spare fields and does nothing."
-perform m mem next (Fence fm pred succ rs1 rd) = completed (moved m next) mem
+perform m mem next (Fence fm pred succ rs1 rd) = completed (withPc m next) mem
 -- "12. Is it anything but an ECALL that is not redirected? No: 18." "13. Is it anything but EBREAK? No: 19."
 perform m mem next (System Ecall) = cond (redirectsCalls (m .hfi)) (completed (redirected m) mem) (stopped 18 m mem)
 perform m mem next (System Ebreak) = stopped 19 m mem
 perform m mem next (HLoad k rd rs1 imm) =
-    allowed m mem (hWordForbids (m .hfi)) (load m mem next (hloadAccess (m .hfi .regions) (m .x) k rs1 imm) k rd)
+    allowed m mem (hWordStop (m .hfi)) (load m mem next (hloadAccess (m .hfi .regions) (m .x) k rs1 imm) k rd)
 perform m mem next (HStore k rs1 rs2 imm) =
-    allowed m mem (hWordForbids (m .hfi)) (store m mem next (hstoreAccess (m .hfi .regions) (m .x) k rs1 imm) (reg (m .x) rs2))
+    allowed m mem (hWordStop (m .hfi)) (store m mem next (hstoreAccess (m .hfi .regions) (m .x) k rs1 imm) (reg (m .x) rs2))
 perform m mem next (Hfi k rd rs1 rs2) =
-    allowed m mem (hfiForbids (m .hfi) k (reg (m .x) rs1)) (hfiPerform m mem next k rd rs1 rs2)
+    allowed m mem (hfiStop (m .hfi) k (reg (m .x) rs1)) (hfiPerform m mem next k rd rs1 rs2)
 
 -- "7. Is the word legal? No: 13." The instruction after it stands 4 further
 unfoldable pub executeWord : Machine → List ℕ → Decoded → Outcome
@@ -86,11 +86,11 @@ executeWord m mem Illegal = stopped 13 m mem
 
 -- "4. Is pc a multiple of 4? No: 10." "5. In HFI mode, are all four bytes executable? No: 11." "6. Are they in memory? No: 12."
 -- Then the rest of the step
-unfoldable pub advance : Machine → List ℕ → Outcome
-advance m mem =
+unfoldable pub step : Machine → List ℕ → Outcome
+step m mem =
     let a = fetchAccess (m .hfi .regions) (m .pc) in
     cond (eqb (m .pc % 4) 0)
-    (settle m mem 3 11 12 (verdict (m .hfi .mode) (length mem) a)
+    (settle m mem fetchOp 11 12 (verdict (m .hfi .mode) (length mem) a)
     (executeWord m mem (decodeWord (value mem (a .first) 0 (a .count)))))
     (stopped 10 m mem)
 
@@ -101,13 +101,13 @@ abbrev pub longest : ℕ
 longest = 16777216
 
 -- question 1 and "3. Is the machine well formed? No: 3."; then the step. "For 1 to 3 nothing changes"
-unfoldable pub step : Machine → List ℕ → Outcome
-step m mem =
+unfoldable pub stepCall : Machine → List ℕ → Outcome
+stepCall m mem =
     cond (ltb longest (length mem)) (stopped 1 m mem)
-    (cond (wellFormed m) (advance m mem) (stopped 3 m mem))
+    (cond (wellFormed m) (step m mem) (stopped 3 m mem))
 
 -- "Resuming .. puts a given value in x10 and adds 4 to pc; it asks question 3 only."
-unfoldable pub resume : Machine → ℕ → Stepped
-resume m v =
+unfoldable pub resumeCall : Machine → ℕ → Stepped
+resumeCall m v =
     cond (wellFormed m) (record { stop = 0; address = 0; machine = machine (setReg (m .x) 10 v) (sum (m .pc) 4) (m .hfi) })
     (record { stop = 3; address = 0; machine = m })

@@ -3,6 +3,35 @@
 //
 // Every number is 64 bits wide, so that a caller can hand in any wrong value and have it refused.
 
+// The longest memory and the largest budget that a call takes.
+pub const LONGEST: usize = 16_777_216;
+
+pub const LARGEST_BUDGET: u64 = 1_000_000;
+
+// How many regions the record keeps, and the highest number of one: they count from 1.
+pub const REGIONS: usize = 3;
+
+pub const LAST_REGION: u64 = 3;
+
+// The permissions of a region, by bit number.
+pub const READ: u64 = 0;
+
+pub const WRITE: u64 = 1;
+
+pub const EXECUTE: u64 = 2;
+
+pub const LARGE: u64 = 3;
+
+// The fault record's ops.
+pub const LOAD: u64 = 1;
+
+pub const STORE: u64 = 2;
+
+pub const FETCH: u64 = 3;
+
+// The largest options: 4 bits.
+pub const LARGEST_OPTIONS: u64 = 15;
+
 // "A region has a 64-bit base, a 64-bit bound or mask, and permissions: bit 0 read, bit 1 write, bit 2 execute, bit 3 large".
 #[repr(C)]
 pub struct Region {
@@ -30,7 +59,7 @@ pub struct HfiState {
     pub options: u64,
     pub handler: u64,
     pub selector: u64,
-    pub regions: [Region; 3],
+    pub regions: [Region; REGIONS],
     pub fault: Fault,
 }
 

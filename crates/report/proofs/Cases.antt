@@ -7,11 +7,11 @@ use Rattle.words.specs.Word.{sext}
 use Rattle.instructions.specs.Decode.{decodeWord}
 use Rattle.model.specs.Access.{scan, firstRefused, firstAbsent, verdict}
 use Rattle.model.specs.Bytes.{value, written}
-use Rattle.model.specs.Hfi.{hfiForbids, hWordForbids, hfiPerform}
+use Rattle.model.specs.Hfi.{hfiStop, hWordStop, hfiPerform}
 use Rattle.model.specs.Outcome.{allowed, aligned, settle}
 use Rattle.model.specs.Regions.{explicitRule, matches, firstMatch, implicitGrants, explicitGrants}
-use Rattle.model.specs.Run.{run, runCall}
-use Rattle.model.specs.Step.{load as Step·load, store, jump, branch, perform, executeWord, advance}
+use Rattle.model.specs.Run.{runBy, runCall}
+use Rattle.model.specs.Step.{load as Step·load, store, jump, branch, perform, executeWord, step}
 use Rattle.model.specs.WellFormed.{stateFits, wellFormed}
 use Rattle.text.specs.Number.{spelled, digits}
 use Rattle.text.specs.Ascii.{ascii}
@@ -45,5 +45,5 @@ printed [] = []
 printed (r ∷ rs) = r .1 ∷ printed rs
 
 pub rows-hold : reported rows ≡ printed rows
-unfolding report reportOver registerRows readSheet readLines load blank fileNo permissionsFit setupNo wordNo split allWide firstThat count spelled digits runCall run advance executeWord perform branch jump store Step·load stateFits wellFormed explicitRule matches firstMatch implicitGrants explicitGrants allowed aligned settle hfiForbids hWordForbids hfiPerform value written scan firstRefused firstAbsent verdict decodeWord sext trailingZeros
+unfolding report reportOver registerRows readSheet readLines load blank fileNo permissionsFit setupNo wordNo split allWide firstThat count spelled digits runCall runBy step executeWord perform branch jump store Step·load stateFits wellFormed explicitRule matches firstMatch implicitGrants explicitGrants allowed aligned settle hfiStop hWordStop hfiPerform value written scan firstRefused firstAbsent verdict decodeWord sext trailingZeros
 rows-hold = refl

@@ -6,7 +6,7 @@ ghost use Rattle.report.specs.Report.{report, reportOver};
 ghost use Rattle.respond.specs.Answered.{Answered};
 use report::print::put_answer;
 use report::start::machine_of;
-use run::run;
+use run::run_call;
 use sheet::load::read_sheet;
 use sheet::print::refuse;
 use sheet::setup::setup_values;
@@ -27,7 +27,7 @@ fn respond_over(input: &[u8], output: &mut [u8], mem: &mut [u8; 65536]) -> usize
         return refuse(output, no, v.line);
     }
     let setup = setup_values(line_at(input, 0));
-    let r = run(machine_of(setup), mem, setup.budget);
+    let r = run_call(machine_of(setup), mem, setup.budget);
     put_answer(output, r)
 }
 

@@ -12,13 +12,14 @@ use Rattle.model.specs.Run.{Ended, runCall}
 use Rattle.model.specs.Isolation.{Locked}
 use Rattle.model.specs.declared.Machine.{Machine}
 use Rattle.model.specs.declared.Ran.{Ran}
-use Rattle.model.proofs.Isolation.{settings, locked-keeps, runs-isolated}
-use Rattle.model.proofs.Runs.{count-at-most}
-use Rattle.run.specs.Answer.{answer}
+use Rattle.model.proofs.Moves.{settings}
+use Rattle.model.proofs.Isolation.{runs-isolated}
+use Rattle.model.proofs.Runs.{count-at-most, locked-keeps}
+use Rattle.model.specs.Run.{ranWith}
 
--- what `run` promises of a call on m and the memory s: the answer r, and the memory s′ after it
+-- what `run` promises of a call on m and the memory s: the ranWith r, and the memory s′ after it
 abbrev pub Called : Machine → List ℕ → ℕ → Ran → List ℕ → Type 0
-Called m s budget r s′ = answer r s′ ≡ runCall m s budget
+Called m s budget r s′ = ranWith r s′ ≡ runCall m s budget
 
 pub calls-isolated : (m : Machine) (s t : List ℕ) (budget : ℕ) (r q : Ran) (s′ t′ : List ℕ) → Called m s budget r s′ → Called m t budget q t′
     → m .hfi .mode ≡ 1 → field (m .hfi .options) 0 1 ≡ 1 → length s ≡ length t
@@ -37,7 +38,7 @@ pub calls-isolated : (m : Machine) (s t : List ℕ) (budget : ℕ) (r q : Ran) (
     -- "no byte that the recipe may not write has changed"
     × ((a : ℕ) → (Writable (m .hfi .regions) a → ⊥) → getD s′ a 0 ≡ getD s a 0)
     × ((a : ℕ) → (Writable (m .hfi .regions) a → ⊥) → getD t′ a 0 ≡ getD t a 0)
-calls-isolated m s t budget r q s′ t′ e f = runs-isolated m s t budget (answer r s′) (answer q t′) e f
+calls-isolated m s t budget r q s′ t′ e f = runs-isolated m s t budget (ranWith r s′) (ranWith q t′) e f
 
 -- a call from a locked machine leaves its regions, options, handler and selector as they were
 pub call-keeps : (m : Machine) (s : List ℕ) (budget : ℕ) (r : Ran) (s′ : List ℕ) → Called m s budget r s′ → Locked m

@@ -6,32 +6,32 @@ use mathlib.Core.List.{List}
 use Prim.Native.Nat.{ℕ, _+_, _-_, _<_, _≤_}
 use native.Mathlib.Omega.{arith}
 use Rattle.model.specs.Machine.{inside, machine}
-use Rattle.model.specs.Step.{advance}
+use Rattle.model.specs.Step.{step}
 use Rattle.model.specs.Run.{run}
 use Rattle.model.specs.declared.Machine.{Machine}
 use Rattle.model.specs.declared.Ran.{Ran}
 use Rattle.model.proofs.Runs.{run-out, run-stops, run-leaves, run-goes-on}
-use Rattle.hfi.specs.Did.{did}
-use Rattle.hfi.specs.declared.outcome.Did.{Did}
-use Rattle.run.specs.Answer.{answer}
+use Rattle.hfi.specs.Effect.{effectWith}
+use Rattle.hfi.specs.declared.outcome.Effect.{Effect}
+use Rattle.model.specs.Run.{ranWith}
 
 -- the budget is used up
 pub spent : (began : Bool) (budget count : ℕ) (m : Machine) (mem : List ℕ) (r : Ran) → budget ≤ count
-    → r ≡ record { stop = 21; count = count; address = 0; machine = m } → answer r mem ≡ run began (budget - count) count m mem
-spent began budget count m mem r h e = ap (λ q. answer q mem) e ∙ sym (run-out began (budget - count) count m mem (omega arith))
+    → r ≡ record { stop = 21; count = count; address = 0; machine = m } → ranWith r mem ≡ run began (budget - count) count m mem
+spent began budget count m mem r h e = ap (λ q. ranWith q mem) e ∙ sym (run-out began (budget - count) count m mem (omega arith))
 
-module _ (began : Bool) (budget count : ℕ) (m : Machine) (mem : List ℕ) (d : Did) (x after : List ℕ) (l : count < budget) (e : did d x after ≡ advance m mem) where
+module _ (began : Bool) (budget count : ℕ) (m : Machine) (mem : List ℕ) (d : Effect) (x after : List ℕ) (l : count < budget) (e : effectWith d x after ≡ step m mem) where
   -- the step stops the run
   pub stopped : (r : Ran) → (d .stop ≡ 0 → ⊥) → r ≡ record { stop = d .stop; count = count; address = d .address; machine = machine x (d .pc) (d .hfi) }
-      → answer r after ≡ run began (budget - count) count m mem
-  stopped r q f = ap (λ r. answer r after) f ∙ sym (run-stops began (budget - count) count m mem (did d x after) (omega arith) e q)
+      → ranWith r after ≡ run began (budget - count) count m mem
+  stopped r q f = ap (λ r. ranWith r after) f ∙ sym (run-stops began (budget - count) count m mem (effectWith d x after) (omega arith) e q)
 
   -- the step leaves HFI mode
   pub left : (r : Ran) (on : Bool) → d .stop ≡ 0 → on ≡ inside (d .hfi) → (began && not on) ≡ true
-      → r ≡ record { stop = 20; count = count + 1; address = 0; machine = machine x (d .pc) (d .hfi) } → answer r after ≡ run began (budget - count) count m mem
+      → r ≡ record { stop = 20; count = count + 1; address = 0; machine = machine x (d .pc) (d .hfi) } → ranWith r after ≡ run began (budget - count) count m mem
   left r on q i t f =
-      ap (λ r. answer r after) f
-      ∙ sym (run-leaves began (budget - count) count m mem (did d x after) (omega arith) e q (ap (λ b. began && not b) (sym i) ∙ t))
+      ap (λ r. ranWith r after) f
+      ∙ sym (run-leaves began (budget - count) count m mem (effectWith d x after) (omega arith) e q (ap (λ b. began && not b) (sym i) ∙ t))
 
   -- the run goes on
   pub onward : (on : Bool) → d .stop ≡ 0 → on ≡ inside (d .hfi) → (began && not on) ≡ false
@@ -39,4 +39,4 @@ module _ (began : Bool) (budget count : ℕ) (m : Machine) (mem : List ℕ) (d :
   onward on q i t =
       let s : budget - (count + 1) ≡ budget - count - 1 = omega arith in
       ap (λ n. run began n (count + 1) (machine x (d .pc) (d .hfi)) after) s
-      ∙ sym (run-goes-on began (budget - count) count m mem (did d x after) (omega arith) e q (ap (λ b. began && not b) (sym i) ∙ t))
+      ∙ sym (run-goes-on began (budget - count) count m mem (effectWith d x after) (omega arith) e q (ap (λ b. began && not b) (sym i) ∙ t))

@@ -1,14 +1,15 @@
 // A run: steps of one machine until one of document 01's questions stops it.
 ghost use mathlib.Core.Path.{_≡_};
 ghost use Rattle.model.specs.Machine.{inside as isInside, machine};
-ghost use Rattle.model.specs.Run.{run as runOf, runCall};
-ghost use Rattle.run.specs.Answer.{answer};
-use hfi::word::inside;
-use memory::well_formed::well_formed;
+ghost use Rattle.model.specs.Run.{run as runOf, ranWith, runCall};
+use hart::state::inside;
+use hart::well_formed::well_formed;
 use model::HfiState;
+use model::LARGEST_BUDGET;
+use model::LONGEST;
 use model::Machine;
 use model::Ran;
-use step::execute::advance;
+use step::step;
 
 // A run that is refused: nothing has changed.
 fn refused(stop: u64, m: Machine) -> Ran
@@ -40,8 +41,8 @@ fn ended(stop: u64, count: u64, address: u64, x: [u64; 32], pc: u64, hfi: HfiSta
 }
 
 // The steps. The registers are worked on in place.
-fn run_steps(m: Machine, mem: &mut [u8], budget: u64) -> Ran
-    ensures { λ r. ⌜ answer r (now (mem .exit)) ≡ runOf (isInside (m .hfi)) budget 0 m (now (mem .entry)) ⌝ }
+fn run(m: Machine, mem: &mut [u8], budget: u64) -> Ran
+    ensures { λ r. ⌜ ranWith r (now (mem .exit)) ≡ runOf (isInside (m .hfi)) budget 0 m (now (mem .entry)) ⌝ }
 {
     let mut x = m.x;
     let mut pc = m.pc;
@@ -49,7 +50,7 @@ fn run_steps(m: Machine, mem: &mut [u8], budget: u64) -> Ran
     let began = inside(hfi);
     let mut count: u64 = 0;
     while count < budget {
-        let d = advance(&mut x, pc, hfi, mem);
+        let d = step(&mut x, pc, hfi, mem);
         pc = d.pc;
         hfi = d.hfi;
         if d.stop != 0 {
@@ -64,17 +65,17 @@ fn run_steps(m: Machine, mem: &mut [u8], budget: u64) -> Ran
 }
 
 // A run of any machine over any memory, with any budget.
-pub fn run(m: Machine, mem: &mut [u8], budget: u64) -> Ran
-    ensures { λ r. ⌜ answer r (now (mem .exit)) ≡ runCall m (now (mem .entry)) budget ⌝ }
+pub fn run_call(m: Machine, mem: &mut [u8], budget: u64) -> Ran
+    ensures { λ r. ⌜ ranWith r (now (mem .exit)) ≡ runCall m (now (mem .entry)) budget ⌝ }
 {
-    if 16777216 < mem.len() {
+    if LONGEST < mem.len() {
         return refused(1, m);
     }
-    if 1000000 < budget {
+    if LARGEST_BUDGET < budget {
         return refused(2, m);
     }
     if !well_formed(m) {
         return refused(3, m);
     }
-    run_steps(m, mem, budget)
+    run(m, mem, budget)
 }

@@ -1,17 +1,18 @@
 // The calls by value: a step, and resuming after a system call.
 ghost use mathlib.Core.Path.{_≡_};
-ghost use Rattle.model.specs.Step.{step as stepOf, resume as resumeOf};
-ghost use Rattle.hfi.specs.Did.{after};
-use crate::execute::advance;
-use memory::well_formed::well_formed;
+ghost use Rattle.model.specs.Step.{stepCall, resumeCall};
+ghost use Rattle.model.specs.Outcome.{steppedWith};
+use crate::step;
+use hart::well_formed::well_formed;
+use model::LONGEST;
 use model::Machine;
 use model::Stepped;
 
 // One step of any machine over any memory.
-pub fn step(m: Machine, mem: &mut [u8]) -> Stepped
-    ensures { λ r. ⌜ after r (now (mem .exit)) ≡ stepOf m (now (mem .entry)) ⌝ }
+pub fn step_call(m: Machine, mem: &mut [u8]) -> Stepped
+    ensures { λ r. ⌜ steppedWith r (now (mem .exit)) ≡ stepCall m (now (mem .entry)) ⌝ }
 {
-    if 16777216 < mem.len() {
+    if LONGEST < mem.len() {
         return Stepped {
             stop: 1,
             address: 0,
@@ -27,23 +28,23 @@ pub fn step(m: Machine, mem: &mut [u8]) -> Stepped
     }
     let mut x = m.x;
     let hfi = m.hfi;
-    let d = advance(&mut x, m.pc, hfi, mem);
-    let left = d.hfi;
+    let e = step(&mut x, m.pc, hfi, mem);
+    let after = e.hfi;
     let n = Machine {
         x: x,
-        pc: d.pc,
-        hfi: left,
+        pc: e.pc,
+        hfi: after,
     };
     Stepped {
-        stop: d.stop,
-        address: d.address,
+        stop: e.stop,
+        address: e.address,
         machine: n,
     }
 }
 
 // `v` in x10, and pc past the word that it stands at.
-pub fn resume(m: Machine, v: u64) -> Stepped
-    ensures { λ r. ⌜ r ≡ resumeOf m v ⌝ }
+pub fn resume_call(m: Machine, v: u64) -> Stepped
+    ensures { λ r. ⌜ r ≡ resumeCall m v ⌝ }
 {
     if !well_formed(m) {
         return Stepped {

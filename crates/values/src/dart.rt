@@ -30,7 +30,7 @@ fn fill(r: &[u8], mem: &mut [u8; 2097152]) {
 
 // An array's type says its length, so whoever lends one owes no proof of it.
 fn run_in(m: Machine, mem: &mut [u8; 2097152], budget: u64) -> Ran {
-    run::run(m, mem, budget)
+    run::run_call(m, mem, budget)
 }
 
 fn print_end(o: Ran) {

@@ -32,7 +32,7 @@ fn fill(r: &[u8], mem: &mut [u8; 65536]) {
 
 // An array's type says its length, so whoever lends one owes no proof of it.
 fn run_in(m: Machine, mem: &mut [u8; 65536], budget: u64) -> Ran {
-    run::run(m, mem, budget)
+    run::run_call(m, mem, budget)
 }
 
 fn print_end(o: Ran) {

@@ -20,8 +20,8 @@ wrapping-sub-u64-requires c κs = search needs
 enum-told-3 : tie.Need-enum-told-3
 enum-told-3 c = search needs
 
-shift-left-requires : tie.Need-shift-left-requires
-shift-left-requires c κs = search needs
+shl-result : tie.Need-shl-result
+shl-result c = search needs
 
 enum-told-4 : tie.Need-enum-told-4
 enum-told-4 c = search needs
@@ -44,14 +44,14 @@ enum-told-6 c = search needs
 enum-told-7 : tie.Need-enum-told-7
 enum-told-7 c = search needs
 
-shift-right-requires : tie.Need-shift-right-requires
-shift-right-requires c κs = search needs
+shr-result : tie.Need-shr-result
+shr-result c = search needs
 
 enum-told-8 : tie.Need-enum-told-8
 enum-told-8 c = search needs
 
-shift-right-sign-requires : tie.Need-shift-right-sign-requires
-shift-right-sign-requires c κs = search needs
+shift-right-signed-requires : tie.Need-shift-right-signed-requires
+shift-right-signed-requires c κs = search needs
 
 enum-told-9 : tie.Need-enum-told-9
 enum-told-9 c = search needs
@@ -63,13 +63,13 @@ returns : tie.Need-returns
 returns c = rw (c .before .enum-told .given .1, c .wrapping-add-u64 .ensures)
 
 returns-2 : tie.Need-returns-2
-returns-2 c =
+returns-2 c = 
     let a = c .before .before .before .args in
     let e : c .wrapping-sub-u64 .result ≡ (a .a + (2 ^ 64 - a .b)) % 2 ^ 64 = omega arith in
     rw (c .before .enum-told2 .given .1, e)
 
 returns-3 : tie.Need-returns-3
-returns-3 c = rw (c .before .enum-told3 .given .1, c .shift-left .ensures)
+returns-3 c = rw (c .enum-told3 .given .1)
 
 returns-4 : tie.Need-returns-4
 returns-4 c = rw (c .before .before .enum-told4 .given .1, c .flag .ensures, c .before .signed-less .ensures)
@@ -81,10 +81,10 @@ returns-6 : tie.Need-returns-6
 returns-6 c = rw (c .enum-told6 .given .1)
 
 returns-7 : tie.Need-returns-7
-returns-7 c = rw (c .before .enum-told7 .given .1, c .shift-right .ensures)
+returns-7 c = rw (c .enum-told7 .given .1)
 
 returns-8 : tie.Need-returns-8
-returns-8 c = rw (c .before .enum-told8 .given .1, c .shift-right-sign .ensures)
+returns-8 c = rw (c .before .enum-told8 .given .1, c .shift-right-signed .ensures)
 
 returns-9 : tie.Need-returns-9
 returns-9 c = rw (c .enum-told9 .given .1)
@@ -101,7 +101,7 @@ operate-spec =
     enum-told-2
     wrapping-sub-u64-requires
     enum-told-3
-    shift-left-requires
+    shl-result
     enum-told-4
     signed-less-requires
     flag-requires
@@ -109,9 +109,9 @@ operate-spec =
     flag-requires-2
     enum-told-6
     enum-told-7
-    shift-right-requires
+    shr-result
     enum-told-8
-    shift-right-sign-requires
+    shift-right-signed-requires
     enum-told-9
     enum-told-10
     returns

@@ -37,8 +37,8 @@ setup-values-requires c κs = search needs
 machine-of-requires : tie.Need-machine-of-requires
 machine-of-requires c κs = search needs
 
-run-requires : tie.Need-run-requires
-run-requires c κs = search needs
+run-call-requires : tie.Need-run-call-requires
+run-call-requires c κs = search needs
 
 put-answer-requires : tie.Need-put-answer-requires
 put-answer-requires c κs = search needs
@@ -74,7 +74,7 @@ respond-over-spec =
     line-at-requires
     setup-values-requires
     machine-of-requires
-    run-requires
+    run-call-requires
     put-answer-requires
     same-length-2
     returns-2)

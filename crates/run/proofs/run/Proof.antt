@@ -1,55 +1,106 @@
-use mathlib.Core.Path.{_∙_, sym}
-use borrow.Author.Tests.{lt-ltb, le-ltb, not-true, not-false}
-use Rattle.model.specs.Run.{runCall}
+use mathlib.Core.Path.{_≡_, refl, ap, _∙_}
+use Prim.Native.Nat.{_-_, _≤_}
+use native.Mathlib.Omega.{arith}
+use lib.ListN.{length}
 use borrow.Author.Needs.{needs}
+use Rattle.model.specs.Machine.{machine}
+use Rattle.model.specs.Run.{run}
+use Rattle.run.proofs.Loop.{spent, stopped, left, onward}
 use Rattle.run.proofs.run.Statement.{statement}
 use Rattle.run.proofs.run.Tie as tie
 
-refused-requires : tie.Need-refused-requires
-refused-requires c κs = search needs
+abbrev Inv-loop : tie.InvT-loop
+Inv-loop mem₀ budget x₀ pc₀ hfi₀ began count₀ mem x pc hfi count =
+    (count ≤ budget) × (length mem ≡ length mem₀) × (run began (budget - count) count (machine x pc hfi) mem ≡ run began budget 0 (machine x₀ pc₀ hfi₀) mem₀)
 
-returns : tie.Need-returns
-unfolding runCall
-returns c = simp (c .refused .ensures, lt-ltb _ _ (c .before .if1 .taken))
+abbrev μ-loop : tie.MeasureT-loop
+μ-loop mem₀ budget x₀ pc₀ hfi₀ began count₀ mem x pc hfi count = budget - count
 
-refused-requires-2 : tie.Need-refused-requires-2
-refused-requires-2 c κs = search needs
+inside-requires : tie.Need-inside-requires Inv-loop μ-loop
+inside-requires c κs = search needs
 
-returns-2 : tie.Need-returns-2
-unfolding runCall
-returns-2 c = simp (c .refused2 .ensures, le-ltb _ _ (c .before .before .if1 .left), lt-ltb _ _ (c .before .if2 .taken))
+loop-holds : tie.Need-loop-holds Inv-loop μ-loop
+loop-holds c = (search needs, refl, ap (λ n. run (c .inside .result) n 0 (c .before .before .before .before .args .m) (c .before .before .before .before .args .mem .now)) (omega arith))
 
-well-formed-requires : tie.Need-well-formed-requires
-well-formed-requires c κs = search needs
+step-requires : tie.Need-step-requires Inv-loop μ-loop
+step-requires c κs = search needs
 
-refused-requires-3 : tie.Need-refused-requires-3
-refused-requires-3 c κs = search needs
+ended-requires : tie.Need-ended-requires Inv-loop μ-loop
+ended-requires c κs = search needs
 
-returns-3 : tie.Need-returns-3
-unfolding runCall
-returns-3 c = simp (c .refused3 .ensures, le-ltb _ _ (c .before .before .before .before .if1 .left), le-ltb _ _ (c .before .before .before .if2 .left), sym (c .before .before .well-formed .ensures) ∙ not-true _ (c .before .if3 .taken))
-
-run-steps-requires : tie.Need-run-steps-requires
-run-steps-requires c κs = search needs
-
-same-length : tie.Need-same-length
+same-length : tie.Need-same-length Inv-loop μ-loop
 same-length c = search needs
 
-returns-4 : tie.Need-returns-4
-unfolding runCall
-returns-4 c = simp (le-ltb _ _ (c .before .before .before .before .before .before .before .if1 .left), le-ltb _ _ (c .before .before .before .before .before .before .if2 .left), sym (c .before .before .before .before .before .well-formed .ensures) ∙ not-false _ (c .before .before .before .before .if3 .left)) (c .before .before .run-steps .ensures)
+returns : tie.Need-returns Inv-loop μ-loop
+returns c =
+    let l = c .before .before .before .before .before .before .before .before .before .before .loop in
+    let a = c .before .before .before .before .before .before .before .before .before .before .before .before .before .before .before .args in
+    stopped _ (a .budget) (l .count) _ _ _ _ _ (c .before .before .before .before .before .before .before .before .before .loop-test .taken) (c .before .before .before .before .before .before .step .ensures) (c .ended .result) (c .before .if1 .taken) (c .ended .ensures)
+    ∙ l .inv .2 ∙ ap (λ t. run t (a .budget) 0 (a .m) (a .mem .now)) (c .before .before .before .before .before .before .before .before .before .before .before .inside .ensures)
+
+add-count : tie.Need-add-count Inv-loop μ-loop
+add-count c = search needs
+
+inside-requires-2 : tie.Need-inside-requires-2 Inv-loop μ-loop
+inside-requires-2 c κs = search needs
+
+ended-requires-2 : tie.Need-ended-requires-2 Inv-loop μ-loop
+ended-requires-2 c κs = search needs
+
+same-length-2 : tie.Need-same-length-2 Inv-loop μ-loop
+same-length-2 c = search needs
+
+returns-2 : tie.Need-returns-2 Inv-loop μ-loop
+returns-2 c =
+    let l = c .before .before .before .before .before .before .before .before .before .before .before .before .loop in
+    let a = c .before .before .before .before .before .before .before .before .before .before .before .before .before .before .before .before .before .args in
+    left _ (a .budget) (l .count) _ _ _ _ _ (c .before .before .before .before .before .before .before .before .before .before .before .loop-test .taken) (c .before .before .before .before .before .before .before .before .step .ensures) (c .ended2 .result) _ (c .before .before .before .if1 .left) (c .before .before .inside2 .ensures) (c .before .if2 .taken) (c .ended2 .ensures)
+    ∙ l .inv .2 ∙ ap (λ t. run t (a .budget) 0 (a .m) (a .mem .now)) (c .before .before .before .before .before .before .before .before .before .before .before .before .before .inside .ensures)
+
+loop-less : tie.Need-loop-less Inv-loop μ-loop
+loop-less c = search needs
+
+loop-again : tie.Need-loop-again Inv-loop μ-loop
+loop-again c =
+    let l = c .before .before .before .before .before .before .before .before .before .before .before .loop in
+    let a = c .before .before .before .before .before .before .before .before .before .before .before .before .before .before .before .before .args in (
+      search needs,
+      search needs,
+      onward _ (a .budget) (l .count) _ _ _ _ _ (c .before .before .before .before .before .before .before .before .before .before .loop-test .taken) (c .before .before .before .before .before .before .before .step .ensures) _ (c .before .before .if1 .left) (c .before .inside2 .ensures) (c .if2 .left) ∙ l .inv .2,
+    )
+
+ended-requires-3 : tie.Need-ended-requires-3 Inv-loop μ-loop
+ended-requires-3 c κs = search needs
+
+same-length-3 : tie.Need-same-length-3 Inv-loop μ-loop
+same-length-3 c = search needs
+
+returns-3 : tie.Need-returns-3 Inv-loop μ-loop
+returns-3 c =
+    let l = c .before .before .loop in
+    let a = c .before .before .before .before .before .before .before .args in
+    spent _ (a .budget) (l .count) _ _ (c .ended3 .result) (c .before .loop-test .left) (c .ended3 .ensures)
+    ∙ l .inv .2 ∙ ap (λ t. run t (a .budget) 0 (a .m) (a .mem .now)) (c .before .before .before .inside .ensures)
 
 pub run-spec : {M : Type 1} → statement M
 run-spec =
     tie.close
     (tie.spec
-    refused-requires
-    returns
-    refused-requires-2
-    returns-2
-    well-formed-requires
-    refused-requires-3
-    returns-3
-    run-steps-requires
+    Inv-loop
+    μ-loop
+    inside-requires
+    loop-holds
+    step-requires
+    ended-requires
     same-length
-    returns-4)
+    returns
+    add-count
+    inside-requires-2
+    ended-requires-2
+    same-length-2
+    returns-2
+    loop-less
+    loop-again
+    ended-requires-3
+    same-length-3
+    returns-3)

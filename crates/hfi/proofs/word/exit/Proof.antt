@@ -6,8 +6,8 @@ use Rattle.hfi.proofs.word.exit.Tie as tie
 bits-requires : tie.Need-bits-requires
 bits-requires c κs = search needs
 
-left-requires : tie.Need-left-requires
-left-requires c κs = search needs
+exited-requires : tie.Need-exited-requires
+exited-requires c κs = search needs
 
 completed-requires : tie.Need-completed-requires
 completed-requires c κs = search needs
@@ -16,13 +16,13 @@ returns : tie.Need-returns
 returns c = λ x mem.
     rw (
       c .completed .ensures,
-      c .before .left .ensures,
+      c .before .exited .ensures,
       ← c .before .before .before .bits .ensures,
       eq-eqb (c .before .before .before .bits .result) 1 (c .before .before .if1 .taken),
     )
 
-left-requires-2 : tie.Need-left-requires-2
-left-requires-2 c κs = search needs
+exited-requires-2 : tie.Need-exited-requires-2
+exited-requires-2 c κs = search needs
 
 completed-requires-2 : tie.Need-completed-requires-2
 completed-requires-2 c κs = search needs
@@ -31,7 +31,7 @@ returns-2 : tie.Need-returns-2
 returns-2 c = λ x mem.
     rw (
       c .completed2 .ensures,
-      c .before .left2 .ensures,
+      c .before .exited2 .ensures,
       ← c .before .before .before .bits .ensures,
       ne-eqb (c .before .before .before .bits .result) 1 (c .before .before .if1 .left),
     )
@@ -41,9 +41,9 @@ exit-spec =
     tie.close
     (tie.spec
     bits-requires
-    left-requires
+    exited-requires
     completed-requires
     returns
-    left-requires-2
+    exited-requires-2
     completed-requires-2
     returns-2)

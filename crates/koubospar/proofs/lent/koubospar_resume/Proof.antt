@@ -40,15 +40,15 @@ use denote.Triple.Table.{entered, cited}
 use denote.Triple.Walked.{says, Stays, stay-ref, stay-none, goes-none, walkOf, goes-ref, Walks, ends-at, walked, walk-meets}
 use Rattle.model.specs.declared.Machine.{Machine}
 use Rattle.model.specs.declared.Stepped.{Stepped}
-use Rattle.model.specs.Step.{resume as resumeOf}
+use Rattle.model.specs.Step.{resumeCall as resumeOf}
 use Rattle.model.proofs.Machine as T
 use Rattle.model.proofs.Machine.Laws as T′
 use Rattle.model.proofs.Stepped as S
 use Rattle.model.proofs.Stepped.Laws as S′
-use Rattle.step.proofs.call.resume as callee
-use Rattle.step.proofs.call.resume.Symbol as callee-def
-use Rattle.step.proofs.call.resume.Symbol.{name as #step·call·resume}
-use Rattle.step.proofs.call.resume.Met as callee-thm
+use Rattle.step.proofs.call.resume_call as callee
+use Rattle.step.proofs.call.resume_call.Symbol as callee-def
+use Rattle.step.proofs.call.resume_call.Symbol.{name as #step·call·resume-call}
+use Rattle.step.proofs.call.resume_call.Met as callee-thm
 use Rattle.koubospar.specs.declared.lent.Stop.{Stop}
 use Rattle.koubospar.proofs.lent.Stop as P
 use Rattle.koubospar.proofs.lent.Stop.Laws as P′
@@ -67,14 +67,14 @@ Callee 𝓤 H A mem run = tripleOf 𝓤 H A callee.signature (callee.spec 𝓤 H
 abbrev mach : Machine → Val
 mach = LL.val T.the-type T′.the-laws
 
-abbrev answer : Stepped → Stop
-answer r = record { stop = r .stop; address = r .address }
+abbrev shown : Stepped → Stop
+shown r = record { stop = r .stop; address = r .address }
 
 machine-is : (r : Stepped) (vs : List Val) → Is S.the-row r vs → Is T.the-row (r .machine) (mach (r .machine) ∷ [])
 machine-is r vs g = LL.owed S.the-type S′.the-laws r vs g .1 .1 .0
 
-answer-is : (r : Stepped) (vs : List Val) → Is S.the-row r vs → Is P.the-row (answer r) (LL.vals P.the-type P′.the-laws (answer r))
-answer-is r vs g = let f = LL.owed S.the-type S′.the-laws r vs g in LL.owes P.the-type P′.the-laws (answer r) (f .0, (f .1 .0, tt))
+shown-is : (r : Stepped) (vs : List Val) → Is S.the-row r vs → Is P.the-row (shown r) (LL.vals P.the-type P′.the-laws (shown r))
+shown-is r vs g = let f = LL.owed S.the-type S′.the-laws r vs g in LL.owes P.the-type P′.the-laws (shown r) (f .0, (f .1 .0, tt))
 
 module _ {M : Type 1} (𝓤 : URA M) (H : Heap 𝓤) (A : Atoms 𝓤) (W : Given 𝓤 H A) (at-mem : Memory → SProp 𝓤) (run : Routine → Fun 𝓤) (κ : Lft) (q : Share) (b o : ℕ) (γ : GName) (h : Machine) (n : ℕ) (n-fits : n < 2 ^ 64) where
   abbrev R : RattleType
@@ -108,15 +108,15 @@ module _ {M : Type 1} (𝓤 : URA M) (H : Heap 𝓤) (A : Atoms 𝓤) (W : Given
   said-of r = exE 𝓤 _ (λ ws. snd∗ 𝓤 (sem 𝓤 H A (lasts callee.ended tt (h, (n, tt)) ws)) (fact 𝓤 (said r)))
 
   exits : (r : Stepped) (vs : List Val) → Is S.the-row r vs → said r
-      → ent 𝓤 (⋆ 𝓤 H A (‵ (fobs γ (R .coded .code (r .machine))) ∷ ‵ (fbor κ (Body (mem R) b o γ)) ∷ ‵ (flft κ q) ∷ [])) (Post (LL.val P.the-type P′.the-laws (answer r)))
+      → ent 𝓤 (⋆ 𝓤 H A (‵ (fobs γ (R .coded .code (r .machine))) ∷ ‵ (fbor κ (Body (mem R) b o γ)) ∷ ‵ (flft κ q) ∷ [])) (Post (LL.val P.the-type P′.the-laws (shown r)))
   exits r vs is e =
       qed W (‵ (fobs γ (R .coded .code (r .machine))) ∷ ‵ (fbor κ (Body (mem R) b o γ)) ∷ ‵ (flft κ q) ∷ []) ∵
-      suffices ! _ (ends-at 𝓤 H A lent.ended stayed (lent.clauses 𝓤 H A at-mem run) W (((κ, tt), (q, tt), tt, a, vals), tt) (LL.val P.the-type P′.the-laws (answer r)) (answer r) (r .machine, (tt, tt)) (tt, (tt, tt))) $ says ! e $
+      suffices ! _ (ends-at 𝓤 H A lent.ended stayed (lent.clauses 𝓤 H A at-mem run) W (((κ, tt), (q, tt), tt, a, vals), tt) (LL.val P.the-type P′.the-laws (shown r)) (shown r) (r .machine, (tt, tt)) (tt, (tt, tt))) $ says ! e $
       nothing ! $ move ! (3 ∷ 0 ∷ []) $ join ! $ frame ! $ feqI ! (List Val) (vptr b o ∷ []) (vptr b o ∷ []) refl $ fjoin3 ! $
       nothing ! $ owned ! u64 (Is u64) (uint-makes 𝓤 H A W w64) n _ (refl, n-fits) $ fjoin ! $ move ! (1 ∷ 0 ∷ []) $ fjoin ! $
-      owned ! P.the-row (Is P.the-row) (LL.makes P.the-type P′.the-plain 𝓤 H A) (answer r) _ (answer-is r vs is) $ move ! (1 ∷ 0 ∷ []) $ done !
+      owned ! P.the-row (Is P.the-row) (LL.makes P.the-type P′.the-plain 𝓤 H A) (shown r) _ (shown-is r vs is) $ move ! (1 ∷ 0 ∷ []) $ done !
 
-  module _ (C : Calls 𝓤 H) (Λ : Loops 𝓤 H) (fm : FmC 𝓤 H (W .laws) C) (known : Triple 𝓤 (C #step·call·resume) (Callee 𝓤 H A at-mem run)) where
+  module _ (C : Calls 𝓤 H) (Λ : Loops 𝓤 H) (fm : FmC 𝓤 H (W .laws) C) (known : Triple 𝓤 (C #step·call·resume-call) (Callee 𝓤 H A at-mem run)) where
     walk : ent 𝓤 (onEntry 𝓤 H A lent.signature (κ, tt) (q, tt) a vals) (WpFn 𝓤 H C Λ code.function (vptr b o ∷ vint w64 n ∷ []) Post)
     walk =
         qed W ((‵ (flft κ q) ⊛ ‵ ftrue) ∷ ‵ (owns (MutRef (named 0) κ R ∷ u64 ∷ []) a vals) ∷ []) ∵ enter ! C Λ code.function (vptr b o ∷ vint w64 n ∷ []) _ $
@@ -134,11 +134,11 @@ module _ {M : Type 1} (𝓤 : URA M) (H : Heap 𝓤) (A : Atoms 𝓤) (W : Given
         use1 W (later (some (λ (r : Stepped). (‵ ftrue ⊛ ‵ (S.the-row .own r (w ∷ []))) ⊛ raw (ensured 𝓤 H A callee.ended (callee.clauses 𝓤 H A at-mem run) tt (h, (n, tt)) tt r)))) (id⊢ 𝓤 _) $ await ! tt $ pick ! (λ r.
         split ! $ move ! (1 ∷ []) $ use1 W (raw (fact 𝓤 (said r))) (said-of r) $ heard ! (said r) (λ e. split ! $ drop ! $
         peeks ! S.the-row (Is S.the-row) (shows 𝓤 H A S.the-row) r (w ∷ []) (λ is.
-        -- [what the answer owns; the machine's cell; …; _4 at 7; …; _3 at 9; …; _1 at 13; …; room for _0 at 15]
+        -- [what the shown owns; the machine's cell; …; _4 at 7; …; _3 at 9; …; _1 at 13; …; room for _0 at 15]
         land ! (from ! (stop !)) (init ! 9 refl (LL.lawful S.the-type S′.the-laws 𝓤 H A W .typed r _ is .0)) $
         rewrite ! 9 (λ (u : Val). ‵ (fat fullShare S′.mir l₃ 0 u)) (ap only (LL.tells S.the-type S′.the-laws r _ is)) refl $
         assigns ! (of-opd ! (load ! (from ! (fld ! refl (stop !))) (look-in ! 9 (sub ! 2 refl (whole !))))) (from ! (hop ! (look ! 13 refl) (stop !))) (store-raw ! 1 refl (LL.lawful T.the-type T′.the-laws 𝓤 H A W .typed (r .machine) _ (machine-is r _ is) .0)) $
-        assigns ! (agg ! (and-then ! (load ! (from ! (fld ! refl (stop !))) (look-in ! 9 (sub ! 0 refl (whole !)))) (and-then ! (load ! (from ! (fld ! refl (stop !))) (look-in ! 9 (sub ! 1 refl (whole !)))) (no-more !)))) (from ! (stop !)) (init ! 15 refl (LL.lawful P.the-type P′.the-laws 𝓤 H A W .typed (answer r) _ (answer-is r _ is) .0)) $
+        assigns ! (agg ! (and-then ! (load ! (from ! (fld ! refl (stop !))) (look-in ! 9 (sub ! 0 refl (whole !)))) (and-then ! (load ! (from ! (fld ! refl (stop !))) (look-in ! 9 (sub ! 1 refl (whole !)))) (no-more !)))) (from ! (stop !)) (init ! 15 refl (LL.lawful P.the-type P′.the-laws 𝓤 H A W .typed (shown r) _ (shown-is r _ is) .0)) $
         -- the borrow is closed at the new machine
         owned ! R (Is R) (LL.makes T.the-type T′.the-plain 𝓤 H A) (r .machine) _ (machine-is r _ is) $ move ! (2 ∷ 0 ∷ 4 ∷ 5 ∷ 6 ∷ []) $ closes ! tt R (r .machine) (mach (r .machine) ∷ []) b o $
         returns ! (look ! 14 refl) $ forget ! 6 refl $ forget ! 8 refl $ forget ! 10 refl $ forget ! 12 refl $ forget ! 14 refl $
@@ -146,12 +146,12 @@ module _ {M : Type 1} (𝓤 : URA M) (H : Heap 𝓤) (A : Atoms 𝓤) (W : Given
         keep ! (0 ∷ 1 ∷ 2 ∷ []) $ by ! (exits r _ is e))))))))))))
 
 module _ {M : Type 1} (𝓤 : URA M) (H : Heap 𝓤) (A : Atoms 𝓤) (W : Given 𝓤 H A) (at-mem : Memory → SProp 𝓤) (run : Routine → Fun 𝓤) where
-  lent-walks : (C : Calls 𝓤 H) (Λ : Loops 𝓤 H) → FmC 𝓤 H (W .laws) C → Triple 𝓤 (C #step·call·resume) (Callee 𝓤 H A at-mem run) → Walks 𝓤 H A lent.ended stayed (WpFn 𝓤 H C Λ code.function) (lent.clauses 𝓤 H A at-mem run)
+  lent-walks : (C : Calls 𝓤 H) (Λ : Loops 𝓤 H) → FmC 𝓤 H (W .laws) C → Triple 𝓤 (C #step·call·resume-call) (Callee 𝓤 H A at-mem run) → Walks 𝓤 H A lent.ended stayed (WpFn 𝓤 H C Λ code.function) (lent.clauses 𝓤 H A at-mem run)
   lent-walks C Λ fm known = walked 𝓤 H A lent.ended stayed (lent.clauses 𝓤 H A at-mem run) (WpFn 𝓤 H C Λ code.function)
       (λ κs. (ptr-vals, (uint-vals w64, tt))) (λ κs. (mut-tells (named 0) (κs .0) T.the-row, (uint-tells w64, tt)))
       (λ κs qs bounds a g are. via 𝓤 _ (fst∗ 𝓤 _ (emp 𝓤)) (walk 𝓤 H A W at-mem run (κs .0) (qs .0) (a .0 .ptr .0) (a .0 .ptr .1) (a .0 .name) (a .0 .now) (a .1 .0) (are .1 .0 .1) C Λ fm known))
 
-lent-meets : {M : Type 1} (𝓤 : URA M) (H : Heap 𝓤) (A : Atoms 𝓤) → Given 𝓤 H A → (at-mem : Memory → SProp 𝓤) (run : Routine → Fun 𝓤) (𝓣 : Tables 𝓤 H) → Triple 𝓤 (𝓣 .C #step·call·resume) (Callee 𝓤 H A at-mem run)
+lent-meets : {M : Type 1} (𝓤 : URA M) (H : Heap 𝓤) (A : Atoms 𝓤) → Given 𝓤 H A → (at-mem : Memory → SProp 𝓤) (run : Routine → Fun 𝓤) (𝓣 : Tables 𝓤 H) → Triple 𝓤 (𝓣 .C #step·call·resume-call) (Callee 𝓤 H A at-mem run)
     → Meets 𝓤 H A lent.signature (WpFn 𝓤 H (𝓣 .C) (𝓣 .Λ) code.function) (lent.spec 𝓤 H A at-mem run)
 lent-meets 𝓤 H A W at-mem run 𝓣 known =
     walk-meets 𝓤 H A lent.ended stayed W (goes-ref 𝓤 H A W 1 0 tt (plain (λ _. T.the-row)), (goes-none 𝓤 H A W 1 (λ _. u64) yes (λ κs x f. refl), tt)) (lent.clauses 𝓤 H A at-mem run)
@@ -163,4 +163,4 @@ koubospar-resume-spec 𝓤 H 𝓜 𝓖 𝓡 =
     entered 𝓤 H (tripleOf 𝓤 H (𝓖 .A) lent.signature (lent.spec 𝓤 H (𝓖 .A) (𝓜 .mem) (𝓡 .run)))
     (tables 𝓤 H 𝓜 𝓡 code.env .C) (tables 𝓤 H 𝓜 𝓡 code.env .Λ) #koubospar·lent·koubospar-resume code.function (code.unfolded 𝓤 H 𝓜 𝓡)
     (lent-meets 𝓤 H (𝓖 .A) (givenOf 𝓤 H 𝓜 𝓖) (𝓜 .mem) (𝓡 .run) (tablesOf 𝓤 H 𝓜 (tables 𝓤 H 𝓜 𝓡 code.env))
-    (cited 𝓤 H (Callee 𝓤 H (𝓖 .A) (𝓜 .mem) (𝓡 .run)) 𝓜 𝓡 code.env #step·call·resume callee-def.routine code.calls-step·call·resume (callee-thm.met 𝓤 H 𝓜 𝓖 𝓡)))
+    (cited 𝓤 H (Callee 𝓤 H (𝓖 .A) (𝓜 .mem) (𝓡 .run)) 𝓜 𝓡 code.env #step·call·resume-call callee-def.routine code.calls-step·call·resume-call (callee-thm.met 𝓤 H 𝓜 𝓖 𝓡)))

@@ -1,7 +1,8 @@
 use mathlib.Core.List.{[], _∷_}
+use Rattle.model.specs.Regions.{firstMatch}
 use Rattle.model.specs.Access.{implicitAccess}
 use Rattle.model.specs.Bytes.{byteOf}
-use Rattle.memory.proofs.Loops.{one-refused, one-blamed, refused-verdict, granted-verdict}
+use Rattle.memory.proofs.Loops.{alone-refused, first-blamed, refused-verdict, granted-verdict}
 use borrow.Author.Needs.{needs}
 use Rattle.memory.proofs.access.check_implicit.Statement.{statement}
 use Rattle.memory.proofs.access.check_implicit.Tie as tie
@@ -30,19 +31,20 @@ returns c =
     let a = s .args in
     let refused = c .before .before .before .before .first-refused-implicit in
     let at = c .before .before .wrapping-add-u64 in
-    refused-verdict (a .mode) (a .len) (implicitAccess (a .t2) (a .number ∷ []) (a .permission) (a .a) (a .n))
-    (one-refused (a .mode) (a .t2) (a .number) (a .permission) (a .a) (a .n) (s .pre .0) (refused .ensures)) (c .before .before .before .if1 .taken) (at .ensures)
-    (one-blamed (a .t2) (a .number) (byteOf (a .a) (refused .result)) (c .before .matches .ensures) (at .ensures) (c .if2 .taken))
+    refused-verdict (a .mode) (a .len) (implicitAccess (a .t2) (a .number ∷ []) (a .wanted) (a .a) (a .n))
+    (alone-refused (a .mode) (a .t2) (a .number) (a .wanted) (a .a) (a .n) (s .pre .0) (refused .ensures)) (c .before .before .before .if1 .taken) (at .ensures)
+    (first-blamed (a .t2) (a .number) [] (byteOf (a .a) (refused .result)) (c .before .matches .ensures) (at .ensures) (c .if2 .taken))
 
 returns-2 : tie.Need-returns-2
+unfolding firstMatch
 returns-2 c =
     let s = c .before .before .before .before .before .before in
     let a = s .args in
     let refused = c .before .before .before .before .first-refused-implicit in
     let at = c .before .before .wrapping-add-u64 in
-    refused-verdict (a .mode) (a .len) (implicitAccess (a .t2) (a .number ∷ []) (a .permission) (a .a) (a .n))
-    (one-refused (a .mode) (a .t2) (a .number) (a .permission) (a .a) (a .n) (s .pre .0) (refused .ensures)) (c .before .before .before .if1 .taken) (at .ensures)
-    (one-blamed (a .t2) (a .number) (byteOf (a .a) (refused .result)) (c .before .matches .ensures) (at .ensures) (c .if2 .left))
+    refused-verdict (a .mode) (a .len) (implicitAccess (a .t2) (a .number ∷ []) (a .wanted) (a .a) (a .n))
+    (alone-refused (a .mode) (a .t2) (a .number) (a .wanted) (a .a) (a .n) (s .pre .0) (refused .ensures)) (c .before .before .before .if1 .taken) (at .ensures)
+    (first-blamed (a .t2) (a .number) [] (byteOf (a .a) (refused .result)) (c .before .matches .ensures) (at .ensures) (c .if2 .left))
 
 presence-requires : tie.Need-presence-requires
 presence-requires c κs = search needs
@@ -52,8 +54,8 @@ returns-3 c =
     let s = c .before .before .before .before in
     let a = s .args in
     let refused = c .before .before .first-refused-implicit in
-    granted-verdict (a .mode) (a .len) (implicitAccess (a .t2) (a .number ∷ []) (a .permission) (a .a) (a .n))
-    (one-refused (a .mode) (a .t2) (a .number) (a .permission) (a .a) (a .n) (s .pre .0) (refused .ensures)) (c .before .if1 .left) (c .presence .ensures)
+    granted-verdict (a .mode) (a .len) (implicitAccess (a .t2) (a .number ∷ []) (a .wanted) (a .a) (a .n))
+    (alone-refused (a .mode) (a .t2) (a .number) (a .wanted) (a .a) (a .n) (s .pre .0) (refused .ensures)) (c .before .if1 .left) (c .presence .ensures)
 
 pub check-implicit-spec : {M : Type 1} → statement M
 check-implicit-spec =

@@ -14,12 +14,12 @@ use Rattle.memory.proofs.access.first_refused_explicit.Statement.{state
 use Rattle.memory.proofs.access.first_refused_explicit.Tie as tie
 
 abbrev Inv-loop : tie.InvT-loop
-Inv-loop mode r permission offset n ok i₀ i =
-    scan (λ k. cond (eqb mode 0) true (explicitGrants r permission (signed 64 offset) k)) i (n - i)
-    ≡ explicitRefused mode r permission offset n
+Inv-loop mode r wanted offset n ok i₀ i =
+    scan (λ k. cond (eqb mode 0) true (explicitGrants r wanted (signed 64 offset) k)) i (n - i)
+    ≡ explicitRefused mode r wanted offset n
 
 abbrev μ-loop : tie.MeasureT-loop
-μ-loop mode r permission offset n ok i₀ i = n - i
+μ-loop mode r wanted offset n ok i₀ i = n - i
 
 explicit-rule-requires : tie.Need-explicit-rule-requires Inv-loop μ-loop
 explicit-rule-requires c κs = search needs
@@ -48,7 +48,7 @@ loop-again c =
     let sum = c .before .before .wrapping-add-u64 in
     let fits : args .offset < 2 ^ 64 = search needs in
     let short : at .i < 8 = search needs in
-    let ok = explicit-asked (args .mode) (args .r) (args .permission) (args .offset) (at .i) (rule .ensures) (permitted .ensures) (sum .ensures) fits short in
+    let ok = explicit-asked (args .mode) (args .r) (args .wanted) (args .offset) (at .i) (rule .ensures) (permitted .ensures) (sum .ensures) fits short in
     sym (scan-next _ _ _ (c .before .before .before .if1 .left) (sym ok ∙ not-false _ (c .if2 .left))) ∙ at .inv
 
 returns : tie.Need-returns Inv-loop μ-loop
@@ -63,7 +63,7 @@ returns-2 c =
     let sum = c .before .before .wrapping-add-u64 in
     let fits : args .offset < 2 ^ 64 = search needs in
     let short : at .i < 8 = search needs in
-    let ok = explicit-asked (args .mode) (args .r) (args .permission) (args .offset) (at .i) (rule .ensures) (permitted .ensures) (sum .ensures) fits short in
+    let ok = explicit-asked (args .mode) (args .r) (args .wanted) (args .offset) (at .i) (rule .ensures) (permitted .ensures) (sum .ensures) fits short in
     sym (scan-here _ _ _ (c .before .before .before .if1 .left) (sym ok ∙ not-true _ (c .if2 .taken))) ∙ at .inv
 
 pub first-refused-explicit-spec : {M : Type 1} → statement M

@@ -1,5 +1,5 @@
 use mathlib.Core.Path.{_≡_, sym, _∙_}
-use mathlib.Core.Bool.{true, cond, _&&_}
+use mathlib.Core.Bool.{true, false, cond}
 use Prim.Native.Nat.{_-_}
 use borrow.Author.Needs.{needs}
 use borrow.Author.Tests.{not-true, not-false}
@@ -14,12 +14,12 @@ use Rattle.memory.proofs.access.first_refused_implicit.Statement.{state
 use Rattle.memory.proofs.access.first_refused_implicit.Tie as tie
 
 abbrev Inv-loop : tie.InvT-loop
-Inv-loop mode r permission a n ok i₀ i =
-    scan (λ k. cond (eqb mode 0) true (matches r (byteOf a k) && permits permission r)) i (n - i)
-    ≡ implicitRefused mode r permission a n
+Inv-loop mode r wanted a n ok i₀ i =
+    scan (λ k. cond (eqb mode 0) true (cond (matches r (byteOf a k)) (permits wanted r) false)) i (n - i)
+    ≡ implicitRefused mode r wanted a n
 
 abbrev μ-loop : tie.MeasureT-loop
-μ-loop mode r permission a n ok i₀ i = n - i
+μ-loop mode r wanted a n ok i₀ i = n - i
 
 implicit-rule-requires : tie.Need-implicit-rule-requires Inv-loop μ-loop
 implicit-rule-requires c κs = search needs
@@ -46,7 +46,7 @@ loop-again c =
     let permitted = c .before .before .before .before .before .before .permits in
     let at = c .before .before .before .before .before .loop in
     let sum = c .before .before .before .wrapping-add-u64 in
-    let ok = implicit-asked (args .mode) (args .r) (args .permission) (args .a) (at .i) (rule .ensures) (permitted .ensures) (sum .ensures) in
+    let ok = implicit-asked (args .mode) (args .r) (args .wanted) (args .a) (at .i) (rule .ensures) (permitted .ensures) (sum .ensures) in
     sym (scan-next _ _ _ (c .before .before .before .before .if1 .left) (sym ok ∙ not-false _ (c .if2 .left))) ∙ at .inv
 
 returns : tie.Need-returns Inv-loop μ-loop
@@ -59,7 +59,7 @@ returns-2 c =
     let permitted = c .before .before .before .before .before .before .permits in
     let at = c .before .before .before .before .before .loop in
     let sum = c .before .before .before .wrapping-add-u64 in
-    let ok = implicit-asked (args .mode) (args .r) (args .permission) (args .a) (at .i) (rule .ensures) (permitted .ensures) (sum .ensures) in
+    let ok = implicit-asked (args .mode) (args .r) (args .wanted) (args .a) (at .i) (rule .ensures) (permitted .ensures) (sum .ensures) in
     sym (scan-here _ _ _ (c .before .before .before .before .if1 .left) (sym ok ∙ not-true _ (c .if2 .taken))) ∙ at .inv
 
 pub first-refused-implicit-spec : {M : Type 1} → statement M

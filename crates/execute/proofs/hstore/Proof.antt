@@ -1,0 +1,54 @@
+use mathlib.Core.Path.{_∙_}
+use borrow.Author.Tests.{not-true, not-false}
+use Rattle.model.specs.Step.{perform}
+use Rattle.model.specs.Hfi.{hWordStop}
+use Rattle.model.specs.Outcome.{allowed}
+use Rattle.model.specs.Machine.{inside}
+use borrow.Author.Needs.{needs}
+use Rattle.execute.proofs.hstore.Statement.{statement}
+use Rattle.execute.proofs.hstore.Tie as tie
+
+inside-requires : tie.Need-inside-requires
+inside-requires c κs = search needs
+
+stopped-requires : tie.Need-stopped-requires
+stopped-requires c κs = search needs
+
+returns : tie.Need-returns
+unfolding perform allowed hWordStop
+returns c = λ rs1.
+    rw (
+      c .stopped .ensures,
+      ← c .before .before .inside .ensures,
+      not-true (c .before .before .inside .result) (c .before .if1 .taken),
+    )
+
+register-requires : tie.Need-register-requires
+register-requires c κs = search needs
+
+hstore-requires : tie.Need-hstore-requires
+hstore-requires c κs = search needs
+
+same-length : tie.Need-same-length
+same-length c = search needs
+
+returns-2 : tie.Need-returns-2
+unfolding perform allowed hWordStop
+returns-2 c = λ rs1.
+    c .before .before .hstore .ensures (c .before .before .before .before .before .before .before .before .args .x .now) ∙ rw (
+      ← c .before .before .before .before .before .before .inside .ensures,
+      not-false (c .before .before .before .before .before .before .inside .result) (c .before .before .before .before .before .if1 .left),
+      c .before .before .before .register .ensures,
+    )
+
+pub hstore-spec : {M : Type 1} → statement M
+hstore-spec =
+    tie.close
+    (tie.spec
+    inside-requires
+    stopped-requires
+    returns
+    register-requires
+    hstore-requires
+    same-length
+    returns-2)

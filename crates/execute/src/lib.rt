@@ -1,0 +1,249 @@
+// The instructions by their groups, and a dispatcher that only calls. An instruction that only computes is a value of
+// `arithmetic`, written back.
+ghost use mathlib.Core.Path.{_≡_};
+ghost use mathlib.Core.List.{List};
+ghost use mathlib.Core.Bool.{true};
+ghost use Prim.Native.Nat.{ℕ, _<_};
+ghost use Rattle.instructions.specs.Encode.{inRange};
+ghost use Rattle.instructions.specs.declared.instruction.Instruction.the-variants.{Upper, Branch, Load, Store, System, HLoad, HStore};
+ghost use Rattle.model.specs.Machine.{machine};
+ghost use Rattle.model.specs.Step.{perform};
+ghost use Rattle.hart.specs.Effect.{effectWith};
+use arithmetic::jalr_target;
+use arithmetic::of_immediate;
+use arithmetic::of_shift;
+use arithmetic::of_shift_word;
+use arithmetic::operate;
+use arithmetic::operate_word;
+use arithmetic::taken;
+use hart::effect::Effect;
+use hart::effect::completed;
+use hart::effect::jump;
+use hart::effect::register;
+use hart::effect::stopped;
+use hart::effect::write_back;
+use hart::state::exited;
+use hart::state::inside;
+use hart::state::redirects_calls;
+use hfi::word::hfi_word;
+use instructions::instruction::Instruction;
+use instructions::kind::BranchKind;
+use instructions::kind::LoadKind;
+use instructions::kind::RegisterWordKind;
+use instructions::kind::StoreKind;
+use instructions::kind::SystemKind;
+use instructions::kind::UpperKind;
+use model::HfiState;
+use std::num::wrapping_add_u64;
+
+fn upper(
+    x: &mut [u64; 32],
+    pc: u64,
+    hfi: HfiState,
+    next: u64,
+    k: UpperKind,
+    rd: u64,
+    imm: u64,
+) -> Effect
+    requires { ⌜ rd < 32 ⌝ }
+    ensures { λ r. ⌜ ((mem : List ℕ) → effectWith r (now (x .exit)) mem ≡ perform (machine (now (x .entry)) pc hfi) mem next (Upper k rd imm)) ⌝ }
+{
+    let v = match k {
+        UpperKind::Lui => imm,
+        UpperKind::Auipc => wrapping_add_u64(pc, imm),
+    };
+    write_back(x, hfi, next, rd, v)
+}
+
+// A taken branch is a jump without a link: x0 takes none.
+fn branch(
+    x: &mut [u64; 32],
+    pc: u64,
+    hfi: HfiState,
+    next: u64,
+    k: BranchKind,
+    rs1: u64,
+    rs2: u64,
+    offset: u64,
+) -> Effect
+    requires { ⌜ (rs1 < 32) × (rs2 < 32) ⌝ }
+    ensures { λ r. ⌜ ((mem : List ℕ) → effectWith r (now (x .exit)) mem ≡ perform (machine (now (x .entry)) pc hfi) mem next (Branch k rs1 rs2 offset)) ⌝ }
+{
+    if !taken(k, register(x, rs1), register(x, rs2)) {
+        return completed(next, hfi);
+    }
+    jump(x, pc, hfi, next, 0, wrapping_add_u64(pc, offset))
+}
+
+// ECALL, which HFI may redirect to the handler, and EBREAK.
+fn system(pc: u64, hfi: HfiState, k: SystemKind) -> Effect
+    ensures { λ r. ⌜ ((x : List ℕ) (mem : List ℕ) (next : ℕ) → effectWith r x mem ≡ perform (machine x pc hfi) mem next (System k)) ⌝ }
+{
+    match k {
+        SystemKind::Ecall => {
+            if redirects_calls(hfi) {
+                completed(hfi.handler, exited(hfi, 2, pc))
+            } else {
+                stopped(18, pc, hfi)
+            }
+        }
+        SystemKind::Ebreak => stopped(19, pc, hfi),
+    }
+}
+
+fn load(
+    x: &mut [u64; 32],
+    pc: u64,
+    hfi: HfiState,
+    mem: &[u8],
+    next: u64,
+    k: LoadKind,
+    rd: u64,
+    rs1: u64,
+    imm: u64,
+) -> Effect
+    requires { ⌜ (rd < 32) × (rs1 < 32) ⌝ }
+    ensures { λ r. ⌜ effectWith r (now (x .exit)) (now (mem .entry)) ≡ perform (machine (now (x .entry)) pc hfi) (now (mem .entry)) next (Load k rd rs1 imm) ⌝ }
+{
+    let a = wrapping_add_u64(register(x, rs1), imm);
+    load_store::load(x, pc, hfi, mem, next, k, rd, a)
+}
+
+fn store(
+    x: &[u64; 32],
+    pc: u64,
+    hfi: HfiState,
+    mem: &mut [u8],
+    next: u64,
+    k: StoreKind,
+    rs1: u64,
+    rs2: u64,
+    imm: u64,
+) -> Effect
+    requires { ⌜ (rs1 < 32) × (rs2 < 32) ⌝ }
+    ensures { λ r. ⌜ effectWith r (now (x .entry)) (now (mem .exit)) ≡ perform (machine (now (x .entry)) pc hfi) (now (mem .entry)) next (Store k rs1 rs2 imm) ⌝ }
+{
+    let a = wrapping_add_u64(register(x, rs1), imm);
+    load_store::store(pc, hfi, mem, next, k, register(x, rs2), a)
+}
+
+fn hload(
+    x: &mut [u64; 32],
+    pc: u64,
+    hfi: HfiState,
+    mem: &[u8],
+    next: u64,
+    k: LoadKind,
+    rd: u64,
+    imm: u64,
+) -> Effect
+    requires { ⌜ rd < 32 ⌝ }
+    ensures { λ r. ⌜ ((rs1 : ℕ) → effectWith r (now (x .exit)) (now (mem .entry)) ≡ perform (machine (now (x .entry)) pc hfi) (now (mem .entry)) next (HLoad k rd rs1 imm)) ⌝ }
+{
+    if !inside(hfi) {
+        return stopped(14, pc, hfi);
+    }
+    load_store::hload(x, pc, hfi, mem, next, k, rd, imm)
+}
+
+fn hstore(
+    x: &[u64; 32],
+    pc: u64,
+    hfi: HfiState,
+    mem: &mut [u8],
+    next: u64,
+    k: StoreKind,
+    rs2: u64,
+    imm: u64,
+) -> Effect
+    requires { ⌜ rs2 < 32 ⌝ }
+    ensures { λ r. ⌜ ((rs1 : ℕ) → effectWith r (now (x .entry)) (now (mem .exit)) ≡ perform (machine (now (x .entry)) pc hfi) (now (mem .entry)) next (HStore k rs1 rs2 imm)) ⌝ }
+{
+    if !inside(hfi) {
+        return stopped(14, pc, hfi);
+    }
+    load_store::hstore(pc, hfi, mem, next, k, register(x, rs2), imm)
+}
+
+// One instruction; `next` is the pc after it.
+pub fn execute(
+    x: &mut [u64; 32],
+    pc: u64,
+    hfi: HfiState,
+    mem: &mut [u8],
+    next: u64,
+    i: Instruction,
+) -> Effect
+    requires { ⌜ inRange i ≡ true ⌝ }
+    ensures { λ r. ⌜ effectWith r (now (x .exit)) (now (mem .exit)) ≡ perform (machine (now (x .entry)) pc hfi) (now (mem .entry)) next i ⌝ }
+{
+    match i {
+        Instruction::Upper(k, rd, imm) => upper(x, pc, hfi, next, k, rd, imm),
+        Instruction::Jal(rd, offset) => jump(x, pc, hfi, next, rd, wrapping_add_u64(pc, offset)),
+        Instruction::Jalr(rd, rs1, imm) => {
+            jump(x, pc, hfi, next, rd, jalr_target(register(x, rs1), imm))
+        }
+        Instruction::Branch(k, rs1, rs2, offset) => branch(x, pc, hfi, next, k, rs1, rs2, offset),
+        Instruction::Load(k, rd, rs1, imm) => load(x, pc, hfi, mem, next, k, rd, rs1, imm),
+        Instruction::Store(k, rs1, rs2, imm) => store(x, pc, hfi, mem, next, k, rs1, rs2, imm),
+        Instruction::Immediate(k, rd, rs1, imm) => {
+            write_back(
+                x,
+                hfi,
+                next,
+                rd,
+                operate(of_immediate(k), register(x, rs1), imm),
+            )
+        }
+        Instruction::Shift(k, rd, rs1, amount) => {
+            write_back(
+                x,
+                hfi,
+                next,
+                rd,
+                operate(of_shift(k), register(x, rs1), amount),
+            )
+        }
+        Instruction::Addiw(rd, rs1, imm) => {
+            write_back(
+                x,
+                hfi,
+                next,
+                rd,
+                operate_word(RegisterWordKind::Addw, register(x, rs1), imm),
+            )
+        }
+        Instruction::ShiftWord(k, rd, rs1, amount) => {
+            write_back(
+                x,
+                hfi,
+                next,
+                rd,
+                operate_word(of_shift_word(k), register(x, rs1), amount),
+            )
+        }
+        Instruction::Register(k, rd, rs1, rs2) => {
+            write_back(
+                x,
+                hfi,
+                next,
+                rd,
+                operate(k, register(x, rs1), register(x, rs2)),
+            )
+        }
+        Instruction::RegisterWord(k, rd, rs1, rs2) => {
+            write_back(
+                x,
+                hfi,
+                next,
+                rd,
+                operate_word(k, register(x, rs1), register(x, rs2)),
+            )
+        }
+        Instruction::Fence(_, _, _, _, _) => completed(next, hfi),
+        Instruction::System(k) => system(pc, hfi, k),
+        Instruction::HLoad(k, rd, _, imm) => hload(x, pc, hfi, mem, next, k, rd, imm),
+        Instruction::HStore(k, _, rs2, imm) => hstore(x, pc, hfi, mem, next, k, rs2, imm),
+        Instruction::Hfi(k, rd, rs1, rs2) => hfi_word(x, pc, hfi, next, k, rd, rs1, rs2),
+    }
+}

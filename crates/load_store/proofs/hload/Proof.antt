@@ -1,0 +1,54 @@
+use mathlib.Core.Path.{_∙_}
+use lib.IntN.{pos, _+ℤ_}
+use lib.Dec.{lit<}
+use lib.ListN.{length}
+use Rattle.words.specs.Word.{signed}
+use Rattle.model.specs.Step.{load}
+use Rattle.model.specs.Access.{explicitAccess, loadWidth}
+use Rattle.model.specs.Regions.{read}
+use Rattle.model.specs.Machine.{region}
+use Rattle.arithmetic.proofs.Word.{word-lt}
+use Rattle.memory.proofs.Widths.{load-is-width, width-bounds}
+use Rattle.memory.proofs.Fits.{passed-fits}
+use borrow.Author.Needs.{needs}
+use Rattle.load_store.proofs.hload.Statement.{statement}
+use Rattle.load_store.proofs.hload.Tie as tie
+
+load-width-requires : tie.Need-load-width-requires
+load-width-requires c κs = search needs
+
+check-explicit-requires : tie.Need-check-explicit-requires
+check-explicit-requires c κs = (lit< tt, rw (c .load-width .ensures) (width-bounds _ (load-is-width (c .before .before .before .args .k)) .1))
+
+explicit-address-requires : tie.Need-explicit-address-requires
+explicit-address-requires c κs = search needs
+
+finish-load-requires : tie.Need-finish-load-requires
+finish-load-requires c κs =
+    let a = c .before .before .before .before .before .before .args in
+    let access = explicitAccess (a .hfi .regions) 1 read (signed 64 (a .offset)) (loadWidth (a .k)) in (
+      c .before .before .before .before .before .before .pre,
+      rw (c .before .explicit-address .ensures)
+          (passed-fits (a .hfi .mode) (length (a .mem .now)) access (load-is-width (a .k))
+          (word-lt 64 (pos (region (a .hfi .regions) 1 .base) +ℤ signed 64 (a .offset))) (search needs)
+          (c .before .before .check-explicit .ensures ∙ rw (c .before .before .before .load-width .ensures))),
+    )
+
+returns : tie.Need-returns
+unfolding load
+returns c =
+    c .finish-load .ensures ∙ rw (
+      c .before .before .before .check-explicit .ensures,
+      c .before .before .before .before .load-width .ensures,
+      c .before .before .explicit-address .ensures,
+    )
+
+pub hload-spec : {M : Type 1} → statement M
+hload-spec =
+    tie.close
+    (tie.spec
+    load-width-requires
+    check-explicit-requires
+    explicit-address-requires
+    finish-load-requires
+    returns)

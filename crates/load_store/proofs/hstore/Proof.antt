@@ -1,0 +1,56 @@
+use mathlib.Core.Path.{_∙_}
+use lib.IntN.{pos, _+ℤ_}
+use lib.Dec.{lit<}
+use lib.ListN.{length}
+use Rattle.words.specs.Word.{signed}
+use Rattle.model.specs.Step.{store}
+use Rattle.model.specs.Access.{explicitAccess, storeWidth}
+use Rattle.model.specs.Regions.{write}
+use Rattle.model.specs.Machine.{region}
+use Rattle.arithmetic.proofs.Word.{word-lt}
+use Rattle.memory.proofs.Widths.{store-is-width, width-bounds}
+use Rattle.memory.proofs.Fits.{passed-fits}
+use borrow.Author.Needs.{needs}
+use Rattle.load_store.proofs.hstore.Statement.{statement}
+use Rattle.load_store.proofs.hstore.Tie as tie
+
+store-width-requires : tie.Need-store-width-requires
+store-width-requires c κs = search needs
+
+check-explicit-requires : tie.Need-check-explicit-requires
+check-explicit-requires c κs = (lit< tt, rw (c .store-width .ensures) (width-bounds _ (store-is-width (c .before .before .before .args .k)) .1))
+
+explicit-address-requires : tie.Need-explicit-address-requires
+explicit-address-requires c κs = search needs
+
+finish-store-requires : tie.Need-finish-store-requires
+finish-store-requires c κs =
+    let a = c .before .before .before .before .before .before .args in
+    let access = explicitAccess (a .hfi .regions) 1 write (signed 64 (a .offset)) (storeWidth (a .k)) in
+    rw (c .before .explicit-address .ensures)
+    (passed-fits (a .hfi .mode) (length (a .mem .now)) access (store-is-width (a .k))
+    (word-lt 64 (pos (region (a .hfi .regions) 1 .base) +ℤ signed 64 (a .offset))) (search needs)
+    (c .before .before .check-explicit .ensures ∙ rw (c .before .before .before .store-width .ensures)))
+
+same-length : tie.Need-same-length
+same-length c = search needs
+
+returns : tie.Need-returns
+unfolding store
+returns c = λ x.
+    c .before .before .finish-store .ensures x ∙ rw (
+      c .before .before .before .before .before .check-explicit .ensures,
+      c .before .before .before .before .before .before .store-width .ensures,
+      c .before .before .before .before .explicit-address .ensures,
+    )
+
+pub hstore-spec : {M : Type 1} → statement M
+hstore-spec =
+    tie.close
+    (tie.spec
+    store-width-requires
+    check-explicit-requires
+    explicit-address-requires
+    finish-store-requires
+    same-length
+    returns)

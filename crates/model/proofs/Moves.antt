@@ -1,0 +1,411 @@
+-- What a step can do, once for all instructions: memory is as it was, or is written at the bytes of one passed access of at
+-- most 8; and what happens to the machine. The only proof that goes through the instructions; all others cite it.
+-- Assumes nothing.
+use mathlib.Core.Path.{_≡_, refl, ap, sym, _∙_}
+use mathlib.Core.Bool.{Bool, true, false, cond, not, _&&_, _||_}
+use mathlib.Core.List.{List, [], _∷_}
+use mathlib.Core.Logic.{_⊎_, inl, inr}
+use Prim.Native.Nat.{ℕ, _%_, _≤_}
+use native.Mathlib.Omega.{arith}
+use lib.Dec.{eqb, leb, ltb}
+use lib.ListN.{length}
+use borrow.Author.Tests.{eqb-true}
+use Rattle.instructions.specs.Decode.{decodeWord}
+use Rattle.instructions.specs.Encode.{inRange}
+use Rattle.instructions.specs.declared.kind.UpperKind.the-variants.{Lui, Auipc}
+use Rattle.instructions.specs.declared.kind.LoadKind.{LoadKind}
+use Rattle.instructions.specs.declared.kind.SystemKind.the-variants.{Ecall, Ebreak}
+use Rattle.instructions.specs.declared.kind.HfiKind.{HfiKind}
+use Rattle.instructions.specs.declared.kind.HfiKind.the-variants.{Enter, EnterJump, Exit, SelectRegion, SetBase, GetBase, SetBound, GetBound, SetPermission, GetPermission, SetHandler, GetHandler, ResetRegions}
+use Rattle.instructions.specs.declared.instruction.Instruction.{Instruction}
+use Rattle.instructions.specs.declared.instruction.Instruction.the-variants.{Upper, Jal, Jalr, Branch, Load, Store, Immediate, Shift, Addiw, ShiftWord, Register, RegisterWord, Fence, System, HLoad, HStore, Hfi}
+use Rattle.instructions.specs.declared.instruction.Decoded.{Decoded}
+use Rattle.instructions.specs.declared.instruction.Decoded.the-variants.{Legal, Illegal}
+use Rattle.instructions.proofs.RoundTrip.{decoded-range}
+use Rattle.model.specs.Machine.{reg, setReg, loadOp, storeOp, fetchOp, largestOptions, inside, locked, redirectsCalls, region, zeroRegions, entered, exited, machine, lastRegion}
+use Rattle.model.specs.Regions.{dataRegions, codeRegions, permissionFits, matches, firstMatch}
+use Rattle.model.specs.WellFormed.{wellFormed}
+use Rattle.model.specs.Bytes.{value, written}
+use Rattle.model.specs.Access.{Access, verdict, fetchAccess, loadAccess, storeAccess, hloadAccess, hstoreAccess}
+use Rattle.model.specs.Reach.{Passes, Readable, Writable}
+use Rattle.model.specs.Outcome.{Outcome, outcome, allowed, aligned, faulted, settle}
+use Rattle.model.specs.Arithmetic.{taken}
+use Rattle.model.specs.Hfi.{modeForbids, operandForbids, hfiStop, hWordStop, changed, hfiPerform}
+use Rattle.model.specs.Step.{load, store, jump, branch, perform, executeWord, step}
+use Rattle.model.specs.declared.Region.{Region}
+use Rattle.model.specs.declared.HfiState.{HfiState}
+use Rattle.model.specs.declared.Machine.{Machine}
+use Rattle.model.specs.declared.Verdict.{Verdict}
+use Rattle.model.specs.declared.Verdict.the-variants.{Passed, Refused, Absent}
+use Rattle.model.proofs.Intervals.{both}
+use Rattle.model.proofs.Formed.{Good, good, formed, zero-kept, changed-fits, selected-fits, entered-fits, exited-fits, handler-fits, regions-fit, fault-fits}
+use Rattle.model.proofs.Reach.{load-width, store-width, encodes}
+
+-- ---- the machine after a step
+
+-- what a locked machine cannot change, its leaving step included
+pub record Settings : Type 0 where
+  pub regions : List Region
+  pub options : ℕ
+  pub handler : ℕ
+  pub selector : ℕ
+
+abbrev pub settings : Machine → Settings
+settings m =
+    record { regions = m .hfi .regions; options = m .hfi .options; handler = m .hfi .handler; selector = m .hfi .selector }
+
+-- the mode of k after a step from m
+pub data Mode (m k : Machine) : Type 0 where
+  stays : k .hfi .mode ≡ m .hfi .mode → Mode m k
+  enters : inside (m .hfi) ≡ false → k .hfi .mode ≡ 1 → Mode m k
+  leaves : inside (m .hfi) ≡ true → k .hfi .mode ≡ 0 → Mode m k
+
+pub record Kept (m k : Machine) : Type 0 where
+  pub well : wellFormed m ≡ true → wellFormed k ≡ true
+  pub mode : Mode m k
+  pub options : inside (m .hfi) ≡ true → k .hfi .options ≡ m .hfi .options
+  pub lock : locked (m .hfi) ≡ true → settings k ≡ settings m
+
+-- ---- the answer of a step
+
+-- a completed step gives no address, and 20 and 21 are the run's own numbers
+abbrev pub proper : ℕ → ℕ → Bool
+proper stop at = (not (eqb stop 0) || eqb at 0) && (not (eqb stop 20) && not (eqb stop 21))
+
+-- ---- what an instruction does, whatever memory it is done over
+
+-- an access of at most 8 bytes, each of which, where it passes its region, is one of the bytes R
+pub record Reaches (a : Access) (R : ℕ → Type 0) : Type 0 where
+  pub few : a .count ≤ 8
+  pub reach : (b : ℕ) → Passes a b → R b
+  pub numbered : (i : ℕ) → leb (a .faultRegion i) lastRegion ≡ true
+
+abbrev pub Reads : Machine → Access → Type 0
+Reads m a = Reaches a (Readable (m .hfi .regions))
+
+abbrev pub Writes : Machine → Access → Type 0
+Writes m a = Reaches a (Writable (m .hfi .regions))
+
+pub data Move (m : Machine) : Type 0 where
+  quiet : (stop at : ℕ) (k : Machine) → proper stop at ≡ true → Kept m k → Move m
+  loads : (next : ℕ) (a : Access) (k : LoadKind) (rd : ℕ) → Reads m a → Move m
+  stores : (next : ℕ) (a : Access) (v : ℕ) → Writes m a → Move m
+
+abbrev pub enact : (m : Machine) → List ℕ → Move m → Outcome
+enact m mem (Move.quiet stop at k p c) = outcome stop at k mem
+enact m mem (Move.loads next a k rd r) = load m mem next a k rd
+enact m mem (Move.stores next a v w) = store m mem next a v
+
+-- one move for every memory
+pub record Moves (m : Machine) (f : List ℕ → Outcome) : Type 0 where
+  pub move : Move m
+  pub same : (mem : List ℕ) → f mem ≡ enact m mem move
+
+pub clash : {b : Bool} → b ≡ false → b ≡ true → ⊥
+clash {b} e f = let z : _≡_ {A = ℕ} 0 1 = ap (λ (t : Bool). cond t 1 0) (sym e ∙ f) in omega (arith, z)
+
+-- a lock is asked only in HFI mode
+asked : (b c : Bool) → cond b c false ≡ true → b ≡ true
+asked true c e = refl
+asked false c e = e
+
+locked-inside : (h : HfiState) → locked h ≡ true → inside h ≡ true
+locked-inside h = asked (inside h) _
+
+-- and so is the redirection of calls
+calls-inside : (h : HfiState) → redirectsCalls h ≡ true → inside h ≡ true
+calls-inside h = asked (inside h) _
+
+-- the fault region of a byte that the implicit regions refuse is none or one of them
+abbrev Numbered : List ℕ → Bool
+Numbered [] = true
+Numbered (n ∷ ns) = leb n lastRegion && Numbered ns
+
+match-numbered : (rs : List Region) (ns : List ℕ) (a : ℕ) → Numbered ns ≡ true → leb (firstMatch rs ns a) lastRegion ≡ true
+unfolding firstMatch
+match-numbered rs [] a h = refl
+match-numbered rs (n ∷ ns) a h =
+    let p = both (leb n lastRegion) (Numbered ns) h in
+    go (matches (region rs n) a) (p .0) (match-numbered rs ns a (p .1))
+  where
+    go : (b : Bool) → leb n lastRegion ≡ true → leb (firstMatch rs ns a) lastRegion ≡ true → leb (cond b n (firstMatch rs ns a)) lastRegion ≡ true
+    go true p q = p
+    go false p q = q
+
+module _ (m : Machine) where
+  -- registers and pc alone may change
+  still : (x : List ℕ) (pc : ℕ) → (reg (m .x) 0 ≡ 0 → reg x 0 ≡ 0) → Kept m (machine x pc (m .hfi))
+  still x pc z =
+      record {
+        well = λ w. formed _ (record { zero = z (good m w .zero); state = good m w .state });
+        mode = Mode.stays refl;
+        options = λ e. refl;
+        lock = λ e. refl;
+      }
+
+  same-kept : Kept m m
+  same-kept = still (m .x) (m .pc) (λ z. z)
+
+  faulted-kept : (op at region : ℕ) → leb op fetchOp ≡ true → leb region lastRegion ≡ true → Kept m (faulted m op at region)
+  faulted-kept op at region l r =
+      record {
+        well = λ w. formed _ (record { zero = good m w .zero; state = fault-fits (m .hfi) (good m w .state) op at region l r });
+        mode = Mode.stays refl;
+        options = λ e. refl;
+        lock = λ e. refl;
+      }
+
+  -- ---- the moves that there are
+
+  stop : (n : ℕ) → proper n 0 ≡ true → Moves m (λ mem. outcome n 0 m mem)
+  stop n p = record { move = Move.quiet n 0 m p same-kept; same = λ mem. refl }
+
+  onward : (x : List ℕ) (pc : ℕ) → (reg (m .x) 0 ≡ 0 → reg x 0 ≡ 0) → Moves m (λ mem. outcome 0 0 (machine x pc (m .hfi)) mem)
+  onward x pc z = record { move = Move.quiet 0 0 _ refl (still x pc z); same = λ mem. refl }
+
+  assigns : (pc rd v : ℕ) → Moves m (λ mem. outcome 0 0 (machine (setReg (m .x) rd v) pc (m .hfi)) mem)
+  assigns pc rd v = onward _ pc (zero-kept (m .x) rd v)
+
+  by-test : (b : Bool) {f g : List ℕ → Outcome} → (b ≡ true → Moves m f) → (b ≡ false → Moves m g) → Moves m (λ mem. cond b (f mem) (g mem))
+  by-test true p q = let t = p refl in record { move = t .move; same = t .same }
+  by-test false p q = let t = q refl in record { move = t .move; same = t .same }
+
+  allows : (n : ℕ) {f : List ℕ → Outcome} → proper n 0 ≡ true → (eqb n 0 ≡ true → Moves m f) → Moves m (λ mem. allowed m mem n (f mem))
+  unfolding allowed
+  allows n p q = by-test (eqb n 0) q (λ e. stop n p)
+
+  aligns : (target : ℕ) {f : List ℕ → Outcome} → Moves m f → Moves m (λ mem. aligned m mem target (f mem))
+  unfolding aligned
+  aligns target p = by-test (eqb (target % 4) 0) (λ e. p) (λ e. stop 15 refl)
+
+-- ---- the words of opcode 5b
+
+-- question 8 lets a word pass that neither the mode nor its operand forbids
+permitted : (h : HfiState) (k : HfiKind) (a : ℕ) → eqb (hfiStop h k a) 0 ≡ true → (modeForbids h k ≡ false) × (operandForbids h k a ≡ false)
+unfolding hfiStop
+permitted h k a e = go (modeForbids h k) (operandForbids h k a) _ _ (λ e. omega (arith, e)) (λ e. omega (arith, e)) e
+  where
+    go : (b c : Bool) (p q : ℕ) → (p ≡ 0 → ⊥) → (q ≡ 0 → ⊥) → eqb (cond b p (cond c q 0)) 0 ≡ true → (b ≡ false) × (c ≡ false)
+    go true c p q f g e = absurd (f (eqb-true p 0 e))
+    go false true p q f g e = absurd (g (eqb-true q 0 e))
+    go false false p q f g e = (refl, refl)
+
+-- and its number is none of the run's own
+stop-proper : (h : HfiState) (k : HfiKind) (a : ℕ) → proper (hfiStop h k a) 0 ≡ true
+unfolding hfiStop
+stop-proper h k a = go (modeForbids h k) (operandForbids h k a) _ _ refl refl
+  where
+    go : (b c : Bool) (p q : ℕ) → proper p 0 ≡ true → proper q 0 ≡ true → proper (cond b p (cond c q 0)) 0 ≡ true
+    go true c p q f g = f
+    go false true p q f g = g
+    go false false p q f g = refl
+
+h-word-proper : (h : HfiState) → proper (hWordStop h) 0 ≡ true
+unfolding hWordStop
+h-word-proper h = go (inside h) _ refl
+  where
+    go : (b : Bool) (p : ℕ) → proper p 0 ≡ true → proper (cond b 0 p) 0 ≡ true
+    go true p f = refl
+    go false p f = f
+
+neither : (a b : Bool) → (a || b) ≡ false → (a ≡ false) × (b ≡ false)
+neither true b e = absurd (clash e refl)
+neither false b e = (refl, e)
+
+not-not : (b : Bool) → not b ≡ false → b ≡ true
+not-not true e = refl
+not-not false e = sym e
+
+module _ (m : Machine) where
+  -- a word that changes the state outside a lock: mode and options are as they were
+  unlocked : (pc : ℕ) (h : HfiState) → locked (m .hfi) ≡ false → h .mode ≡ m .hfi .mode → h .options ≡ m .hfi .options
+      → (Good m → Good (machine (m .x) pc h)) → Moves m (λ mem. outcome 0 0 (machine (m .x) pc h) mem)
+  unlocked pc h n e o g =
+      record {
+        move = Move.quiet 0 0 (machine (m .x) pc h) refl (record {
+          well = λ w. formed _ (g (good m w));
+          mode = Mode.stays e;
+          options = λ i. o;
+          lock = λ l. absurd (clash n l);
+        });
+        same = λ mem. refl;
+      }
+
+  -- outside HFI mode nothing is locked
+  outside : inside (m .hfi) ≡ false → locked (m .hfi) ≡ false
+  outside n = go (locked (m .hfi)) refl
+    where
+      go : (b : Bool) → locked (m .hfi) ≡ b → locked (m .hfi) ≡ false
+      go true e = absurd (clash n (locked-inside (m .hfi) e))
+      go false e = e
+
+  -- a word that changes the selected region
+  changes : (pc : ℕ) (r : Region) → locked (m .hfi) ≡ false → eqb (m .hfi .selector) 0 ≡ false
+      → (Good m → permissionFits (m .hfi .selector) (r .permission) ≡ true) → Moves m (λ mem. outcome 0 0 (machine (m .x) pc (changed (m .hfi) r)) mem)
+  changes pc r n e p = unlocked pc _ n refl refl (λ g. record { zero = g .zero; state = changed-fits (m .hfi) (g .state) r e (p g) })
+
+  entering : (pc a : ℕ) → inside (m .hfi) ≡ false → ltb largestOptions a ≡ false → Moves m (λ mem. outcome 0 0 (machine (m .x) pc (entered (m .hfi) a)) mem)
+  entering pc a n e =
+      record {
+        move = Move.quiet 0 0 _ refl (record {
+          well = λ w. formed _ (record { zero = good m w .zero; state = entered-fits (m .hfi) (good m w .state) a e });
+          mode = Mode.enters n refl;
+          options = λ i. absurd (clash n i);
+          lock = λ l. absurd (clash n (locked-inside (m .hfi) l));
+        });
+        same = λ mem. refl;
+      }
+
+  leaving : (pc reason : ℕ) → inside (m .hfi) ≡ true → leb reason 2 ≡ true → Moves m (λ mem. outcome 0 0 (machine (m .x) pc (exited (m .hfi) reason (m .pc))) mem)
+  leaving pc reason i r =
+      record {
+        move = Move.quiet 0 0 _ refl (record {
+          well = λ w. formed _ (record { zero = good m w .zero; state = exited-fits (m .hfi) (good m w .state) reason (m .pc) r });
+          mode = Mode.leaves i refl;
+          options = λ e. refl;
+          lock = λ l. refl;
+        });
+        same = λ mem. refl;
+      }
+
+  hfi-moves : (next : ℕ) (k : HfiKind) (rd rs1 rs2 : ℕ) → modeForbids (m .hfi) k ≡ false → operandForbids (m .hfi) k (reg (m .x) rs1) ≡ false
+      → Moves m (λ mem. hfiPerform m mem next k rd rs1 rs2)
+  unfolding hfiPerform
+  hfi-moves next Enter rd rs1 rs2 n e = entering next (reg (m .x) rs1) n e
+  hfi-moves next EnterJump rd rs1 rs2 n e = aligns m (reg (m .x) rs2) (entering (reg (m .x) rs2) (reg (m .x) rs1) n e)
+  hfi-moves next Exit rd rs1 rs2 n e = leaving _ 1 (not-not _ n) refl
+  hfi-moves next SelectRegion rd rs1 rs2 n e =
+      let a = reg (m .x) rs1 in
+      unlocked next _ n refl refl
+      (λ g. record { zero = g .zero; state = regions-fit (m .hfi) (g .state) a (m .hfi .regions) (both (leb 1 a) (leb a lastRegion) (not-not _ e) .1) (g .state .permissions) })
+  hfi-moves next SetBase rd rs1 rs2 n e = changes next _ n e (λ g. selected-fits (m .hfi) (g .state) e)
+  hfi-moves next GetBase rd rs1 rs2 n e = assigns m next rd _
+  hfi-moves next SetBound rd rs1 rs2 n e = changes next _ n e (λ g. selected-fits (m .hfi) (g .state) e)
+  hfi-moves next GetBound rd rs1 rs2 n e = assigns m next rd _
+  hfi-moves next SetPermission rd rs1 rs2 n e =
+      let p = neither (eqb (m .hfi .selector) 0) _ e in
+      changes next _ n (p .0) (λ g. not-not _ (p .1))
+  hfi-moves next GetPermission rd rs1 rs2 n e = assigns m next rd _
+  hfi-moves next SetHandler rd rs1 rs2 n e =
+      unlocked next _ (outside n) refl refl (λ g. record { zero = g .zero; state = handler-fits (m .hfi) (g .state) (reg (m .x) rs1) })
+  hfi-moves next GetHandler rd rs1 rs2 n e = assigns m next rd _
+  hfi-moves next ResetRegions rd rs1 rs2 n e =
+      unlocked next _ n refl refl (λ g. record { zero = g .zero; state = regions-fit (m .hfi) (g .state) 0 zeroRegions refl refl })
+
+  -- ---- the instructions
+
+  loading : (next : ℕ) (a : Access) (k : LoadKind) (rd : ℕ) → Reads m a → Moves m (λ mem. load m mem next a k rd)
+  loading next a k rd r = record { move = Move.loads next a k rd r; same = λ mem. refl }
+
+  storing : (next : ℕ) (a : Access) (v : ℕ) → Writes m a → Moves m (λ mem. store m mem next a v)
+  storing next a v w = record { move = Move.stores next a v w; same = λ mem. refl }
+
+  pub perform-moves : (next : ℕ) (i : Instruction) → inRange i ≡ true → Moves m (λ mem. perform m mem next i)
+  unfolding perform jump branch
+  perform-moves next (Upper Lui rd imm) h = assigns m next rd _
+  perform-moves next (Upper Auipc rd imm) h = assigns m next rd _
+  perform-moves next (Jal rd offset) h = aligns m _ (assigns m _ rd next)
+  perform-moves next (Jalr rd rs1 imm) h = aligns m _ (assigns m _ rd next)
+  perform-moves next (Branch k rs1 rs2 offset) h =
+      by-test m (taken k (reg (m .x) rs1) (reg (m .x) rs2)) (λ e. aligns m _ (onward m (m .x) _ (λ z. z))) (λ e. onward m (m .x) next (λ z. z))
+  perform-moves next (Load k rd rs1 imm) h =
+      loading next (loadAccess (m .hfi .regions) (m .x) k rs1 imm) k rd
+      (record { few = load-width k; reach = λ b p. Readable.byLoad _ (m .x) k rd rs1 imm (encodes _ h) p; numbered = λ i. match-numbered _ dataRegions _ refl })
+  perform-moves next (Store k rs1 rs2 imm) h =
+      storing next (storeAccess (m .hfi .regions) (m .x) k rs1 imm) _
+      (record { few = store-width k; reach = λ b p. Writable.byStore _ (m .x) k rs1 rs2 imm (encodes _ h) p; numbered = λ i. match-numbered _ dataRegions _ refl })
+  perform-moves next (Immediate k rd rs1 imm) h = assigns m next rd _
+  perform-moves next (Shift k rd rs1 amount) h = assigns m next rd _
+  perform-moves next (Addiw rd rs1 imm) h = assigns m next rd _
+  perform-moves next (ShiftWord k rd rs1 amount) h = assigns m next rd _
+  perform-moves next (Register k rd rs1 rs2) h = assigns m next rd _
+  perform-moves next (RegisterWord k rd rs1 rs2) h = assigns m next rd _
+  perform-moves next (Fence fm pred succ rs1 rd) h = onward m (m .x) next (λ z. z)
+  perform-moves next (System Ecall) h =
+      by-test m (redirectsCalls (m .hfi)) (λ e. leaving _ 2 (calls-inside (m .hfi) e) refl) (λ e. stop m 18 refl)
+  perform-moves next (System Ebreak) h = stop m 19 refl
+  perform-moves next (HLoad k rd rs1 imm) h =
+      allows m _ (h-word-proper (m .hfi)) (λ e.
+      loading next (hloadAccess (m .hfi .regions) (m .x) k rs1 imm) k rd
+      (record { few = load-width k; reach = λ b p. Readable.byHLoad _ (m .x) k rd rs1 imm (encodes _ h) p; numbered = λ i. refl }))
+  perform-moves next (HStore k rs1 rs2 imm) h =
+      allows m _ (h-word-proper (m .hfi)) (λ e.
+      storing next (hstoreAccess (m .hfi .regions) (m .x) k rs1 imm) _
+      (record { few = store-width k; reach = λ b p. Writable.byHStore _ (m .x) k rs1 rs2 imm (encodes _ h) p; numbered = λ i. refl }))
+  perform-moves next (Hfi k rd rs1 rs2) h =
+      let a = reg (m .x) rs1 in
+      allows m _ (stop-proper (m .hfi) k a) (λ e. let p = permitted (m .hfi) k a e in hfi-moves next k rd rs1 rs2 (p .0) (p .1))
+
+  -- a word's instruction is in range
+  pub word-moves : (w : ℕ) → Moves m (λ mem. executeWord m mem (decodeWord w))
+  unfolding executeWord
+  word-moves w = go (decodeWord w) refl
+    where
+      go : (d : Decoded) → decodeWord w ≡ d → Moves m (λ mem. executeWord m mem d)
+      go (Legal i) e = perform-moves _ i (decoded-range w i e)
+      go Illegal e = stop m 13 refl
+
+-- ---- the law
+
+-- memory after a store: written at the bytes of one passed access
+pub record Stored (m : Machine) (before after : List ℕ) : Type 0 where
+  pub access : Access
+  pub stored : ℕ
+  pub may : Writes m access
+  pub passed : verdict (m .hfi .mode) (length before) access ≡ Passed
+  pub bytes : after ≡ written before (access .first) 0 (access .count) stored
+
+-- what a step from m over a memory can do
+pub record Does (m : Machine) (mem : List ℕ) (o : Outcome) : Type 0 where
+  pub kept : Kept m (o .result .machine)
+  pub stop : proper (o .result .stop) (o .result .address) ≡ true
+  pub memory : (o .memory ≡ mem) ⊎ Stored m mem (o .memory)
+
+-- the fault region of a verdict
+abbrev Faults : Verdict → Type 0
+Faults (Refused at region) = leb region lastRegion ≡ true
+Faults (Absent at) = Unit {0}
+Faults Passed = Unit {0}
+
+faults : (mode length : ℕ) (a : Access) → ((i : ℕ) → leb (a .faultRegion i) lastRegion ≡ true) → Faults (verdict mode length a)
+unfolding verdict
+faults mode length a h = go (ltb _ (a .count)) (ltb _ (a .count)) _ _ (a .faultRegion _) (h _)
+  where
+    go : (b c : Bool) (x y r : ℕ) → leb r lastRegion ≡ true → Faults (cond b (Refused x r) (cond c (Absent y) Passed))
+    go true c x y r e = e
+    go false true x y r e = tt
+    go false false x y r e = tt
+
+module _ (m : Machine) (mem : List ℕ) where
+  settles : (op refused absent : ℕ) (v : Verdict) (o : Outcome) → leb op fetchOp ≡ true → proper refused 0 ≡ true → ((at : ℕ) → proper absent at ≡ true)
+      → Faults v → (v ≡ Passed → Does m mem o) → Does m mem (settle m mem op refused absent v o)
+  unfolding settle
+  settles op refused absent (Refused at region) o l p q f d = record { kept = faulted-kept m op at region l f; stop = p; memory = inl refl }
+  settles op refused absent (Absent at) o l p q f d = record { kept = same-kept m; stop = q at; memory = inl refl }
+  settles op refused absent Passed o l p q f d = d refl
+
+  enacted : (v : Move m) → Does m mem (enact m mem v)
+  unfolding load store
+  enacted (Move.quiet stop at k p c) = record { kept = c; stop = p; memory = inl refl }
+  enacted (Move.loads next a k rd r) =
+      settles loadOp 16 17 _ _ refl refl (λ at. refl) (faults (m .hfi .mode) (length mem) a (r .numbered))
+      (λ e. record { kept = still m _ next (zero-kept (m .x) rd _); stop = refl; memory = inl refl })
+  enacted (Move.stores next a v w) =
+      settles storeOp 16 17 _ _ refl refl (λ at. refl) (faults (m .hfi .mode) (length mem) a (w .numbered))
+      (λ e. record { kept = still m (m .x) next (λ z. z); stop = refl; memory = inr (record { access = a; stored = v; may = w; passed = e; bytes = refl }) })
+
+  does : {f : List ℕ → Outcome} → Moves m f → Does m mem (f mem)
+  does p = rw (p .same mem) (enacted (p .move))
+
+  pub step-does : Does m mem (step m mem)
+  unfolding step
+  step-does = go (eqb (m .pc % 4) 0)
+    where
+      fetched : Does m mem (settle m mem fetchOp 11 12 (verdict (m .hfi .mode) (length mem) (fetchAccess (m .hfi .regions) (m .pc))) (executeWord m mem (decodeWord (value mem (m .pc) 0 4))))
+      fetched =
+          settles fetchOp 11 12 _ _ refl refl (λ at. refl) (faults (m .hfi .mode) (length mem) _ (λ i. match-numbered _ codeRegions _ refl))
+          (λ e. does (word-moves m (value mem (m .pc) 0 4)))
+
+      go : (b : Bool) → Does m mem (cond b (settle m mem fetchOp 11 12 (verdict (m .hfi .mode) (length mem) (fetchAccess (m .hfi .regions) (m .pc))) (executeWord m mem (decodeWord (value mem (m .pc) 0 4)))) (outcome 10 0 m mem))
+      go true = fetched
+      go false = does (stop m 10 refl)
