@@ -1,4 +1,4 @@
-use mathlib.Core.Path.{sym}
+use mathlib.Core.Path.{sym, _∙_}
 use Rattle.model.specs.Outcome.{settle}
 use Rattle.memory.proofs.Widths.{load-is-width}
 use borrow.Author.Needs.{needs}
@@ -14,16 +14,13 @@ load-width-requires c κs = search needs
 read-requires : tie.Need-read-requires
 read-requires c κs =
     let m = c .before .before in
-    rw (c .before .load-width .ensures) (load-is-width (m .before .before .before .args .k), m .before .before .before .pre .1 (m .enum-told .given .1))
+    rw (c .load-width .ensures) (load-is-width (m .before .before .before .args .k), m .before .before .before .pre .1 (m .enum-told .given .1))
 
 extended-requires : tie.Need-extended-requires
-extended-requires c κs = rw (sym (c .before .before .load-width .ensures)) (c .read .ensures .1)
+extended-requires c κs = rw (sym (c .before .load-width .ensures)) (c .read .ensures .1)
 
-assign-requires : tie.Need-assign-requires
-assign-requires c κs = search needs
-
-completed-requires : tie.Need-completed-requires
-completed-requires c κs = search needs
+write-back-requires : tie.Need-write-back-requires
+write-back-requires c κs = search needs
 
 enum-known-v : tie.Need-enum-known-v
 enum-known-v c = search needs
@@ -40,13 +37,12 @@ absent-requires c κs = search needs
 returns : tie.Need-returns
 unfolding settle
 returns c =
-    rw (
-      c .before .before .before .before .before .before .enum-told .given .1,
-      c .completed .ensures,
-      c .before .assign .ensures,
-      c .before .before .extended .ensures,
-      c .before .before .before .read .ensures .0,
-      c .before .before .before .before .before .load-width .ensures,
+    let m = c .before .before .before .before .before in
+    c .write-back .ensures (m .before .before .before .args .mem .now) ∙ rw (
+      m .enum-told .given .1,
+      c .before .extended .ensures,
+      c .before .before .read .ensures .0,
+      c .before .before .before .load-width .ensures,
     )
 
 returns-2 : tie.Need-returns-2
@@ -65,8 +61,7 @@ finish-load-spec =
     load-width-requires
     read-requires
     extended-requires
-    assign-requires
-    completed-requires
+    write-back-requires
     enum-known-v
     faulted-requires
     enum-known-v-2

@@ -13,7 +13,7 @@ store-width-requires c κs = search needs
 write-requires : tie.Need-write-requires
 write-requires c κs =
     let m = c .before .before in
-    rw (c .before .store-width .ensures) (store-is-width (m .before .before .before .args .k), m .before .before .before .pre (m .enum-told .given .1))
+    rw (c .store-width .ensures) (store-is-width (m .before .before .before .args .k), m .before .before .before .pre (m .enum-told .given .1))
 
 completed-requires : tie.Need-completed-requires
 completed-requires c κs = search needs
@@ -40,7 +40,7 @@ returns c = λ x.
       c .before .before .before .before .before .before .enum-told .given .1,
       c .completed .ensures,
       c .before .before .before .write .ensures,
-      c .before .before .before .before .before .store-width .ensures,
+      c .before .before .before .before .store-width .ensures,
     )
 
 returns-2 : tie.Need-returns-2

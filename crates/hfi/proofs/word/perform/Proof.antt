@@ -55,8 +55,8 @@ enum-told-6 c = search needs
 selected-requires : tie.Need-selected-requires
 selected-requires c κs = search needs
 
-answer-requires : tie.Need-answer-requires
-answer-requires c κs = search needs
+write-back-requires : tie.Need-write-back-requires
+write-back-requires c κs = search needs
 
 enum-told-7 : tie.Need-enum-told-7
 enum-told-7 c = search needs
@@ -73,8 +73,8 @@ enum-told-8 c = search needs
 selected-requires-2 : tie.Need-selected-requires-2
 selected-requires-2 c κs = search needs
 
-answer-requires-2 : tie.Need-answer-requires-2
-answer-requires-2 c κs = search needs
+write-back-requires-2 : tie.Need-write-back-requires-2
+write-back-requires-2 c κs = search needs
 
 enum-told-9 : tie.Need-enum-told-9
 enum-told-9 c = search needs
@@ -91,8 +91,8 @@ enum-told-10 c = search needs
 selected-requires-3 : tie.Need-selected-requires-3
 selected-requires-3 c κs = search needs
 
-answer-requires-3 : tie.Need-answer-requires-3
-answer-requires-3 c κs = search needs
+write-back-requires-3 : tie.Need-write-back-requires-3
+write-back-requires-3 c κs = search needs
 
 enum-told-11 : tie.Need-enum-told-11
 enum-told-11 c = search needs
@@ -106,8 +106,8 @@ completed-requires-6 c κs = search needs
 enum-told-12 : tie.Need-enum-told-12
 enum-told-12 c = search needs
 
-answer-requires-4 : tie.Need-answer-requires-4
-answer-requires-4 c κs = search needs
+write-back-requires-4 : tie.Need-write-back-requires-4
+write-back-requires-4 c κs = search needs
 
 enum-told-13 : tie.Need-enum-told-13
 enum-told-13 c = search needs
@@ -164,7 +164,7 @@ returns-5 c = λ mem.
 returns-6 : tie.Need-returns-6
 unfolding hfiPerform
 returns-6 c = λ mem.
-    c .answer .ensures (c .before .before .before .before .before .before .before .args .pc) mem ∙ rw (
+    c .write-back .ensures mem ∙ rw (
       c .before .before .before .enum-told6 .given .1,
       c .before .selected .ensures,
     )
@@ -182,7 +182,7 @@ returns-7 c = λ mem.
 returns-8 : tie.Need-returns-8
 unfolding hfiPerform
 returns-8 c = λ mem.
-    c .answer2 .ensures (c .before .before .before .before .before .before .before .args .pc) mem ∙ rw (
+    c .write-back2 .ensures mem ∙ rw (
       c .before .before .before .enum-told8 .given .1,
       c .before .selected2 .ensures,
     )
@@ -200,7 +200,7 @@ returns-9 c = λ mem.
 returns-10 : tie.Need-returns-10
 unfolding hfiPerform
 returns-10 c = λ mem.
-    c .answer3 .ensures (c .before .before .before .before .before .before .before .args .pc) mem ∙ rw (
+    c .write-back3 .ensures mem ∙ rw (
       c .before .before .before .enum-told10 .given .1,
       c .before .selected3 .ensures,
     )
@@ -217,7 +217,7 @@ returns-11 c = λ mem.
 
 returns-12 : tie.Need-returns-12
 unfolding hfiPerform
-returns-12 c = λ mem. c .answer4 .ensures (c .before .before .before .before .before .before .args .pc) mem ∙ rw (c .before .before .enum-told12 .given .1)
+returns-12 c = λ mem. c .write-back4 .ensures mem ∙ rw (c .before .before .enum-told12 .given .1)
 
 returns-13 : tie.Need-returns-13
 unfolding hfiPerform
@@ -244,24 +244,24 @@ perform-spec =
     completed-requires-3
     enum-told-6
     selected-requires
-    answer-requires
+    write-back-requires
     enum-told-7
     with-bound-requires
     completed-requires-4
     enum-told-8
     selected-requires-2
-    answer-requires-2
+    write-back-requires-2
     enum-told-9
     with-permission-requires
     completed-requires-5
     enum-told-10
     selected-requires-3
-    answer-requires-3
+    write-back-requires-3
     enum-told-11
     with-handler-requires
     completed-requires-6
     enum-told-12
-    answer-requires-4
+    write-back-requires-4
     enum-told-13
     reset-requires
     completed-requires-7
