@@ -187,58 +187,28 @@ pub fn execute(
         Instruction::Load(k, rd, rs1, imm) => load(x, pc, hfi, mem, next, k, rd, rs1, imm),
         Instruction::Store(k, rs1, rs2, imm) => store(x, pc, hfi, mem, next, k, rs1, rs2, imm),
         Instruction::Immediate(k, rd, rs1, imm) => {
-            write_back(
-                x,
-                hfi,
-                next,
-                rd,
-                operate(of_immediate(k), register(x, rs1), imm),
-            )
+            let v = operate(of_immediate(k), register(x, rs1), imm);
+            write_back(x, hfi, next, rd, v)
         }
         Instruction::Shift(k, rd, rs1, amount) => {
-            write_back(
-                x,
-                hfi,
-                next,
-                rd,
-                operate(of_shift(k), register(x, rs1), amount),
-            )
+            let v = operate(of_shift(k), register(x, rs1), amount);
+            write_back(x, hfi, next, rd, v)
         }
         Instruction::Addiw(rd, rs1, imm) => {
-            write_back(
-                x,
-                hfi,
-                next,
-                rd,
-                operate_word(RegisterWordKind::Addw, register(x, rs1), imm),
-            )
+            let v = operate_word(RegisterWordKind::Addw, register(x, rs1), imm);
+            write_back(x, hfi, next, rd, v)
         }
         Instruction::ShiftWord(k, rd, rs1, amount) => {
-            write_back(
-                x,
-                hfi,
-                next,
-                rd,
-                operate_word(of_shift_word(k), register(x, rs1), amount),
-            )
+            let v = operate_word(of_shift_word(k), register(x, rs1), amount);
+            write_back(x, hfi, next, rd, v)
         }
         Instruction::Register(k, rd, rs1, rs2) => {
-            write_back(
-                x,
-                hfi,
-                next,
-                rd,
-                operate(k, register(x, rs1), register(x, rs2)),
-            )
+            let v = operate(k, register(x, rs1), register(x, rs2));
+            write_back(x, hfi, next, rd, v)
         }
         Instruction::RegisterWord(k, rd, rs1, rs2) => {
-            write_back(
-                x,
-                hfi,
-                next,
-                rd,
-                operate_word(k, register(x, rs1), register(x, rs2)),
-            )
+            let v = operate_word(k, register(x, rs1), register(x, rs2));
+            write_back(x, hfi, next, rd, v)
         }
         Instruction::Fence(_, _, _, _, _) => completed(next, hfi),
         Instruction::System(k) => system(pc, hfi, k),

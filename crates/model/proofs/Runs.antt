@@ -60,30 +60,30 @@ module _ (began : Bool) (n k : ℕ) (m : Machine) (mem : List ℕ) (o : Outcome)
 module _ (began : Bool) (Q : ℕ → ℕ → Machine → List ℕ → Ended → Type 0)
     (spent : (k : ℕ) (m : Machine) (mem : List ℕ) → Q 0 k m mem (ended 21 k 0 m mem))
     (stops : (n k : ℕ) (m : Machine) (mem : List ℕ) → (step m mem .result .stop ≡ 0 → ⊥)
-        → Q (suc n) k m mem (ended (step m mem .result .stop) k (step m mem .result .address) (step m mem .result .machine) (step m mem .memory)))
+    → Q (suc n) k m mem (ended (step m mem .result .stop) k (step m mem .result .address) (step m mem .result .machine) (step m mem .memory)))
     (leaves : (n k : ℕ) (m : Machine) (mem : List ℕ) → Q (suc n) k m mem (ended 20 (suc k) 0 (step m mem .result .machine) (step m mem .memory)))
     (goes-on : (n k : ℕ) (m : Machine) (mem : List ℕ) (e : Ended) → (began ≡ true → inside (step m mem .result .machine .hfi) ≡ true)
-        → Q n (suc k) (step m mem .result .machine) (step m mem .memory) e → Q (suc n) k m mem e)
+    → Q n (suc k) (step m mem .result .machine) (step m mem .memory) e → Q (suc n) k m mem e)
   where
-  run-ind : (n k : ℕ) (m : Machine) (mem : List ℕ) → Q n k m mem (run began n k m mem)
-  unfolding runBy
-  run-ind zero k m mem = spent k m mem
-  run-ind (suc n) k m mem =
-      go (eqb (step m mem .result .stop) 0) refl (began && not (inside (step m mem .result .machine .hfi))) refl
-      (run-ind n (suc k) (step m mem .result .machine) (step m mem .memory))
-    where
-      still-on : (b c : Bool) → (b && not c) ≡ false → b ≡ true → c ≡ true
-      still-on true true e f = refl
-      still-on true false e f = sym e
-      still-on false c e f = absurd (clash refl f)
+    run-ind : (n k : ℕ) (m : Machine) (mem : List ℕ) → Q n k m mem (run began n k m mem)
+    unfolding runBy
+    run-ind zero k m mem = spent k m mem
+    run-ind (suc n) k m mem =
+        go (eqb (step m mem .result .stop) 0) refl (began && not (inside (step m mem .result .machine .hfi))) refl
+        (run-ind n (suc k) (step m mem .result .machine) (step m mem .memory))
+      where
+        still-on : (b c : Bool) → (b && not c) ≡ false → b ≡ true → c ≡ true
+        still-on true true e f = refl
+        still-on true false e f = sym e
+        still-on false c e f = absurd (clash refl f)
 
-      go : (b : Bool) → eqb (step m mem .result .stop) 0 ≡ b → (c : Bool) → (began && not (inside (step m mem .result .machine .hfi))) ≡ c
-          → {r : Ended} → Q n (suc k) (step m mem .result .machine) (step m mem .memory) r
-          → Q (suc n) k m mem (cond b (cond c (ended 20 (suc k) 0 (step m mem .result .machine) (step m mem .memory)) r)
-          (ended (step m mem .result .stop) k (step m mem .result .address) (step m mem .result .machine) (step m mem .memory)))
-      go true q true d h = leaves n k m mem
-      go true q false d h = goes-on n k m mem _ (still-on began (inside (step m mem .result .machine .hfi)) d) h
-      go false q c d h = stops n k m mem (eqb-false _ 0 q)
+        go : (b : Bool) → eqb (step m mem .result .stop) 0 ≡ b → (c : Bool) → (began && not (inside (step m mem .result .machine .hfi))) ≡ c
+            → {r : Ended} → Q n (suc k) (step m mem .result .machine) (step m mem .memory) r
+            → Q (suc n) k m mem (cond b (cond c (ended 20 (suc k) 0 (step m mem .result .machine) (step m mem .memory)) r)
+            (ended (step m mem .result .stop) k (step m mem .result .address) (step m mem .result .machine) (step m mem .memory)))
+        go true q true d h = leaves n k m mem
+        go true q false d h = goes-on n k m mem _ (still-on began (inside (step m mem .result .machine .hfi)) d) h
+        go false q c d h = stops n k m mem (eqb-false _ 0 q)
 
 -- what holds of a refusal and of the run holds of the call
 call-ind : (Q : Ended → Type 0) (m : Machine) (mem : List ℕ) (budget : ℕ) → Q (ended 1 0 0 m mem) → Q (ended 2 0 0 m mem) → Q (ended 3 0 0 m mem)
@@ -221,9 +221,9 @@ module _ (m : Machine) (mem : List ℕ) (budget : ℕ) (k : Locked m) where
   pub spent-locked : runCall m mem budget .result .stop ≡ 21
       → Locked (runCall m mem budget .result .machine) × (wellFormed (runCall m mem budget .result .machine) ≡ true)
   spent-locked q = (
-        locked-too m _ k locked-keeps (spent-inside m mem budget q on),
-        run-well-formed m mem budget (spent-well-formed m mem budget q),
-      )
+    locked-too m _ k locked-keeps (spent-inside m mem budget q on),
+    run-well-formed m mem budget (spent-well-formed m mem budget q),
+  )
 
 -- ---- a run is steps of the step call
 

@@ -63,7 +63,7 @@ returns : tie.Need-returns
 returns c = rw (c .before .enum-told .given .1, c .wrapping-add-u64 .ensures)
 
 returns-2 : tie.Need-returns-2
-returns-2 c = 
+returns-2 c =
     let a = c .before .before .before .args in
     let e : c .wrapping-sub-u64 .result ≡ (a .a + (2 ^ 64 - a .b)) % 2 ^ 64 = omega arith in
     rw (c .before .enum-told2 .given .1, e)

@@ -62,7 +62,7 @@ returns-4 : tie.Need-returns-4
 returns-4 c = rw (c .enum-told4 .given .1) (refl, shift-lt _ _ 32 (c .before .before .pre .0))
 
 returns-5 : tie.Need-returns-5
-returns-5 c = 
+returns-5 c =
     let a = c .before .before .before .args in
     let e = c .shift-right-signed .ensures in
     rw (c .before .enum-told5 .given .1) (e, rw e (word-lt 32 (shrZ (signed 32 (a .a)) (2 ^ (a .b % 32)))))

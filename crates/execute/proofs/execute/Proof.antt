@@ -14,14 +14,23 @@ upper-requires c κs = below (c .before .before .i .given .1) (c .before .before
 enum-known-i-2 : tie.Need-enum-known-i-2
 enum-known-i-2 c = search needs
 
-jal-requires : tie.Need-jal-requires
-jal-requires c κs = below (c .before .before .i2 .given .1) (c .before .before .before .before .before .pre)
+wrapping-add-u64-requires : tie.Need-wrapping-add-u64-requires
+wrapping-add-u64-requires c κs = search needs
+
+jump-requires : tie.Need-jump-requires
+jump-requires c κs = below (c .before .before .before .i2 .given .1) (c .before .before .before .before .before .before .pre)
 
 enum-known-i-3 : tie.Need-enum-known-i-3
 enum-known-i-3 c = search needs
 
-jalr-requires : tie.Need-jalr-requires
-jalr-requires c κs = below (c .before .before .i3 .given .1) (c .before .before .before .before .before .pre)
+register-requires : tie.Need-register-requires
+register-requires c κs = below (c .before .before .before .i3 .given .1) (c .before .before .before .before .before .before .pre) .1
+
+jalr-target-requires : tie.Need-jalr-target-requires
+jalr-target-requires c κs = search needs
+
+jump-requires-2 : tie.Need-jump-requires-2
+jump-requires-2 c κs = below (c .before .before .before .before .before .i3 .given .1) (c .before .before .before .before .before .before .before .before .pre) .0
 
 enum-known-i-4 : tie.Need-enum-known-i-4
 enum-known-i-4 c = search needs
@@ -44,38 +53,89 @@ store-requires c κs = below (c .before .before .before .i6 .given .1) (c .befor
 enum-known-i-7 : tie.Need-enum-known-i-7
 enum-known-i-7 c = search needs
 
-immediate-requires : tie.Need-immediate-requires
-immediate-requires c κs = below (c .before .before .i7 .given .1) (c .before .before .before .before .before .pre)
+of-immediate-requires : tie.Need-of-immediate-requires
+of-immediate-requires c κs = search needs
+
+register-requires-2 : tie.Need-register-requires-2
+register-requires-2 c κs = below (c .before .before .before .i7 .given .1) (c .before .before .before .before .before .before .pre) .1
+
+operate-requires : tie.Need-operate-requires
+operate-requires c κs = search needs
+
+write-back-requires : tie.Need-write-back-requires
+write-back-requires c κs = below (c .before .before .before .before .before .before .i7 .given .1) (c .before .before .before .before .before .before .before .before .before .pre) .0
 
 enum-known-i-8 : tie.Need-enum-known-i-8
 enum-known-i-8 c = search needs
 
-shift-requires : tie.Need-shift-requires
-shift-requires c κs = below (c .before .before .i8 .given .1) (c .before .before .before .before .before .pre)
+of-shift-requires : tie.Need-of-shift-requires
+of-shift-requires c κs = search needs
+
+register-requires-3 : tie.Need-register-requires-3
+register-requires-3 c κs = below (c .before .before .before .i8 .given .1) (c .before .before .before .before .before .before .pre) .1
+
+operate-requires-2 : tie.Need-operate-requires-2
+operate-requires-2 c κs = search needs
+
+write-back-requires-2 : tie.Need-write-back-requires-2
+write-back-requires-2 c κs = below (c .before .before .before .before .before .before .i8 .given .1) (c .before .before .before .before .before .before .before .before .before .pre) .0
 
 enum-known-i-9 : tie.Need-enum-known-i-9
 enum-known-i-9 c = search needs
 
-addiw-requires : tie.Need-addiw-requires
-addiw-requires c κs = below (c .before .before .i9 .given .1) (c .before .before .before .before .before .pre)
+register-requires-4 : tie.Need-register-requires-4
+register-requires-4 c κs = below (c .before .before .i9 .given .1) (c .before .before .before .before .before .pre) .1
+
+operate-word-requires : tie.Need-operate-word-requires
+operate-word-requires c κs = search needs
+
+write-back-requires-3 : tie.Need-write-back-requires-3
+write-back-requires-3 c κs = below (c .before .before .before .before .before .i9 .given .1) (c .before .before .before .before .before .before .before .before .pre) .0
 
 enum-known-i-10 : tie.Need-enum-known-i-10
 enum-known-i-10 c = search needs
 
-shift-word-requires : tie.Need-shift-word-requires
-shift-word-requires c κs = below (c .before .before .i10 .given .1) (c .before .before .before .before .before .pre)
+of-shift-word-requires : tie.Need-of-shift-word-requires
+of-shift-word-requires c κs = search needs
+
+register-requires-5 : tie.Need-register-requires-5
+register-requires-5 c κs = below (c .before .before .before .i10 .given .1) (c .before .before .before .before .before .before .pre) .1
+
+operate-word-requires-2 : tie.Need-operate-word-requires-2
+operate-word-requires-2 c κs = search needs
+
+write-back-requires-4 : tie.Need-write-back-requires-4
+write-back-requires-4 c κs = below (c .before .before .before .before .before .before .i10 .given .1) (c .before .before .before .before .before .before .before .before .before .pre) .0
 
 enum-known-i-11 : tie.Need-enum-known-i-11
 enum-known-i-11 c = search needs
 
-register-register-requires : tie.Need-register-register-requires
-register-register-requires c κs = below (c .before .before .i11 .given .1) (c .before .before .before .before .before .pre)
+register-requires-6 : tie.Need-register-requires-6
+register-requires-6 c κs = below (c .before .before .i11 .given .1) (c .before .before .before .before .before .pre) .1
+
+register-requires-7 : tie.Need-register-requires-7
+register-requires-7 c κs = below (c .before .before .before .before .i11 .given .1) (c .before .before .before .before .before .before .before .pre) .2
+
+operate-requires-3 : tie.Need-operate-requires-3
+operate-requires-3 c κs = search needs
+
+write-back-requires-5 : tie.Need-write-back-requires-5
+write-back-requires-5 c κs = below (c .before .before .before .before .before .before .before .i11 .given .1) (c .before .before .before .before .before .before .before .before .before .before .pre) .0
 
 enum-known-i-12 : tie.Need-enum-known-i-12
 enum-known-i-12 c = search needs
 
-register-word-requires : tie.Need-register-word-requires
-register-word-requires c κs = below (c .before .before .i12 .given .1) (c .before .before .before .before .before .pre)
+register-requires-8 : tie.Need-register-requires-8
+register-requires-8 c κs = below (c .before .before .i12 .given .1) (c .before .before .before .before .before .pre) .1
+
+register-requires-9 : tie.Need-register-requires-9
+register-requires-9 c κs = below (c .before .before .before .before .i12 .given .1) (c .before .before .before .before .before .before .before .pre) .2
+
+operate-word-requires-3 : tie.Need-operate-word-requires-3
+operate-word-requires-3 c κs = search needs
+
+write-back-requires-6 : tie.Need-write-back-requires-6
+write-back-requires-6 c κs = below (c .before .before .before .before .before .before .before .i12 .given .1) (c .before .before .before .before .before .before .before .before .before .before .pre) .0
 
 enum-told : tie.Need-enum-told
 enum-told c = search needs
@@ -111,10 +171,12 @@ returns : tie.Need-returns
 returns c = c .upper .ensures _ ∙ ap (perform _ _ _) (sym (c .before .before .before .i .given .1))
 
 returns-2 : tie.Need-returns-2
-returns-2 c = c .jal .ensures _ ∙ ap (perform _ _ _) (sym (c .before .before .before .i2 .given .1))
+unfolding perform
+returns-2 c = c .jump .ensures _ ∙ rw (c .before .before .before .before .i2 .given .1, c .before .wrapping-add-u64 .ensures)
 
 returns-3 : tie.Need-returns-3
-returns-3 c = c .jalr .ensures _ ∙ ap (perform _ _ _) (sym (c .before .before .before .i3 .given .1))
+unfolding perform
+returns-3 c = c .jump2 .ensures _ ∙ rw (c .before .before .before .before .before .before .i3 .given .1, c .before .jalr-target .ensures, c .before .before .register .ensures)
 
 returns-4 : tie.Need-returns-4
 returns-4 c = c .branch .ensures _ ∙ ap (perform _ _ _) (sym (c .before .before .before .i4 .given .1))
@@ -132,26 +194,32 @@ returns-6 : tie.Need-returns-6
 returns-6 c = c .before .before .store .ensures ∙ ap (perform _ _ _) (sym (c .before .before .before .before .before .before .i6 .given .1))
 
 returns-7 : tie.Need-returns-7
-returns-7 c = c .immediate .ensures _ _ ∙ ap (perform _ _ _) (sym (c .before .before .before .i7 .given .1))
+unfolding perform
+returns-7 c = c .write-back .ensures _ ∙ rw (c .before .before .before .before .before .before .before .i7 .given .1, c .before .before .operate .ensures, c .before .before .before .before .before .of-immediate .ensures, c .before .before .before .register2 .ensures)
 
 returns-8 : tie.Need-returns-8
-returns-8 c = c .shift .ensures _ _ ∙ ap (perform _ _ _) (sym (c .before .before .before .i8 .given .1))
+unfolding perform
+returns-8 c = c .write-back2 .ensures _ ∙ rw (c .before .before .before .before .before .before .before .i8 .given .1, c .before .before .operate2 .ensures, c .before .before .before .before .before .of-shift .ensures, c .before .before .before .register3 .ensures)
 
 returns-9 : tie.Need-returns-9
-returns-9 c = c .addiw .ensures _ _ ∙ ap (perform _ _ _) (sym (c .before .before .before .i9 .given .1))
+unfolding perform
+returns-9 c = c .write-back3 .ensures _ ∙ rw (c .before .before .before .before .before .before .i9 .given .1, c .before .before .operate-word .ensures, c .before .before .before .register4 .ensures)
 
 returns-10 : tie.Need-returns-10
-returns-10 c = c .shift-word .ensures _ _ ∙ ap (perform _ _ _) (sym (c .before .before .before .i10 .given .1))
+unfolding perform
+returns-10 c = c .write-back4 .ensures _ ∙ rw (c .before .before .before .before .before .before .before .i10 .given .1, c .before .before .operate-word2 .ensures, c .before .before .before .before .before .of-shift-word .ensures, c .before .before .before .register5 .ensures)
 
 returns-11 : tie.Need-returns-11
-returns-11 c = c .register-register .ensures _ _ ∙ ap (perform _ _ _) (sym (c .before .before .before .i11 .given .1))
+unfolding perform
+returns-11 c = c .write-back5 .ensures _ ∙ rw (c .before .before .before .before .before .before .before .before .i11 .given .1, c .before .before .operate3 .ensures, c .before .before .before .register7 .ensures, c .before .before .before .before .before .register6 .ensures)
 
 returns-12 : tie.Need-returns-12
-returns-12 c = c .register-word .ensures _ _ ∙ ap (perform _ _ _) (sym (c .before .before .before .i12 .given .1))
+unfolding perform
+returns-12 c = c .write-back6 .ensures _ ∙ rw (c .before .before .before .before .before .before .before .before .i12 .given .1, c .before .before .operate-word3 .ensures, c .before .before .before .register9 .ensures, c .before .before .before .before .before .register8 .ensures)
 
 returns-13 : tie.Need-returns-13
 unfolding perform
-returns-13 c = rw (c .completed .ensures) (ap (perform _ _ _) (sym (c .before .enum-told .given .1)))
+returns-13 c = rw (c .before .enum-told .given .1, c .completed .ensures)
 
 returns-14 : tie.Need-returns-14
 returns-14 c = c .system .ensures _ _ _ ∙ ap (perform _ _ _) (sym (c .before .before .i13 .given .1))
@@ -178,9 +246,12 @@ execute-spec =
     enum-known-i
     upper-requires
     enum-known-i-2
-    jal-requires
+    wrapping-add-u64-requires
+    jump-requires
     enum-known-i-3
-    jalr-requires
+    register-requires
+    jalr-target-requires
+    jump-requires-2
     enum-known-i-4
     branch-requires
     enum-known-i-5
@@ -188,17 +259,34 @@ execute-spec =
     enum-known-i-6
     store-requires
     enum-known-i-7
-    immediate-requires
+    of-immediate-requires
+    register-requires-2
+    operate-requires
+    write-back-requires
     enum-known-i-8
-    shift-requires
+    of-shift-requires
+    register-requires-3
+    operate-requires-2
+    write-back-requires-2
     enum-known-i-9
-    addiw-requires
+    register-requires-4
+    operate-word-requires
+    write-back-requires-3
     enum-known-i-10
-    shift-word-requires
+    of-shift-word-requires
+    register-requires-5
+    operate-word-requires-2
+    write-back-requires-4
     enum-known-i-11
-    register-register-requires
+    register-requires-6
+    register-requires-7
+    operate-requires-3
+    write-back-requires-5
     enum-known-i-12
-    register-word-requires
+    register-requires-8
+    register-requires-9
+    operate-word-requires-3
+    write-back-requires-6
     enum-told
     completed-requires
     enum-known-i-13

@@ -1,3 +1,4 @@
+use mathlib.Core.Path.{_∙_}
 use mathlib.Core.Logic.{⊎-elim}
 use Rattle.model.specs.Step.{perform}
 use borrow.Author.Needs.{needs}
@@ -13,27 +14,18 @@ enum-told-2 c = search needs
 wrapping-add-u64-requires : tie.Need-wrapping-add-u64-requires
 wrapping-add-u64-requires c κs = search needs
 
-assign-requires : tie.Need-assign-requires
-assign-requires c κs = search needs
-
-completed-requires : tie.Need-completed-requires
-completed-requires c κs = search needs
+write-back-requires : tie.Need-write-back-requires
+write-back-requires c κs = search needs
 
 returns : tie.Need-returns
 unfolding perform
 returns c = λ mem.
-    ⊎-elim
-    (λ w. rw (w .1 .given .1, c .completed .ensures, c .before .assign .ensures, w .2))
-    (λ w. rw (w .1 .given .1, c .completed .ensures, c .before .assign .ensures, w .3, w .2 .ensures))
-    (c .before .before .before .match .came)
+    c .write-back .ensures mem ∙ ⊎-elim
+    (λ w. rw (w .1 .given .1, w .2))
+    (λ w. rw (w .1 .given .1, w .3, w .2 .ensures))
+    (c .before .before .match .came)
 
 pub upper-spec : {M : Type 1} → statement M
 upper-spec =
     tie.close
-    (tie.spec
-    enum-told
-    enum-told-2
-    wrapping-add-u64-requires
-    assign-requires
-    completed-requires
-    returns)
+    (tie.spec enum-told enum-told-2 wrapping-add-u64-requires write-back-requires returns)
