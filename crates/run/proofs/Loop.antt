@@ -1,4 +1,4 @@
--- One turn of the loop, as one step of the run with budget - count steps left.
+-- One turn of the loop, as one step of the run with budget - count steps remaining.
 -- Assumes nothing.
 use mathlib.Core.Path.{_≡_, ap, sym, _∙_}
 use mathlib.Core.Bool.{Bool, true, false, not, _&&_}
@@ -7,13 +7,12 @@ use Prim.Native.Nat.{ℕ, _+_, _-_, _<_, _≤_}
 use native.Mathlib.Omega.{arith}
 use Rattle.model.specs.Machine.{inside, machine}
 use Rattle.model.specs.Step.{step}
-use Rattle.model.specs.Run.{run}
+use Rattle.model.specs.Run.{run, ranWith}
 use Rattle.model.specs.declared.Machine.{Machine}
 use Rattle.model.specs.declared.Ran.{Ran}
 use Rattle.model.proofs.Runs.{run-out, run-stops, run-leaves, run-goes-on}
-use Rattle.hfi.specs.Effect.{effectWith}
-use Rattle.hfi.specs.declared.outcome.Effect.{Effect}
-use Rattle.model.specs.Run.{ranWith}
+use Rattle.hart.specs.Effect.{effectWith}
+use Rattle.hart.specs.declared.effect.Effect.{Effect}
 
 -- the budget is used up
 pub spent : (began : Bool) (budget count : ℕ) (m : Machine) (mem : List ℕ) (r : Ran) → budget ≤ count
@@ -27,9 +26,9 @@ module _ (began : Bool) (budget count : ℕ) (m : Machine) (mem : List ℕ) (d :
   stopped r q f = ap (λ r. ranWith r after) f ∙ sym (run-stops began (budget - count) count m mem (effectWith d x after) (omega arith) e q)
 
   -- the step leaves HFI mode
-  pub left : (r : Ran) (on : Bool) → d .stop ≡ 0 → on ≡ inside (d .hfi) → (began && not on) ≡ true
+  pub leaves : (r : Ran) (on : Bool) → d .stop ≡ 0 → on ≡ inside (d .hfi) → (began && not on) ≡ true
       → r ≡ record { stop = 20; count = count + 1; address = 0; machine = machine x (d .pc) (d .hfi) } → ranWith r after ≡ run began (budget - count) count m mem
-  left r on q i t f =
+  leaves r on q i t f =
       ap (λ r. ranWith r after) f
       ∙ sym (run-leaves began (budget - count) count m mem (effectWith d x after) (omega arith) e q (ap (λ b. began && not b) (sym i) ∙ t))
 

@@ -5,7 +5,7 @@ use lib.ListN.{length}
 use borrow.Author.Needs.{needs}
 use Rattle.model.specs.Machine.{machine}
 use Rattle.model.specs.Run.{run}
-use Rattle.run.proofs.Loop.{spent, stopped, left, onward}
+use Rattle.run.proofs.Loop.{spent, stopped, leaves, onward}
 use Rattle.run.proofs.run.Statement.{statement}
 use Rattle.run.proofs.run.Tie as tie
 
@@ -54,7 +54,7 @@ returns-2 : tie.Need-returns-2 Inv-loop μ-loop
 returns-2 c =
     let l = c .before .before .before .before .before .before .before .before .before .before .before .before .loop in
     let a = c .before .before .before .before .before .before .before .before .before .before .before .before .before .before .before .before .before .args in
-    left _ (a .budget) (l .count) _ _ _ _ _ (c .before .before .before .before .before .before .before .before .before .before .before .loop-test .taken) (c .before .before .before .before .before .before .before .before .step .ensures) (c .ended2 .result) _ (c .before .before .before .if1 .left) (c .before .before .inside2 .ensures) (c .before .if2 .taken) (c .ended2 .ensures)
+    leaves _ (a .budget) (l .count) _ _ _ _ _ (c .before .before .before .before .before .before .before .before .before .before .before .loop-test .taken) (c .before .before .before .before .before .before .before .before .step .ensures) (c .ended2 .result) _ (c .before .before .before .if1 .left) (c .before .before .inside2 .ensures) (c .before .if2 .taken) (c .ended2 .ensures)
     ∙ l .inv .2 ∙ ap (λ t. run t (a .budget) 0 (a .m) (a .mem .now)) (c .before .before .before .before .before .before .before .before .before .before .before .before .before .inside .ensures)
 
 loop-less : tie.Need-loop-less Inv-loop μ-loop
