@@ -5,9 +5,9 @@ use mathlib.Core.Bool.{cond}
 use mathlib.Core.List.{List, [], _∷_}
 use Prim.Native.Nat.{ℕ, zero, suc, _+_, _-_, _*_, _/_, _%_}
 use lib.Dec.{ltb}
-use lib.ListN.{replicate, set}
+use lib.ListN.{replicate, set, getD}
 use Rattle.instructions.specs.Table.{lookup}
-use Rattle.model.specs.Machine.{reg, region, lastRegion}
+use Rattle.model.specs.Machine.{reg, noRegion, lastRegion}
 use Rattle.model.specs.declared.Region.{Region}
 use Rattle.model.specs.declared.Fault.{Fault}
 use Rattle.model.specs.declared.Machine.{Machine}
@@ -54,9 +54,9 @@ inRegion r = (0, r .base) ∷ (1, r .bound) ∷ (2, r .permission) ∷ []
 abbrev pub inFault : Fault → List (ℕ × ℕ)
 inFault f = (0, f .occurred) ∷ (1, f .region) ∷ (2, f .op) ∷ (3, f .address) ∷ []
 
-abbrev pub placed : Machine → ℕ → ℕ
-placed m i =
+abbrev pub atPlace : Machine → ℕ → ℕ
+atPlace m i =
     let k = i - firstRegion in
     cond (ltb i firstRegion) (lookup 0 (inHart m) i)
-    (cond (ltb i firstFault) (lookup 0 (inRegion (region (m .hfi .regions) (k / 3 + 1))) (k % 3))
+    (cond (ltb i firstFault) (lookup 0 (inRegion (getD (m .hfi .regions) (k / 3) noRegion)) (k % 3))
     (lookup 0 (inFault (m .hfi .fault)) (i - firstFault)))

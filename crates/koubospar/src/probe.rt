@@ -2,17 +2,18 @@
 // of the record. No contract sees the order of a record's fields, so this test (c/try) is the only guard of the layout.
 ghost use mathlib.Core.Path.{_≡_};
 ghost use Prim.Native.Nat.{_+_, _<_};
-ghost use Rattle.koubospar.specs.Probe.{probe, inHart, inRegion, inFault, placed};
+ghost use Rattle.koubospar.specs.Probe.{probe, inHart, inRegion, inFault, atPlace};
 ghost use Rattle.instructions.specs.Table.{lookup};
 use model::Fault;
 use model::HfiState;
+use model::LAST_REGION;
 use model::Machine;
 use model::Region;
 
 // The places of the first region and of the fault record.
 const FIRST_REGION: u64 = 39;
 
-const FIRST_FAULT: u64 = 48;
+const FIRST_FAULT: u64 = FIRST_REGION + 3 * LAST_REGION;
 
 // A region with n and the numbers after it.
 fn numbered(n: u64) -> Region
@@ -104,7 +105,7 @@ fn in_fault(f: Fault, i: u64) -> u64
 // What stands in place i of the record; 0 for a register between x0 and x31, and past the end.
 #[no_mangle]
 pub extern "C" fn koubospar_place(m: Machine, i: u64) -> u64
-    ensures { λ r. ⌜ r ≡ placed m i ⌝ }
+    ensures { λ r. ⌜ r ≡ atPlace m i ⌝ }
 {
     let hfi = m.hfi;
     let regions = hfi.regions;

@@ -10,8 +10,7 @@ use Rattle.text.specs.Write.{Wrote}
 use Rattle.text.proofs.Writing.{wrote-parts}
 use Rattle.model.specs.declared.Machine.{Machine}
 use Rattle.model.specs.declared.Ran.{Ran}
-use Rattle.model.specs.Run.{runCall}
-use Rattle.run.specs.Answer.{answer}
+use Rattle.model.specs.Run.{runCall, ranWith}
 use Rattle.sheet.specs.declared.SetupFields.{SetupFields}
 use Rattle.sheet.specs.declared.Verdict.{Verdict}
 use Rattle.sheet.specs.Read.{loaded, readSheet}
@@ -29,7 +28,7 @@ module _ (mem s : List ℕ) (v : Verdict) (next : List ℕ) (e : loaded v next �
       sym k ∙ ap (concluded s) e
 
   pub report-yes : (setup : SetupFields) (m : Machine) (r : Ran) (last : List ℕ) → v .number ≡ 0 → setup ≡ setupOf s → m ≡ machineOf setup
-      → answer r last ≡ runCall m next (setup .budget) → resultText r ≡ reportOver mem s
+      → ranWith r last ≡ runCall m next (setup .budget) → resultText r ≡ reportOver mem s
   unfolding reportOver
   report-yes setup m r last h f g a =
       let k : concluded s (loaded v next) ≡ told (setupOf s) next = rw (eq-eqb (v .number) 0 h) in

@@ -49,7 +49,7 @@ same-length-2 c = search needs
 returns-2 : tie.Need-returns-2
 returns-2 c =
     let ran = c .before .before .before .before in
-    let r = ran .run in
+    let r = ran .run-call in
     let m = ran .before .before .machine-of in
     let s = ran .before .before .before .setup-values in
     let line = ran .before .before .before .before .line-at in
