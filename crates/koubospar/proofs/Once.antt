@@ -15,7 +15,7 @@ use Rattle.model.specs.Run.{Ended, ended, ranWith, runBy, run, runCall}
 use Rattle.model.specs.declared.Machine.{Machine}
 use Rattle.model.specs.declared.Ran.{Ran}
 use Rattle.model.proofs.Runs.{no-address}
-use Rattle.koubospar.specs.Lent.{asStep}
+use Rattle.koubospar.specs.Single.{asStep}
 
 abbrev asOutcome : Ended → Outcome
 asOutcome e = steppedWith (asStep (e .result)) (e .memory)

@@ -1,7 +1,5 @@
 -- What a call on a lent machine answers, with the machine that it left, as the model's answer of the call by value.
--- Assumes nothing.
-use mathlib.Core.Bool.{cond}
-use lib.Dec.{eqb}
+-- Stop and RunStop are declared in src/lent.rt, Machine, Stepped and Ran in model/src/lib.rt. Assumes nothing.
 use Rattle.model.specs.declared.Machine.{Machine}
 use Rattle.model.specs.declared.Stepped.{Stepped}
 use Rattle.model.specs.declared.Ran.{Ran}
@@ -13,9 +11,3 @@ stopWith r m = record { stop = r .stop; address = r .address; machine = m }
 
 abbrev pub runStopWith : RunStop → Machine → Ran
 runStopWith r m = record { stop = r .stop; count = r .count; address = r .address; machine = m }
-
--- what a run of one step answers, as the step's own answer
-abbrev pub asStep : Ran → Stepped
-asStep r =
-    cond (eqb (r .count) 1) (record { stop = 0; address = 0; machine = r .machine })
-    (record { stop = r .stop; address = r .address; machine = r .machine })

@@ -1,9 +1,8 @@
 // "The oven's main loop keeps one machine record and lends it to each call, which updates it there."
 ghost use mathlib.Core.Path.{_≡_};
-ghost use Rattle.model.specs.Step.{stepCall as stepOf, resumeCall as resumeOf};
-ghost use Rattle.model.specs.Run.{runCall};
 ghost use Rattle.model.specs.Outcome.{steppedWith};
-ghost use Rattle.model.specs.Run.{ranWith};
+ghost use Rattle.model.specs.Step.{stepCall, resumeCall};
+ghost use Rattle.model.specs.Run.{ranWith, runCall};
 ghost use Rattle.koubospar.specs.Lent.{stopWith, runStopWith};
 use crate::single::single_step;
 use model::Machine;
@@ -26,7 +25,7 @@ pub struct RunStop {
 // One step.
 #[no_mangle]
 pub extern "C" fn koubospar_step(m: &mut Machine, mem: &mut [u8]) -> Stop
-    ensures { λ r. ⌜ steppedWith (stopWith r (now (m .exit))) (now (mem .exit)) ≡ stepOf (now (m .entry)) (now (mem .entry)) ⌝ }
+    ensures { λ r. ⌜ steppedWith (stopWith r (now (m .exit))) (now (mem .exit)) ≡ stepCall (now (m .entry)) (now (mem .entry)) ⌝ }
 {
     let r = single_step(*m, mem);
     *m = r.machine;
@@ -53,7 +52,7 @@ pub extern "C" fn koubospar_run(m: &mut Machine, mem: &mut [u8], budget: u64) ->
 // `v` in x10, and pc past the word that it stands at: meant for stop 18.
 #[no_mangle]
 pub extern "C" fn koubospar_resume(m: &mut Machine, v: u64) -> Stop
-    ensures { λ r. ⌜ stopWith r (now (m .exit)) ≡ resumeOf (now (m .entry)) v ⌝ }
+    ensures { λ r. ⌜ stopWith r (now (m .exit)) ≡ resumeCall (now (m .entry)) v ⌝ }
 {
     let r = step::call::resume_call(*m, v);
     *m = r.machine;

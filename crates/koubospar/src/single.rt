@@ -1,9 +1,9 @@
 // One step by value, as a run of one step: the library then has one loop of steps and no second copy of what is in it,
 // which the compiler would otherwise keep apart from the loop (bench/README.md has what that costs).
 ghost use mathlib.Core.Path.{_≡_};
-ghost use Rattle.model.specs.Step.{stepCall as stepOf};
+ghost use Rattle.model.specs.Step.{stepCall};
 ghost use Rattle.model.specs.Outcome.{steppedWith};
-ghost use Rattle.koubospar.specs.Lent.{asStep};
+ghost use Rattle.koubospar.specs.Single.{asStep};
 use model::Machine;
 use model::Ran;
 use model::Stepped;
@@ -29,7 +29,7 @@ fn as_step(r: Ran) -> Stepped
 
 // One step of any machine over any memory.
 pub fn single_step(m: Machine, mem: &mut [u8]) -> Stepped
-    ensures { λ r. ⌜ steppedWith r (now (mem .exit)) ≡ stepOf m (now (mem .entry)) ⌝ }
+    ensures { λ r. ⌜ steppedWith r (now (mem .exit)) ≡ stepCall m (now (mem .entry)) ⌝ }
 {
     as_step(run::run_call(m, mem, 1))
 }

@@ -59,12 +59,14 @@ pub first-blamed : (rs : List Region) (n : ℕ) (ns : List ℕ) (a : ℕ) {at : 
 unfolding firstMatch
 first-blamed rs n ns a e p q = ap (λ (b : Bool). cond b n (firstMatch rs ns a)) (sym q ∙ e ∙ ap (matches (region rs n)) p)
 
--- so the loop over one region finds what the access of a list of one asks
-pub alone-refused : (mode : ℕ) (rs : List Region) (n wanted a count : ℕ) {i : ℕ} → 0 < n → i ≡ implicitRefused mode (region rs n) wanted a count
-    → i ≡ firstRefused mode (implicitAccess rs (n ∷ []) wanted a count)
-unfolding firstRefused implicitGrants firstMatch
-alone-refused mode rs n wanted a count h e =
-    e ∙ scan-same _ _ count 0 (λ j p q. ap (cond (eqb mode 0) true) (first-grants rs n [] wanted (byteOf a j) h))
+-- so the loop over it finds what the access asks, where the others match nothing
+pub first-refused : (mode : ℕ) (rs : List Region) (n : ℕ) (ns : List ℕ) (wanted a count : ℕ) {i : ℕ} → 0 < n → ((b : ℕ) → firstMatch rs ns b ≡ 0)
+    → i ≡ implicitRefused mode (region rs n) wanted a count → i ≡ firstRefused mode (implicitAccess rs (n ∷ ns) wanted a count)
+unfolding firstRefused implicitGrants
+first-refused mode rs n ns wanted a count h none e =
+    e ∙ scan-same _ _ count 0 (λ j p q.
+    let others : implicitGrants rs ns wanted (byteOf a j) ≡ false = rw (none (byteOf a j)) refl in
+    ap (cond (eqb mode 0) true) (ap (cond (matches (region rs n) (byteOf a j)) (permits wanted (region rs n))) (sym others) ∙ first-grants rs n ns wanted (byteOf a j) h))
 
 -- ---- the verdict, from what the loops find
 

@@ -1,7 +1,7 @@
 use mathlib.Core.Path.{_≡_, sym}
 use native.Mathlib.Omega.{arith}
 use lib.ListN.{length, List·getD-eq-default}
-use Rattle.model.specs.Machine.{noRegion}
+use Rattle.model.specs.Machine.{noRegion, lastRegion}
 use borrow.Author.Needs.{needs}
 use Rattle.hart.proofs.state.region_at.Statement.{statement}
 use Rattle.hart.proofs.state.region_at.Tie as tie
@@ -21,7 +21,7 @@ returns c = rw (c .before .before .region-index .ensures)
 returns-2 : tie.Need-returns-2
 returns-2 c =
     let a = c .before .before .args in
-    let long : length (a .t1) ≡ 3 = search needs in
+    let size : length (a .t1) ≡ lastRegion = search needs in
     sym (List·getD-eq-default (a .t1) noRegion (omega arith))
 
 pub region-at-spec : {M : Type 1} → statement M

@@ -3,6 +3,7 @@ use Prim.Native.Nat.{_-_}
 use native.Mathlib.Omega.{arith}
 use lib.Seq.{set-out}
 use lib.ListN.{length}
+use Rattle.model.specs.Machine.{lastRegion}
 use borrow.Author.Needs.{needs}
 use Rattle.hart.proofs.state.with_region.Statement.{statement}
 use Rattle.hart.proofs.state.with_region.Tie as tie
@@ -22,7 +23,7 @@ returns c = rw (c .before .region-index .ensures)
 returns-2 : tie.Need-returns-2
 returns-2 c =
     let a = c .before .before .args in
-    let long : length (a .rs) ≡ 3 = search needs in
+    let size : length (a .rs) ≡ lastRegion = search needs in
     sym (set-out (a .rs) (a .n - 1) (a .to) (omega arith))
 
 pub with-region-spec : {M : Type 1} → statement M

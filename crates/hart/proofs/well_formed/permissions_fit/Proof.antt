@@ -2,6 +2,7 @@ use mathlib.Core.Path.{_≡_, refl, _∙_}
 use Prim.Native.Nat.{_+_, _-_, _≤_}
 use native.Mathlib.Omega.{arith}
 use lib.ListN.{length, drop}
+use Rattle.model.specs.Machine.{lastRegion}
 use Rattle.model.specs.WellFormed.{permissionsFit}
 use Rattle.hart.proofs.Permissions.{fit-next, fit-end}
 use borrow.Author.Tests.{not-true, not-false}
@@ -10,10 +11,10 @@ use Rattle.hart.proofs.well_formed.permissions_fit.Statement.{statement
 use Rattle.hart.proofs.well_formed.permissions_fit.Tie as tie
 
 abbrev Inv-loop : tie.InvT-loop
-Inv-loop rs i₀ i = (i ≤ 3) × (permissionsFit (i + 1) (drop i rs) ≡ permissionsFit 1 rs)
+Inv-loop rs i₀ i = (i ≤ lastRegion) × (permissionsFit (i + 1) (drop i rs) ≡ permissionsFit 1 rs)
 
 abbrev μ-loop : tie.MeasureT-loop
-μ-loop rs i₀ i = 3 - i
+μ-loop rs i₀ i = lastRegion - i
 
 loop-holds : tie.Need-loop-holds Inv-loop μ-loop
 loop-holds c = (search needs, refl)
@@ -34,7 +35,7 @@ returns : tie.Need-returns Inv-loop μ-loop
 returns c =
     let rs = c .before .before .before .before .before .args .t1 in
     let l = c .before .before .before .before .loop in
-    let long : length rs ≡ 3 = search needs in
+    let size : length rs ≡ lastRegion = search needs in
     fit-next rs (l .i) (omega (arith, c .before .before .before .loop-test .taken)) (c .before .permission-fits .ensures)
     (not-true (c .before .permission-fits .result) (c .if1 .taken))
     ∙ l .inv .1
@@ -46,7 +47,7 @@ loop-again : tie.Need-loop-again Inv-loop μ-loop
 loop-again c =
     let rs = c .before .before .before .before .before .args .t1 in
     let l = c .before .before .before .before .loop in
-    let long : length rs ≡ 3 = search needs in (
+    let size : length rs ≡ lastRegion = search needs in (
       search needs,
       fit-next rs (l .i) (omega (arith, c .before .before .before .loop-test .taken)) (c .before .permission-fits .ensures)
           (not-false (c .before .permission-fits .result) (c .if1 .left))
@@ -56,7 +57,7 @@ loop-again c =
 returns-2 : tie.Need-returns-2 Inv-loop μ-loop
 returns-2 c =
     let rs = c .before .before .args .t1 in
-    let long : length rs ≡ 3 = search needs in
+    let size : length rs ≡ lastRegion = search needs in
     fit-end rs (c .before .loop .i) (omega (arith, c .loop-test .left)) ∙ c .before .loop .inv .1
 
 pub permissions-fit-spec : {M : Type 1} → statement M

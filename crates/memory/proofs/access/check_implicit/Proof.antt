@@ -1,8 +1,9 @@
+use mathlib.Core.Path.{refl}
 use mathlib.Core.List.{[], _∷_}
 use Rattle.model.specs.Regions.{firstMatch}
 use Rattle.model.specs.Access.{implicitAccess}
 use Rattle.model.specs.Bytes.{byteOf}
-use Rattle.memory.proofs.Loops.{alone-refused, first-blamed, refused-verdict, granted-verdict}
+use Rattle.memory.proofs.Loops.{first-refused, first-blamed, refused-verdict, granted-verdict}
 use borrow.Author.Needs.{needs}
 use Rattle.memory.proofs.access.check_implicit.Statement.{statement}
 use Rattle.memory.proofs.access.check_implicit.Tie as tie
@@ -26,13 +27,14 @@ matches-requires : tie.Need-matches-requires
 matches-requires c κs = search needs
 
 returns : tie.Need-returns
+unfolding firstMatch
 returns c =
     let s = c .before .before .before .before .before .before in
     let a = s .args in
     let refused = c .before .before .before .before .first-refused-implicit in
     let at = c .before .before .wrapping-add-u64 in
     refused-verdict (a .mode) (a .len) (implicitAccess (a .t2) (a .number ∷ []) (a .wanted) (a .a) (a .n))
-    (alone-refused (a .mode) (a .t2) (a .number) (a .wanted) (a .a) (a .n) (s .pre .0) (refused .ensures)) (c .before .before .before .if1 .taken) (at .ensures)
+    (first-refused (a .mode) (a .t2) (a .number) [] (a .wanted) (a .a) (a .n) (s .pre .0) (λ b. refl) (refused .ensures)) (c .before .before .before .if1 .taken) (at .ensures)
     (first-blamed (a .t2) (a .number) [] (byteOf (a .a) (refused .result)) (c .before .matches .ensures) (at .ensures) (c .if2 .taken))
 
 returns-2 : tie.Need-returns-2
@@ -43,19 +45,20 @@ returns-2 c =
     let refused = c .before .before .before .before .first-refused-implicit in
     let at = c .before .before .wrapping-add-u64 in
     refused-verdict (a .mode) (a .len) (implicitAccess (a .t2) (a .number ∷ []) (a .wanted) (a .a) (a .n))
-    (alone-refused (a .mode) (a .t2) (a .number) (a .wanted) (a .a) (a .n) (s .pre .0) (refused .ensures)) (c .before .before .before .if1 .taken) (at .ensures)
+    (first-refused (a .mode) (a .t2) (a .number) [] (a .wanted) (a .a) (a .n) (s .pre .0) (λ b. refl) (refused .ensures)) (c .before .before .before .if1 .taken) (at .ensures)
     (first-blamed (a .t2) (a .number) [] (byteOf (a .a) (refused .result)) (c .before .matches .ensures) (at .ensures) (c .if2 .left))
 
 presence-requires : tie.Need-presence-requires
 presence-requires c κs = search needs
 
 returns-3 : tie.Need-returns-3
+unfolding firstMatch
 returns-3 c =
     let s = c .before .before .before .before in
     let a = s .args in
     let refused = c .before .before .first-refused-implicit in
     granted-verdict (a .mode) (a .len) (implicitAccess (a .t2) (a .number ∷ []) (a .wanted) (a .a) (a .n))
-    (alone-refused (a .mode) (a .t2) (a .number) (a .wanted) (a .a) (a .n) (s .pre .0) (refused .ensures)) (c .before .if1 .left) (c .presence .ensures)
+    (first-refused (a .mode) (a .t2) (a .number) [] (a .wanted) (a .a) (a .n) (s .pre .0) (λ b. refl) (refused .ensures)) (c .before .if1 .left) (c .presence .ensures)
 
 pub check-implicit-spec : {M : Type 1} → statement M
 check-implicit-spec =
