@@ -1,0 +1,15 @@
+use Rattle.instructions.specs.Kinds.{systemCode, systemKinds}
+use Rattle.instructions.specs.declared.kind.SystemKind.{SystemKind}
+use Rattle.instructions.specs.declared.instruction.Instruction.the-variants.{System}
+use Rattle.instructions.specs.declared.instruction.Decoded.the-variants.{Legal, Illegal}
+use Rattle.instructions.proofs.Tables.{rest}
+use Rattle.decode.proofs.listing.system_at.Statement.{statement}
+use Rattle.decode.proofs.listing.system_at.Tie as tie
+
+pub system-at-spec : {M : Type 1} → statement M
+system-at-spec =
+    tie.close
+    (tie.spec
+    (λ c. rw (c .match .keys1))
+    (λ c. rw (c .match .keys2))
+    (λ c. rest systemCode (λ (k : SystemKind). Legal (System k)) Illegal systemKinds _ (c .match .rest)))

@@ -1,0 +1,15 @@
+use Rattle.instructions.specs.Kinds.{upperCode, upperKinds}
+use Rattle.instructions.specs.declared.kind.UpperKind.{UpperKind}
+use Rattle.instructions.specs.declared.instruction.Instruction.the-variants.{Upper}
+use Rattle.instructions.specs.declared.instruction.Decoded.the-variants.{Legal, Illegal}
+use Rattle.instructions.proofs.Tables.{rest}
+use Rattle.decode.proofs.listing.upper_at.Statement.{statement}
+use Rattle.decode.proofs.listing.upper_at.Tie as tie
+
+pub upper-at-spec : {M : Type 1} → statement M
+upper-at-spec =
+    tie.close
+    (tie.spec
+    (λ c. rw (c .match .keys1))
+    (λ c. rw (c .match .keys2))
+    (λ c. let a = c .before .args in rest upperCode (λ (k : UpperKind). Legal (Upper k (a .rd) (a .imm))) Illegal upperKinds _ (c .match .rest)))
