@@ -11,7 +11,7 @@ use hart::effect::Effect;
 use hart::effect::absent;
 use hart::effect::faulted;
 use hart::effect::stopped;
-use instructions::decode::decode;
+use decode::decode;
 use instructions::instruction::Decoded;
 use memory::access::check_fetch;
 use memory::bytes::read;
