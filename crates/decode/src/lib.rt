@@ -3,25 +3,16 @@ ghost use mathlib.Core.Path.{_≡_};
 ghost use Rattle.instructions.specs.Fields.{fieldsOf};
 ghost use Rattle.instructions.specs.InWord.{InWord};
 ghost use Rattle.instructions.specs.Decode.{decodeJalr, decodeShift, decodeImmediate, decodeImmediateWord, decodeFence, decodeSystem, decodeHfi, decodeFields, decodeWord};
+
 pub mod immediate;
 pub mod listing;
+
 use crate::immediate::b_immediate;
 use crate::immediate::i_bits;
 use crate::immediate::i_immediate;
 use crate::immediate::j_immediate;
 use crate::immediate::s_immediate;
 use crate::immediate::u_immediate;
-use crate::listing::branch_at;
-use crate::listing::hfi_at;
-use crate::listing::immediate_at;
-use crate::listing::load_at;
-use crate::listing::register_at;
-use crate::listing::register_word_at;
-use crate::listing::shift_at;
-use crate::listing::shift_word_at;
-use crate::listing::store_at;
-use crate::listing::system_at;
-use crate::listing::upper_at;
 use instructions::fields::Fields;
 use instructions::hfi_table::fields_named;
 use instructions::instruction::Decoded;
@@ -60,14 +51,15 @@ fn decode_shift(f: Fields) -> Decoded
     ensures { λ r. ⌜ r ≡ decodeShift f ⌝ }
 {
     let all = i_bits(f);
-    shift_at(put(f.funct3, bits(all, 6, 6), 3), f.rd, f.rs1, bits(all, 0, 6))
+    let code = put(f.funct3, bits(all, 6, 6), 3);
+    listing::shift(code, f.rd, f.rs1, bits(all, 0, 6))
 }
 
 fn decode_immediate(f: Fields) -> Decoded
     requires { ⌜ InWord f ⌝ }
     ensures { λ r. ⌜ r ≡ decodeImmediate f ⌝ }
 {
-    let d = immediate_at(f.funct3, f.rd, f.rs1, i_immediate(f));
+    let d = listing::immediate(f.funct3, f.rd, f.rs1, i_immediate(f));
     match d {
         Decoded::Legal(_) => d,
         Decoded::Illegal => decode_shift(f),
@@ -81,7 +73,7 @@ fn decode_immediate_word(f: Fields) -> Decoded
     if f.funct3 == 0 {
         Decoded::Legal(Instruction::Addiw(f.rd, f.rs1, i_immediate(f)))
     } else {
-        shift_word_at(put(f.funct3, f.funct7, 3), f.rd, f.rs1, f.rs2)
+        listing::shift_word(put(f.funct3, f.funct7, 3), f.rd, f.rs1, f.rs2)
     }
 }
 
@@ -108,7 +100,7 @@ fn decode_system(f: Fields) -> Decoded
     ensures { λ r. ⌜ r ≡ decodeSystem f ⌝ }
 {
     if (f.rd == 0) & ((f.funct3 == 0) & (f.rs1 == 0)) {
-        system_at(i_bits(f))
+        listing::system(i_bits(f))
     } else {
         Decoded::Illegal
     }
@@ -118,7 +110,7 @@ fn decode_hfi(f: Fields) -> Decoded
     ensures { λ r. ⌜ r ≡ decodeHfi f ⌝ }
 {
     if (f.funct3 == 0) & fields_named(f.funct7, f.rd, f.rs1, f.rs2) {
-        hfi_at(f.funct7, f.rd, f.rs1, f.rs2)
+        listing::hfi(f.funct7, f.rd, f.rs1, f.rs2)
     } else {
         Decoded::Illegal
     }
@@ -130,21 +122,21 @@ fn decode_fields(f: Fields) -> Decoded
 {
     let opcode = f.opcode;
     match opcode {
-        opcode::LUI => upper_at(opcode::LUI, f.rd, u_immediate(f)),
-        opcode::AUIPC => upper_at(opcode::AUIPC, f.rd, u_immediate(f)),
+        opcode::LUI => listing::upper(opcode::LUI, f.rd, u_immediate(f)),
+        opcode::AUIPC => listing::upper(opcode::AUIPC, f.rd, u_immediate(f)),
         opcode::JAL => Decoded::Legal(Instruction::Jal(f.rd, j_immediate(f))),
         opcode::JALR => decode_jalr(f),
-        opcode::BRANCH => branch_at(f.funct3, f.rs1, f.rs2, b_immediate(f)),
-        opcode::LOAD => load_at(false, f.funct3, f.rd, f.rs1, i_immediate(f)),
-        opcode::STORE => store_at(false, f.funct3, f.rs1, f.rs2, s_immediate(f)),
+        opcode::BRANCH => listing::branch(f.funct3, f.rs1, f.rs2, b_immediate(f)),
+        opcode::LOAD => listing::load(false, f.funct3, f.rd, f.rs1, i_immediate(f)),
+        opcode::STORE => listing::store(false, f.funct3, f.rs1, f.rs2, s_immediate(f)),
         opcode::OP_IMM => decode_immediate(f),
         opcode::OP_IMM_32 => decode_immediate_word(f),
-        opcode::OP => register_at(put(f.funct3, f.funct7, 3), f.rd, f.rs1, f.rs2),
-        opcode::OP_32 => register_word_at(put(f.funct3, f.funct7, 3), f.rd, f.rs1, f.rs2),
+        opcode::OP => listing::register(put(f.funct3, f.funct7, 3), f.rd, f.rs1, f.rs2),
+        opcode::OP_32 => listing::register_word(put(f.funct3, f.funct7, 3), f.rd, f.rs1, f.rs2),
         opcode::MISC_MEM => decode_fence(f),
         opcode::SYSTEM => decode_system(f),
-        opcode::H_LOAD => load_at(true, f.funct3, f.rd, f.rs1, i_immediate(f)),
-        opcode::H_STORE => store_at(true, f.funct3, f.rs1, f.rs2, s_immediate(f)),
+        opcode::H_LOAD => listing::load(true, f.funct3, f.rd, f.rs1, i_immediate(f)),
+        opcode::H_STORE => listing::store(true, f.funct3, f.rs1, f.rs2, s_immediate(f)),
         opcode::HFI => decode_hfi(f),
         _ => Decoded::Illegal,
     }

@@ -95,7 +95,13 @@ pub fn shift_fields(k: ShiftKind, rd: u64, rs1: u64, amount: u64) -> Fields
     ensures { λ r. ⌜ r ≡ shiftFields k rd rs1 amount ⌝ }
 {
     let code = k.code();
-    i_fields(OP_IMM, bits(code, 0, 3), rd, rs1, put(amount, bits(code, 3, 6), 6))
+    i_fields(
+        OP_IMM,
+        bits(code, 0, 3),
+        rd,
+        rs1,
+        put(amount, bits(code, 3, 6), 6),
+    )
 }
 
 pub fn fence_fields(fm: u64, pred: u64, succ: u64, rs1: u64, rd: u64) -> Fields

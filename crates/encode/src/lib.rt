@@ -3,7 +3,9 @@ ghost use mathlib.Core.Path.{_≡_};
 ghost use mathlib.Core.Bool.{true};
 ghost use Prim.Native.Nat.{_<_};
 ghost use Rattle.instructions.specs.Encode.{encodeFields, two, multiple as isMultiple, inRange, encodeWord};
+
 pub mod format;
+
 use crate::format::b_fields;
 use crate::format::fence_fields;
 use crate::format::i_fields;

@@ -18,81 +18,130 @@ use crate::opcode::LUI;
 
 // funct3 of opcode BRANCH.
 pub const BEQ: u64 = 0b000;
+
 pub const BNE: u64 = 0b001;
+
 pub const BLT: u64 = 0b100;
+
 pub const BGE: u64 = 0b101;
+
 pub const BLTU: u64 = 0b110;
+
 pub const BGEU: u64 = 0b111;
 
 // funct3 of opcode LOAD, and of opcode 0b.
 pub const LB: u64 = 0b000;
+
 pub const LH: u64 = 0b001;
+
 pub const LW: u64 = 0b010;
+
 pub const LD: u64 = 0b011;
+
 pub const LBU: u64 = 0b100;
+
 pub const LHU: u64 = 0b101;
+
 pub const LWU: u64 = 0b110;
 
 // funct3 of opcode STORE, and of opcode 2b.
 pub const SB: u64 = 0b000;
+
 pub const SH: u64 = 0b001;
+
 pub const SW: u64 = 0b010;
+
 pub const SD: u64 = 0b011;
 
 // funct3 of opcode OP-IMM.
 pub const ADDI: u64 = 0b000;
+
 pub const SLTI: u64 = 0b010;
+
 pub const SLTIU: u64 = 0b011;
+
 pub const XORI: u64 = 0b100;
+
 pub const ORI: u64 = 0b110;
+
 pub const ANDI: u64 = 0b111;
 
 // The six bits above the amount, and funct3, of opcode OP-IMM.
 pub const SLLI: u64 = 0b000000_001;
+
 pub const SRLI: u64 = 0b000000_101;
+
 pub const SRAI: u64 = 0b010000_101;
 
 // funct7 and funct3 of opcode OP-IMM-32.
 pub const SLLIW: u64 = 0b0000000_001;
+
 pub const SRLIW: u64 = 0b0000000_101;
+
 pub const SRAIW: u64 = 0b0100000_101;
 
 // funct7 and funct3 of opcode OP.
 pub const ADD: u64 = 0b0000000_000;
+
 pub const SUB: u64 = 0b0100000_000;
+
 pub const SLL: u64 = 0b0000000_001;
+
 pub const SLT: u64 = 0b0000000_010;
+
 pub const SLTU: u64 = 0b0000000_011;
+
 pub const XOR: u64 = 0b0000000_100;
+
 pub const SRL: u64 = 0b0000000_101;
+
 pub const SRA: u64 = 0b0100000_101;
+
 pub const OR: u64 = 0b0000000_110;
+
 pub const AND: u64 = 0b0000000_111;
 
 // funct7 and funct3 of opcode OP-32.
 pub const ADDW: u64 = 0b0000000_000;
+
 pub const SUBW: u64 = 0b0100000_000;
+
 pub const SLLW: u64 = 0b0000000_001;
+
 pub const SRLW: u64 = 0b0000000_101;
+
 pub const SRAW: u64 = 0b0100000_101;
 
 // funct12 of opcode SYSTEM.
 pub const ECALL: u64 = 0;
+
 pub const EBREAK: u64 = 1;
 
 // Document 01's funct7 of opcode 5b.
 pub const ENTER: u64 = 0;
+
 pub const ENTER_JUMP: u64 = 1;
+
 pub const EXIT: u64 = 2;
+
 pub const SELECT_REGION: u64 = 3;
+
 pub const SET_BASE: u64 = 4;
+
 pub const GET_BASE: u64 = 5;
+
 pub const SET_BOUND: u64 = 6;
+
 pub const GET_BOUND: u64 = 7;
+
 pub const SET_PERMISSION: u64 = 8;
+
 pub const GET_PERMISSION: u64 = 9;
+
 pub const SET_HANDLER: u64 = 10;
+
 pub const GET_HANDLER: u64 = 11;
+
 pub const RESET_REGIONS: u64 = 12;
 
 impl UpperKind {

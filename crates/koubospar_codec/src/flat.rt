@@ -3,17 +3,7 @@ ghost use mathlib.Core.Path.{_≡_};
 ghost use Rattle.instructions.specs.Decode.{decodeWord};
 ghost use Rattle.koubospar_codec.specs.Flat.{layout, fenceLayout, flatten as flattenOf, unflatten as unflattenOf, same as sameAs, standsFor, flatDecoded, flatEncoded, encodeFlat};
 use decode::decode;
-use decode::listing::branch_at;
-use decode::listing::hfi_at;
-use decode::listing::immediate_at;
-use decode::listing::load_at;
-use decode::listing::register_at;
-use decode::listing::register_word_at;
-use decode::listing::shift_at;
-use decode::listing::shift_word_at;
-use decode::listing::store_at;
-use decode::listing::system_at;
-use decode::listing::upper_at;
+use decode::listing;
 use encode::encode;
 use instructions::instruction::Decoded;
 use instructions::instruction::Encoded;
@@ -110,23 +100,23 @@ pub fn unflatten(f: Flat) -> Decoded
 {
     let group = f.group;
     match group {
-        1 => upper_at(f.kind, f.rd, f.imm),
+        1 => listing::upper(f.kind, f.rd, f.imm),
         2 => Decoded::Legal(Instruction::Jal(f.rd, f.imm)),
         3 => Decoded::Legal(Instruction::Jalr(f.rd, f.rs1, f.imm)),
-        4 => branch_at(f.kind, f.rs1, f.rs2, f.imm),
-        5 => load_at(false, f.kind, f.rd, f.rs1, f.imm),
-        6 => store_at(false, f.kind, f.rs1, f.rs2, f.imm),
-        7 => immediate_at(f.kind, f.rd, f.rs1, f.imm),
-        8 => shift_at(f.kind, f.rd, f.rs1, f.imm),
+        4 => listing::branch(f.kind, f.rs1, f.rs2, f.imm),
+        5 => listing::load(false, f.kind, f.rd, f.rs1, f.imm),
+        6 => listing::store(false, f.kind, f.rs1, f.rs2, f.imm),
+        7 => listing::immediate(f.kind, f.rd, f.rs1, f.imm),
+        8 => listing::shift(f.kind, f.rd, f.rs1, f.imm),
         9 => Decoded::Legal(Instruction::Addiw(f.rd, f.rs1, f.imm)),
-        10 => shift_word_at(f.kind, f.rd, f.rs1, f.imm),
-        11 => register_at(f.kind, f.rd, f.rs1, f.rs2),
-        12 => register_word_at(f.kind, f.rd, f.rs1, f.rs2),
+        10 => listing::shift_word(f.kind, f.rd, f.rs1, f.imm),
+        11 => listing::register(f.kind, f.rd, f.rs1, f.rs2),
+        12 => listing::register_word(f.kind, f.rd, f.rs1, f.rs2),
         13 => Decoded::Legal(Instruction::Fence(f.fm, f.pred, f.succ, f.rs1, f.rd)),
-        14 => system_at(f.kind),
-        15 => load_at(true, f.kind, f.rd, f.rs1, f.imm),
-        16 => store_at(true, f.kind, f.rs1, f.rs2, f.imm),
-        17 => hfi_at(f.kind, f.rd, f.rs1, f.rs2),
+        14 => listing::system(f.kind),
+        15 => listing::load(true, f.kind, f.rd, f.rs1, f.imm),
+        16 => listing::store(true, f.kind, f.rs1, f.rs2, f.imm),
+        17 => listing::hfi(f.kind, f.rd, f.rs1, f.rs2),
         _ => Decoded::Illegal,
     }
 }
@@ -146,7 +136,11 @@ pub fn stands_for(f: Flat) -> Decoded
 {
     let d = unflatten(f);
     match d {
-        Decoded::Legal(i) => if same(flatten(i), f) { d } else { Decoded::Illegal },
+        Decoded::Legal(i) => if same(flatten(i), f) {
+            d
+        } else {
+            Decoded::Illegal
+        },
         Decoded::Illegal => Decoded::Illegal,
     }
 }

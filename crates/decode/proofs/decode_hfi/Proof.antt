@@ -9,5 +9,5 @@ decode-hfi-spec =
     (tie.spec
     (λ c κs. search needs)
     (λ c κs. search needs)
-    (λ c. rw (c .hfi-at .ensures, sym (c .before .before .fields-named .ensures), c .before .if1 .taken))
+    (λ c. rw (c .hfi .ensures, sym (c .before .before .fields-named .ensures), c .before .if1 .taken))
     (λ c. rw (sym (c .before .fields-named .ensures), c .if1 .left)))

@@ -11,4 +11,4 @@ decode-immediate-word-spec =
     (λ c κs. search needs)
     (λ c κs. search needs)
     (λ c. rw (eq-eqb _ 0 (c .before .if1 .taken), c .i-immediate .ensures))
-    (λ c. rw (ne-eqb _ 0 (c .before .before .if1 .left), c .shift-word-at .ensures, c .before .put .ensures)))
+    (λ c. rw (ne-eqb _ 0 (c .before .before .if1 .left), c .shift-word .ensures, c .before .put .ensures)))

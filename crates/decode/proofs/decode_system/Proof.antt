@@ -8,5 +8,5 @@ decode-system-spec =
     (tie.spec
     (λ c κs. search needs)
     (λ c κs. search needs)
-    (λ c. rw (c .before .before .if1 .taken, c .system-at .ensures, c .before .i-bits .ensures))
+    (λ c. rw (c .before .before .if1 .taken, c .system .ensures, c .before .i-bits .ensures))
     (λ c. rw (c .if1 .left)))

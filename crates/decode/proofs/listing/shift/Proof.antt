@@ -3,11 +3,11 @@ use Rattle.instructions.specs.declared.kind.ShiftKind.{ShiftKind}
 use Rattle.instructions.specs.declared.instruction.Instruction.the-variants.{Shift}
 use Rattle.instructions.specs.declared.instruction.Decoded.the-variants.{Legal, Illegal}
 use Rattle.instructions.proofs.Tables.{rest}
-use Rattle.decode.proofs.listing.shift_at.Statement.{statement}
-use Rattle.decode.proofs.listing.shift_at.Tie as tie
+use Rattle.decode.proofs.listing.shift.Statement.{statement}
+use Rattle.decode.proofs.listing.shift.Tie as tie
 
-pub shift-at-spec : {M : Type 1} → statement M
-shift-at-spec =
+pub shift-spec : {M : Type 1} → statement M
+shift-spec =
     tie.close
     (tie.spec
     (λ c. rw (c .match .keys1))

@@ -3,11 +3,11 @@ use Rattle.instructions.specs.declared.kind.HfiKind.{HfiKind}
 use Rattle.instructions.specs.declared.instruction.Instruction.the-variants.{Hfi}
 use Rattle.instructions.specs.declared.instruction.Decoded.the-variants.{Legal, Illegal}
 use Rattle.instructions.proofs.Tables.{rest}
-use Rattle.decode.proofs.listing.hfi_at.Statement.{statement}
-use Rattle.decode.proofs.listing.hfi_at.Tie as tie
+use Rattle.decode.proofs.listing.hfi.Statement.{statement}
+use Rattle.decode.proofs.listing.hfi.Tie as tie
 
-pub hfi-at-spec : {M : Type 1} → statement M
-hfi-at-spec =
+pub hfi-spec : {M : Type 1} → statement M
+hfi-spec =
     tie.close
     (tie.spec
     (λ c. rw (c .match .keys1))

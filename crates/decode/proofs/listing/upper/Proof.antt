@@ -3,11 +3,11 @@ use Rattle.instructions.specs.declared.kind.UpperKind.{UpperKind}
 use Rattle.instructions.specs.declared.instruction.Instruction.the-variants.{Upper}
 use Rattle.instructions.specs.declared.instruction.Decoded.the-variants.{Legal, Illegal}
 use Rattle.instructions.proofs.Tables.{rest}
-use Rattle.decode.proofs.listing.upper_at.Statement.{statement}
-use Rattle.decode.proofs.listing.upper_at.Tie as tie
+use Rattle.decode.proofs.listing.upper.Statement.{statement}
+use Rattle.decode.proofs.listing.upper.Tie as tie
 
-pub upper-at-spec : {M : Type 1} → statement M
-upper-at-spec =
+pub upper-spec : {M : Type 1} → statement M
+upper-spec =
     tie.close
     (tie.spec
     (λ c. rw (c .match .keys1))

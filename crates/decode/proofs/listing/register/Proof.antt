@@ -3,11 +3,11 @@ use Rattle.instructions.specs.declared.kind.RegisterKind.{RegisterKind}
 use Rattle.instructions.specs.declared.instruction.Instruction.the-variants.{Register}
 use Rattle.instructions.specs.declared.instruction.Decoded.the-variants.{Legal, Illegal}
 use Rattle.instructions.proofs.Tables.{rest}
-use Rattle.decode.proofs.listing.register_at.Statement.{statement}
-use Rattle.decode.proofs.listing.register_at.Tie as tie
+use Rattle.decode.proofs.listing.register.Statement.{statement}
+use Rattle.decode.proofs.listing.register.Tie as tie
 
-pub register-at-spec : {M : Type 1} → statement M
-register-at-spec =
+pub register-spec : {M : Type 1} → statement M
+register-spec =
     tie.close
     (tie.spec
     (λ c. rw (c .match .keys1))

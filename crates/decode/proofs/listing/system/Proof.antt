@@ -3,11 +3,11 @@ use Rattle.instructions.specs.declared.kind.SystemKind.{SystemKind}
 use Rattle.instructions.specs.declared.instruction.Instruction.the-variants.{System}
 use Rattle.instructions.specs.declared.instruction.Decoded.the-variants.{Legal, Illegal}
 use Rattle.instructions.proofs.Tables.{rest}
-use Rattle.decode.proofs.listing.system_at.Statement.{statement}
-use Rattle.decode.proofs.listing.system_at.Tie as tie
+use Rattle.decode.proofs.listing.system.Statement.{statement}
+use Rattle.decode.proofs.listing.system.Tie as tie
 
-pub system-at-spec : {M : Type 1} → statement M
-system-at-spec =
+pub system-spec : {M : Type 1} → statement M
+system-spec =
     tie.close
     (tie.spec
     (λ c. rw (c .match .keys1))

@@ -3,11 +3,11 @@ use Rattle.instructions.specs.declared.kind.BranchKind.{BranchKind}
 use Rattle.instructions.specs.declared.instruction.Instruction.the-variants.{Branch}
 use Rattle.instructions.specs.declared.instruction.Decoded.the-variants.{Legal, Illegal}
 use Rattle.instructions.proofs.Tables.{rest}
-use Rattle.decode.proofs.listing.branch_at.Statement.{statement}
-use Rattle.decode.proofs.listing.branch_at.Tie as tie
+use Rattle.decode.proofs.listing.branch.Statement.{statement}
+use Rattle.decode.proofs.listing.branch.Tie as tie
 
-pub branch-at-spec : {M : Type 1} → statement M
-branch-at-spec =
+pub branch-spec : {M : Type 1} → statement M
+branch-spec =
     tie.close
     (tie.spec
     (λ c. rw (c .match .keys1))

@@ -3,11 +3,11 @@ use Rattle.instructions.specs.declared.kind.ImmediateKind.{ImmediateKind}
 use Rattle.instructions.specs.declared.instruction.Instruction.the-variants.{Immediate}
 use Rattle.instructions.specs.declared.instruction.Decoded.the-variants.{Legal, Illegal}
 use Rattle.instructions.proofs.Tables.{rest}
-use Rattle.decode.proofs.listing.immediate_at.Statement.{statement}
-use Rattle.decode.proofs.listing.immediate_at.Tie as tie
+use Rattle.decode.proofs.listing.immediate.Statement.{statement}
+use Rattle.decode.proofs.listing.immediate.Tie as tie
 
-pub immediate-at-spec : {M : Type 1} → statement M
-immediate-at-spec =
+pub immediate-spec : {M : Type 1} → statement M
+immediate-spec =
     tie.close
     (tie.spec
     (λ c. rw (c .match .keys1))
