@@ -5,7 +5,6 @@ ghost use Rattle.instructions.specs.InWord.{InWord};
 ghost use Rattle.instructions.specs.Decode.{decodeJalr, decodeShift, decodeImmediate, decodeImmediateWord, decodeFence, decodeSystem, decodeHfi, decodeFields, decodeWord};
 
 pub mod immediate;
-pub mod listing;
 
 use crate::immediate::b_immediate;
 use crate::immediate::i_bits;

@@ -57,7 +57,7 @@ fn in_range(i: Instruction) -> bool
         Instruction::Upper(_, rd, imm) => (rd < 32) & multiple(imm, 32, 12),
         Instruction::Jal(rd, offset) => (rd < 32) & multiple(offset, 21, 1),
         Instruction::Jalr(rd, rs1, imm) => two_registers(rd, rs1, fits_signed(imm, 12)),
-        Instruction::Branch(_, a, b, offset) => two_registers(a, b, multiple(offset, 13, 1)),
+        Instruction::Branch(_, rs1, rs2, imm) => two_registers(rs1, rs2, multiple(imm, 13, 1)),
         Instruction::Load(_, rd, rs1, imm) => two_registers(rd, rs1, fits_signed(imm, 12)),
         Instruction::Store(_, rs1, rs2, imm) => two_registers(rs1, rs2, fits_signed(imm, 12)),
         Instruction::Immediate(_, rd, rs1, imm) => two_registers(rd, rs1, fits_signed(imm, 12)),

@@ -3,7 +3,6 @@ ghost use mathlib.Core.Path.{_≡_};
 ghost use Rattle.instructions.specs.Decode.{decodeWord};
 ghost use Rattle.koubospar_codec.specs.Flat.{layout, fenceLayout, flatten as flattenOf, unflatten as unflattenOf, same as sameAs, standsFor, flatDecoded, flatEncoded, encodeFlat};
 use decode::decode;
-use decode::listing;
 use encode::encode;
 use instructions::instruction::Decoded;
 use instructions::instruction::Encoded;

@@ -4,8 +4,8 @@ use Rattle.instructions.specs.Decode.{loadOf}
 use Rattle.instructions.specs.declared.kind.LoadKind.{LoadKind}
 use Rattle.instructions.specs.declared.instruction.Decoded.the-variants.{Legal, Illegal}
 use Rattle.instructions.proofs.Tables.{rest}
-use Rattle.decode.proofs.listing.load.Statement.{statement}
-use Rattle.decode.proofs.listing.load.Tie as tie
+use Rattle.listing.proofs.load.Statement.{statement}
+use Rattle.listing.proofs.load.Tie as tie
 
 pub load-spec : {M : Type 1} → statement M
 load-spec =

@@ -3,8 +3,8 @@ use Rattle.instructions.specs.declared.kind.HfiKind.{HfiKind}
 use Rattle.instructions.specs.declared.instruction.Instruction.the-variants.{Hfi}
 use Rattle.instructions.specs.declared.instruction.Decoded.the-variants.{Legal, Illegal}
 use Rattle.instructions.proofs.Tables.{rest}
-use Rattle.decode.proofs.listing.hfi.Statement.{statement}
-use Rattle.decode.proofs.listing.hfi.Tie as tie
+use Rattle.listing.proofs.hfi.Statement.{statement}
+use Rattle.listing.proofs.hfi.Tie as tie
 
 pub hfi-spec : {M : Type 1} → statement M
 hfi-spec =

@@ -3,8 +3,8 @@ use Rattle.instructions.specs.declared.kind.BranchKind.{BranchKind}
 use Rattle.instructions.specs.declared.instruction.Instruction.the-variants.{Branch}
 use Rattle.instructions.specs.declared.instruction.Decoded.the-variants.{Legal, Illegal}
 use Rattle.instructions.proofs.Tables.{rest}
-use Rattle.decode.proofs.listing.branch.Statement.{statement}
-use Rattle.decode.proofs.listing.branch.Tie as tie
+use Rattle.listing.proofs.branch.Statement.{statement}
+use Rattle.listing.proofs.branch.Tie as tie
 
 pub branch-spec : {M : Type 1} → statement M
 branch-spec =

@@ -3,8 +3,8 @@ use Rattle.instructions.specs.declared.kind.ShiftKind.{ShiftKind}
 use Rattle.instructions.specs.declared.instruction.Instruction.the-variants.{Shift}
 use Rattle.instructions.specs.declared.instruction.Decoded.the-variants.{Legal, Illegal}
 use Rattle.instructions.proofs.Tables.{rest}
-use Rattle.decode.proofs.listing.shift.Statement.{statement}
-use Rattle.decode.proofs.listing.shift.Tie as tie
+use Rattle.listing.proofs.shift.Statement.{statement}
+use Rattle.listing.proofs.shift.Tie as tie
 
 pub shift-spec : {M : Type 1} → statement M
 shift-spec =

@@ -3,8 +3,8 @@ use Rattle.instructions.specs.declared.kind.UpperKind.{UpperKind}
 use Rattle.instructions.specs.declared.instruction.Instruction.the-variants.{Upper}
 use Rattle.instructions.specs.declared.instruction.Decoded.the-variants.{Legal, Illegal}
 use Rattle.instructions.proofs.Tables.{rest}
-use Rattle.decode.proofs.listing.upper.Statement.{statement}
-use Rattle.decode.proofs.listing.upper.Tie as tie
+use Rattle.listing.proofs.upper.Statement.{statement}
+use Rattle.listing.proofs.upper.Tie as tie
 
 pub upper-spec : {M : Type 1} → statement M
 upper-spec =

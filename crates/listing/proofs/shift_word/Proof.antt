@@ -3,8 +3,8 @@ use Rattle.instructions.specs.declared.kind.ShiftWordKind.{ShiftWordKind}
 use Rattle.instructions.specs.declared.instruction.Instruction.the-variants.{ShiftWord}
 use Rattle.instructions.specs.declared.instruction.Decoded.the-variants.{Legal, Illegal}
 use Rattle.instructions.proofs.Tables.{rest}
-use Rattle.decode.proofs.listing.shift_word.Statement.{statement}
-use Rattle.decode.proofs.listing.shift_word.Tie as tie
+use Rattle.listing.proofs.shift_word.Statement.{statement}
+use Rattle.listing.proofs.shift_word.Tie as tie
 
 pub shift-word-spec : {M : Type 1} → statement M
 shift-word-spec =

@@ -3,8 +3,8 @@ use Rattle.instructions.specs.declared.kind.RegisterKind.{RegisterKind}
 use Rattle.instructions.specs.declared.instruction.Instruction.the-variants.{Register}
 use Rattle.instructions.specs.declared.instruction.Decoded.the-variants.{Legal, Illegal}
 use Rattle.instructions.proofs.Tables.{rest}
-use Rattle.decode.proofs.listing.register.Statement.{statement}
-use Rattle.decode.proofs.listing.register.Tie as tie
+use Rattle.listing.proofs.register.Statement.{statement}
+use Rattle.listing.proofs.register.Tie as tie
 
 pub register-spec : {M : Type 1} → statement M
 register-spec =

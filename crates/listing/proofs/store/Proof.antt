@@ -4,8 +4,8 @@ use Rattle.instructions.specs.Decode.{storeOf}
 use Rattle.instructions.specs.declared.kind.StoreKind.{StoreKind}
 use Rattle.instructions.specs.declared.instruction.Decoded.the-variants.{Legal, Illegal}
 use Rattle.instructions.proofs.Tables.{rest}
-use Rattle.decode.proofs.listing.store.Statement.{statement}
-use Rattle.decode.proofs.listing.store.Tie as tie
+use Rattle.listing.proofs.store.Statement.{statement}
+use Rattle.listing.proofs.store.Tie as tie
 
 pub store-spec : {M : Type 1} → statement M
 store-spec =

@@ -3,8 +3,8 @@ use Rattle.instructions.specs.declared.kind.ImmediateKind.{ImmediateKind}
 use Rattle.instructions.specs.declared.instruction.Instruction.the-variants.{Immediate}
 use Rattle.instructions.specs.declared.instruction.Decoded.the-variants.{Legal, Illegal}
 use Rattle.instructions.proofs.Tables.{rest}
-use Rattle.decode.proofs.listing.immediate.Statement.{statement}
-use Rattle.decode.proofs.listing.immediate.Tie as tie
+use Rattle.listing.proofs.immediate.Statement.{statement}
+use Rattle.listing.proofs.immediate.Tie as tie
 
 pub immediate-spec : {M : Type 1} → statement M
 immediate-spec =

@@ -3,8 +3,8 @@ use Rattle.instructions.specs.declared.kind.SystemKind.{SystemKind}
 use Rattle.instructions.specs.declared.instruction.Instruction.the-variants.{System}
 use Rattle.instructions.specs.declared.instruction.Decoded.the-variants.{Legal, Illegal}
 use Rattle.instructions.proofs.Tables.{rest}
-use Rattle.decode.proofs.listing.system.Statement.{statement}
-use Rattle.decode.proofs.listing.system.Tie as tie
+use Rattle.listing.proofs.system.Statement.{statement}
+use Rattle.listing.proofs.system.Tie as tie
 
 pub system-spec : {M : Type 1} → statement M
 system-spec =

@@ -3,8 +3,8 @@ use Rattle.instructions.specs.declared.kind.RegisterWordKind.{RegisterWordKind}
 use Rattle.instructions.specs.declared.instruction.Instruction.the-variants.{RegisterWord}
 use Rattle.instructions.specs.declared.instruction.Decoded.the-variants.{Legal, Illegal}
 use Rattle.instructions.proofs.Tables.{rest}
-use Rattle.decode.proofs.listing.register_word.Statement.{statement}
-use Rattle.decode.proofs.listing.register_word.Tie as tie
+use Rattle.listing.proofs.register_word.Statement.{statement}
+use Rattle.listing.proofs.register_word.Tie as tie
 
 pub register-word-spec : {M : Type 1} → statement M
 register-word-spec =
