@@ -8,8 +8,8 @@ use columns::print;
 use columns::print_decimal;
 use columns::print_hexadecimal;
 use columns::read_file;
-use instructions::decode::decode;
-use instructions::encode::encode;
+use decode::decode;
+use encode::encode;
 use instructions::instruction::Decoded;
 use instructions::instruction::Encoded;
 

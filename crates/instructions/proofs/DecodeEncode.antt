@@ -1,19 +1,18 @@
 -- An instruction in range has fields that are in their places and are decoded to it.
 -- Assumes nothing.
 use mathlib.Core.Path.{_≡_, refl, ap, ap₂, _∙_}
-use mathlib.Core.Bool.{Bool, true}
+use mathlib.Core.Bool.{Bool, true, _&&_}
 use Prim.Native.Nat.{ℕ, _+_, _*_, _^_, _<_}
 use native.Mathlib.Omega.{arith}
-use lib.Dec.{lit<}
+use lib.Dec.{eqb, lit<}
 use borrow.Author.Tests.{ltb-true, eq-eqb}
 use Rattle.words.specs.Word.{field}
 use Rattle.words.proofs.Fields.{field-lt, field-put, field-join}
-use Rattle.instructions.specs.Fields.{InWord}
-use Rattle.instructions.specs.Table.{ofCode}
+use Rattle.instructions.specs.InWord.{InWord}
 use Rattle.instructions.specs.Opcodes.{LUI, AUIPC, JAL, JALR, BRANCH, LOAD, STORE, OP-IMM, OP-IMM-32, OP, OP-32, MISC-MEM, SYSTEM, H-LOAD, H-STORE, HFI}
-use Rattle.instructions.specs.Kinds.{functs, upperCode, branchCode, loadCode, storeCode, immediateCode, shiftCode, shiftWordCode, registerCode, registerWordCode, systemCode, systemKinds, hfiCode}
-use Rattle.instructions.specs.Immediates.{iBits}
-use Rattle.instructions.specs.Decode.{provided, decodeShift, decodeShiftWord, decodeRegister, decodeRegisterWord, hfiOf, decodeHfi, decodeFields}
+use Rattle.instructions.specs.Kinds.{functs, upperCode, branchCode, loadCode, storeCode, immediateCode, shiftCode, shiftWordCode, registerCode, registerWordCode, systemCode, hfiCode}
+use Rattle.instructions.specs.Immediates.{iBits, iImmediate}
+use Rattle.instructions.specs.Decode.{shiftAt, shiftWordAt, registerAt, registerWordAt, systemAt, hfiAt, namedAt, provided, otherwise, decodeShift, decodeFields}
 use Rattle.instructions.specs.Encode.{rFields, shiftFields, fenceFields, encodeFields, inRange}
 use Rattle.instructions.specs.declared.kind.UpperKind.{UpperKind}
 use Rattle.instructions.specs.declared.kind.BranchKind.{BranchKind}
@@ -38,7 +37,7 @@ use Rattle.instructions.proofs.Formats.{r-in-word, i-in-word, s-in-word
 -- ---- an instruction in range has its fields in their places
 
 pub encode-in-word : (i : Instruction) → inRange i ≡ true → InWord (encodeFields i)
-encode-in-word (Upper k rd x) h = u-in-word (upperCode k) rd x _ (upper-code k) h
+encode-in-word (Upper k rd x) h = u-in-word (upperCode k) rd x _ (upper-code k .small) h
 encode-in-word (Jal rd x) h = j-in-word JAL rd x _ (lit< tt) h
 encode-in-word (Jalr rd rs1 x) h = i-in-word JALR 0 rd rs1 x _ (lit< tt) (lit< tt) h
 encode-in-word (Branch k rs1 rs2 x) h = b-in-word BRANCH (branchCode k) rs1 rs2 x _ (lit< tt) (branch-code k .small) h
@@ -102,25 +101,25 @@ decode-encode (Store k rs1 rs2 x) h =
     found-with (store-code k) (λ (j : StoreKind) (y : ℕ). Legal (Store j rs1 rs2 y)) Illegal
     (s-read STORE (storeCode k) rs1 rs2 x (two-all rs1 rs2 _ h .2))
 decode-encode (Immediate k rd rs1 x) h =
-    found-with (immediate-code k) (λ (j : ImmediateKind) (y : ℕ). Legal (Immediate j rd rs1 y)) _
-    (i-read OP-IMM (immediateCode k) rd rs1 x (two-all rd rs1 _ h .2))
+    ap (λ (d : Decoded). otherwise d (decodeShift (encodeFields (Immediate k rd rs1 x))))
+    (found-with (immediate-code k) (λ (j : ImmediateKind) (y : ℕ). Legal (Immediate j rd rs1 y)) Illegal
+    (i-read OP-IMM (immediateCode k) rd rs1 x (two-all rd rs1 _ h .2)))
 decode-encode (Shift k rd rs1 amount) h =
+    let f = shiftFields k rd rs1 amount in
     let p = shift-parts k rd rs1 amount (amount-range k rd rs1 amount h) in
-    shift-apart k (shiftFields k rd rs1 amount)
-    ∙ ap (decodeShift (shiftFields k rd rs1 amount)) (field-join (shiftCode k) 3 6 (shift-code k .small) (p .0) refl)
+    shift-apart k rd rs1 (iImmediate f) (decodeShift f)
+    ∙ ap (λ (n : ℕ). shiftAt n rd rs1 (field (iBits f) 0 6)) (field-join (shiftCode k) 3 6 (shift-code k .small) (p .0) refl)
     ∙ found-with (shift-code k) (λ (j : ShiftKind) (y : ℕ). Legal (Shift j rd rs1 y)) Illegal (p .1)
 decode-encode (Addiw rd rs1 x) h = ap (λ (y : ℕ). Legal (Addiw rd rs1 y)) (i-read OP-IMM-32 0 rd rs1 x (two-all rd rs1 _ h .2))
 decode-encode (ShiftWord k rd rs1 amount) h =
     rw (shift-word-apart k)
-    (ap (decodeShiftWord (rFields OP-IMM-32 (shiftWordCode k) rd rs1 amount))
-    (r-read OP-IMM-32 (shiftWordCode k) rd rs1 amount (shift-word-code k .small))
+    (ap (λ (n : ℕ). shiftWordAt n rd rs1 amount) (r-read OP-IMM-32 (shiftWordCode k) rd rs1 amount (shift-word-code k .small))
     ∙ shift-word-code k .found Decoded (λ (j : ShiftWordKind). Legal (ShiftWord j rd rs1 amount)) Illegal)
 decode-encode (Register k rd rs1 rs2) h =
-    ap (decodeRegister (rFields OP (registerCode k) rd rs1 rs2)) (r-read OP (registerCode k) rd rs1 rs2 (register-code k .small))
+    ap (λ (n : ℕ). registerAt n rd rs1 rs2) (r-read OP (registerCode k) rd rs1 rs2 (register-code k .small))
     ∙ register-code k .found Decoded (λ (j : RegisterKind). Legal (Register j rd rs1 rs2)) Illegal
 decode-encode (RegisterWord k rd rs1 rs2) h =
-    ap (decodeRegisterWord (rFields OP-32 (registerWordCode k) rd rs1 rs2))
-    (r-read OP-32 (registerWordCode k) rd rs1 rs2 (register-word-code k .small))
+    ap (λ (n : ℕ). registerWordAt n rd rs1 rs2) (r-read OP-32 (registerWordCode k) rd rs1 rs2 (register-word-code k .small))
     ∙ register-word-code k .found Decoded (λ (j : RegisterWordKind). Legal (RegisterWord j rd rs1 rs2)) Illegal
 decode-encode (Fence fm pred succ rs1 rd) h =
     let t = fence-range fm pred succ rs1 rd h in
@@ -129,10 +128,8 @@ decode-encode (Fence fm pred succ rs1 rd) h =
     ap₂ (λ (x y : ℕ). Legal (Fence x y (field b 0 4) rs1 rd)) (p .0) (p .1)
     ∙ ap (λ (z : ℕ). Legal (Fence fm pred z rs1 rd)) (p .2)
 decode-encode (System k) h =
-    let made : SystemKind → Decoded = λ j. Legal (System j) in
-    ap (ofCode systemCode made Illegal systemKinds)
-    (i-bits-whole SYSTEM 0 0 0 (systemCode k) (system-code k .small))
-    ∙ system-code k .found Decoded made Illegal
+    ap systemAt (i-bits-whole SYSTEM 0 0 0 (systemCode k) (system-code k .small))
+    ∙ system-code k .found Decoded (λ (j : SystemKind). Legal (System j)) Illegal
 decode-encode (HLoad k rd rs1 x) h =
     found-with (load-code k) (λ (j : LoadKind) (y : ℕ). Legal (HLoad j rd rs1 y)) Illegal
     (i-read H-LOAD (loadCode k) rd rs1 x (two-all rd rs1 _ h .2))
@@ -143,6 +140,6 @@ decode-encode (Hfi k rd rs1 rs2) h =
     let f = rFields HFI (functs (hfiCode k) 0) rd rs1 rs2 in
     let n = one-all rs2 _ (two-all rd rs1 _ h .2) .1 in
     let p = field-put 3 7 {q = 0} (hfi-code k .small) (lit< tt) in
-    ap (decodeHfi f) (p .0)
-    ∙ ap (λ (b : Bool). provided b (hfiOf f (hfiCode k))) (and-of (eq-eqb _ 0 (p .1)) (named-row k rd rs1 rs2 ∙ n))
+    ap (λ (n : ℕ). provided (eqb (f .funct3) 0 && namedAt n rd rs1 rs2) (hfiAt n rd rs1 rs2)) (p .0)
+    ∙ ap (λ (b : Bool). provided b (hfiAt (hfiCode k) rd rs1 rs2)) (and-of (eq-eqb _ 0 (p .1)) (named-row k rd rs1 rs2 ∙ n))
     ∙ hfi-code k .found Decoded (λ (j : HfiKind). Legal (Hfi j rd rs1 rs2)) Illegal

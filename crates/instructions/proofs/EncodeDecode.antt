@@ -8,12 +8,12 @@ use lib.Dec.{eqb, ltb}
 use borrow.Author.Tests.{lt-ltb, eqb-true}
 use Rattle.words.specs.Word.{field}
 use Rattle.words.proofs.Fields.{field-lt, field-cut, field-put, field-join}
-use Rattle.instructions.specs.Fields.{InWord}
+use Rattle.instructions.specs.InWord.{InWord}
 use Rattle.instructions.specs.Table.{ofCode}
 use Rattle.instructions.specs.Opcodes.{JALR, BRANCH, LOAD, STORE, OP-IMM, OP-IMM-32, OP, OP-32, MISC-MEM, SYSTEM, H-LOAD, H-STORE, HFI}
 use Rattle.instructions.specs.Kinds.{functs, branchCode, branchKinds, loadCode, loadKinds, storeCode, storeKinds, immediateCode, immediateKinds, shiftCode, shiftKinds, shiftWordCode, shiftWordKinds, registerCode, registerKinds, registerWordCode, registerWordKinds, systemCode, systemKinds, hfiRow, hfiCode, hfiKinds, named}
 use Rattle.instructions.specs.Immediates.{iBits, iImmediate, sImmediate, bImmediate}
-use Rattle.instructions.specs.Decode.{provided, decodeJalr, decodeBranch, decodeLoad, decodeStore, decodeShift, decodeImmediate, decodeImmediateWord, decodeRegister, decodeRegisterWord, decodeFence, decodeSystem, namedAt, hfiOf, decodeHfi, groups, decodeFields}
+use Rattle.instructions.specs.Decode.{branchAt, loadAt, storeAt, registerAt, registerWordAt, systemAt, hfiAt, namedAt, provided, otherwise, decodeJalr, decodeShift, decodeImmediate, decodeImmediateWord, decodeFence, decodeSystem, decodeHfi, groups, decodeFields}
 use Rattle.instructions.specs.Encode.{iFields, encodeFields, inRange}
 use Rattle.instructions.specs.declared.fields.Fields.{Fields}
 use Rattle.instructions.specs.declared.kind.BranchKind.{BranchKind}
@@ -55,22 +55,22 @@ module _ (f : Fields) (r : InWord f) where
   back-jalr o =
       back-provided f (eqb (f .funct3) 0) (Legal (Jalr (f .rd) (f .rs1) (iImmediate f))) (λ t. i-back f r o (eqb-true (f .funct3) 0 t))
 
-  back-branch : f .opcode ≡ BRANCH → Back f (decodeBranch f (f .funct3))
+  back-branch : f .opcode ≡ BRANCH → Back f (branchAt (f .funct3) (f .rs1) (f .rs2) (bImmediate f))
   back-branch o =
       back-code f branchCode (λ (k : BranchKind). Branch k (f .rs1) (f .rs2) (bImmediate f)) branchKinds (f .funct3)
       (λ k e. b-back f r o e)
 
-  back-load : f .opcode ≡ LOAD → Back f (decodeLoad false f (f .funct3))
+  back-load : f .opcode ≡ LOAD → Back f (loadAt false (f .funct3) (f .rd) (f .rs1) (iImmediate f))
   back-load o =
       back-code f loadCode (λ (k : LoadKind). Load k (f .rd) (f .rs1) (iImmediate f)) loadKinds (f .funct3)
       (λ k e. i-back f r o e)
 
-  back-store : f .opcode ≡ STORE → Back f (decodeStore false f (f .funct3))
+  back-store : f .opcode ≡ STORE → Back f (storeAt false (f .funct3) (f .rs1) (f .rs2) (sImmediate f))
   back-store o =
       back-code f storeCode (λ (k : StoreKind). Store k (f .rs1) (f .rs2) (sImmediate f)) storeKinds (f .funct3)
       (λ k e. s-back f r o e)
 
-  back-shift : f .opcode ≡ OP-IMM → Back f (decodeShift f (functs (field (iBits f) 6 6) (f .funct3)))
+  back-shift : f .opcode ≡ OP-IMM → Back f (decodeShift f)
   back-shift o =
       let b = iBits f in
       let p = field-put 3 6 (field-lt b 6 6) (r .funct3) in
@@ -81,10 +81,11 @@ module _ (f : Fields) (r : InWord f) where
         two-of (r .rd) (r .rs1) (lt-ltb _ 64 (field-lt b 0 6)),
       ))
 
-  back-immediate : f .opcode ≡ OP-IMM → Back f (decodeImmediate f (f .funct3))
+  back-immediate : f .opcode ≡ OP-IMM → Back f (decodeImmediate f)
   back-immediate o =
-      code-ind (Back f) immediateCode (λ (k : ImmediateKind). Legal (Immediate k (f .rd) (f .rs1) (iImmediate f)))
-      (decodeShift f (functs (field (iBits f) 6 6) (f .funct3))) immediateKinds (f .funct3) (back-shift o) (λ k e. i-back f r o e)
+      code-ind (λ (d : Decoded). Back f (otherwise d (decodeShift f))) immediateCode
+      (λ (k : ImmediateKind). Legal (Immediate k (f .rd) (f .rs1) (iImmediate f))) Illegal immediateKinds (f .funct3)
+      (back-shift o) (λ k e. i-back f r o e)
 
   back-immediate-word : f .opcode ≡ OP-IMM-32 → Back f (decodeImmediateWord f)
   back-immediate-word o =
@@ -92,12 +93,12 @@ module _ (f : Fields) (r : InWord f) where
       (back-code f shiftWordCode (λ (k : ShiftWordKind). ShiftWord k (f .rd) (f .rs1) (f .rs2)) shiftWordKinds
       (functs (f .funct7) (f .funct3)) (λ k e. r-back f r o e))
 
-  back-register : f .opcode ≡ OP → Back f (decodeRegister f (functs (f .funct7) (f .funct3)))
+  back-register : f .opcode ≡ OP → Back f (registerAt (functs (f .funct7) (f .funct3)) (f .rd) (f .rs1) (f .rs2))
   back-register o =
       back-code f registerCode (λ (k : RegisterKind). Register k (f .rd) (f .rs1) (f .rs2)) registerKinds
       (functs (f .funct7) (f .funct3)) (λ k e. r-back f r o e)
 
-  back-register-word : f .opcode ≡ OP-32 → Back f (decodeRegisterWord f (functs (f .funct7) (f .funct3)))
+  back-register-word : f .opcode ≡ OP-32 → Back f (registerWordAt (functs (f .funct7) (f .funct3)) (f .rd) (f .rs1) (f .rs2))
   back-register-word o =
       back-code f registerWordCode (λ (k : RegisterWordKind). RegisterWord k (f .rd) (f .rs1) (f .rs2)) registerWordKinds
       (functs (f .funct7) (f .funct3)) (λ k e. r-back f r o e)
@@ -112,10 +113,10 @@ module _ (f : Fields) (r : InWord f) where
         two-of (r .rd) (r .rs1) (and-of (nibble 8) (and-of (nibble 4) (nibble 0))),
       ))
 
-  back-system : f .opcode ≡ SYSTEM → Back f (decodeSystem f (iBits f))
+  back-system : f .opcode ≡ SYSTEM → Back f (decodeSystem f)
   back-system o =
       back-provided f (eqb (f .rd) 0 && (eqb (f .funct3) 0 && eqb (f .rs1) 0))
-      (ofCode systemCode (λ (k : SystemKind). Legal (System k)) Illegal systemKinds (iBits f))
+      (systemAt (iBits f))
       (λ t.
       let p = and-both (eqb (f .rd) 0) _ t in
       let q = and-both (eqb (f .funct3) 0) _ (p .1) in
@@ -126,19 +127,19 @@ module _ (f : Fields) (r : InWord f) where
         refl,
       )))
 
-  back-h-load : f .opcode ≡ H-LOAD → Back f (decodeLoad true f (f .funct3))
+  back-h-load : f .opcode ≡ H-LOAD → Back f (loadAt true (f .funct3) (f .rd) (f .rs1) (iImmediate f))
   back-h-load o =
       back-code f loadCode (λ (k : LoadKind). HLoad k (f .rd) (f .rs1) (iImmediate f)) loadKinds (f .funct3)
       (λ k e. i-back f r o e)
 
-  back-h-store : f .opcode ≡ H-STORE → Back f (decodeStore true f (f .funct3))
+  back-h-store : f .opcode ≡ H-STORE → Back f (storeAt true (f .funct3) (f .rs1) (f .rs2) (sImmediate f))
   back-h-store o =
       back-code f storeCode (λ (k : StoreKind). HStore k (f .rs1) (f .rs2) (sImmediate f)) storeKinds (f .funct3)
       (λ k e. s-back f r o e)
 
-  back-hfi : f .opcode ≡ HFI → Back f (decodeHfi f (f .funct7))
+  back-hfi : f .opcode ≡ HFI → Back f (decodeHfi f)
   back-hfi o =
-      back-provided f (eqb (f .funct3) 0 && namedAt (f .funct7) (f .rd) (f .rs1) (f .rs2)) (hfiOf f (f .funct7))
+      back-provided f (eqb (f .funct3) 0 && namedAt (f .funct7) (f .rd) (f .rs1) (f .rs2)) (hfiAt (f .funct7) (f .rd) (f .rs1) (f .rs2))
       (λ t.
       let p = and-both (eqb (f .funct3) 0) _ t in
       back-code f hfiCode (λ (k : HfiKind). Hfi k (f .rd) (f .rs1) (f .rs2)) hfiKinds (f .funct7)

@@ -9,7 +9,7 @@ use borrow.Author.Tests.{lt-ltb, eqb-true, eq-eqb}
 use Rattle.words.specs.Word.{field, fitsSigned, lay}
 use Rattle.words.proofs.Fields.{field-lt, field-all, field-cut, field-parts, field-put, field-join, Fit, lay-lt, lay-read, lay-write}
 use Rattle.words.proofs.Extend.{sext-field, sext-fits, fits-sext}
-use Rattle.instructions.specs.Fields.{InWord}
+use Rattle.instructions.specs.InWord.{InWord}
 use Rattle.instructions.specs.Kinds.{functs}
 use Rattle.instructions.specs.Immediates.{iBits, sBits, bPieces, uPieces, jPieces, iImmediate, sImmediate, bImmediate, uImmediate, jImmediate}
 use Rattle.instructions.specs.Encode.{rFields, iFields, sFields, bFields, uFields, jFields, two, multiple}

@@ -9,10 +9,8 @@ use lib.Dec.{eqb, ltb, lit<}
 use borrow.Author.Tests.{eqb-true, ltb-true, ne-eqb}
 use Rattle.words.specs.Word.{field}
 use Rattle.instructions.specs.Table.{lookup, ofCode}
-use Rattle.instructions.specs.Kinds.{functs, upperCode, branchCode, branchKinds, loadCode, loadKinds, storeCode, storeKinds, immediateCode, immediateKinds, shiftCode, shiftKinds, shiftWordCode, shiftWordKinds, registerCode, registerKinds, registerWordCode, registerWordKinds, systemCode, systemKinds, hfiCode, hfiKinds}
-use Rattle.instructions.specs.Decode.{decodeImmediate, decodeShift}
-use Rattle.instructions.specs.Immediates.{iBits}
-use Rattle.instructions.specs.declared.fields.Fields.{Fields}
+use Rattle.instructions.specs.Kinds.{upperCode, upperKinds, branchCode, branchKinds, loadCode, loadKinds, storeCode, storeKinds, immediateCode, immediateKinds, shiftCode, shiftKinds, shiftWordCode, shiftWordKinds, registerCode, registerKinds, registerWordCode, registerWordKinds, systemCode, systemKinds, hfiCode, hfiKinds}
+use Rattle.instructions.specs.Decode.{immediateAt, otherwise}
 use Rattle.instructions.specs.declared.kind.UpperKind.{UpperKind}
 use Rattle.instructions.specs.declared.kind.BranchKind.{BranchKind}
 use Rattle.instructions.specs.declared.kind.LoadKind.{LoadKind}
@@ -24,6 +22,7 @@ use Rattle.instructions.specs.declared.kind.RegisterKind.{RegisterKind}
 use Rattle.instructions.specs.declared.kind.RegisterWordKind.{RegisterWordKind}
 use Rattle.instructions.specs.declared.kind.SystemKind.{SystemKind}
 use Rattle.instructions.specs.declared.kind.HfiKind.{HfiKind}
+use Rattle.instructions.specs.declared.instruction.Decoded.{Decoded}
 use Rattle.instructions.proofs.Tests.{and-both}
 
 -- ---- what is found
@@ -108,9 +107,9 @@ pub found-with : {K : Type 0} {code : K → ℕ} {kinds : List K} {bits : ℕ} {
     → {X : Type 0} (make : K → ℕ → X) (none : X) {y x : ℕ} → y ≡ x → ofCode code (λ (j : K). make j y) none kinds (code k) ≡ make k x
 found-with {K} {k = k} h {X} make none {y} e = h .found X (λ (j : K). make j y) none ∙ ap (make k) e
 
-pub upper-code : (k : UpperKind) → upperCode k < 2 ^ 7
-upper-code UpperKind.Lui = lit< tt
-upper-code UpperKind.Auipc = lit< tt
+pub upper-code : (k : UpperKind) → Found upperCode upperKinds 7 k
+upper-code UpperKind.Lui = record { small = lit< tt; found = λ X make none. refl }
+upper-code UpperKind.Auipc = record { small = lit< tt; found = λ X make none. refl }
 
 pub branch-code : (k : BranchKind) → Found branchCode branchKinds 3 k
 branch-code BranchKind.Beq = record { small = lit< tt; found = λ X make none. refl }
@@ -194,10 +193,10 @@ hfi-code HfiKind.ResetRegions = record { small = lit< tt; found = λ X make none
 -- ---- codes that share an opcode
 
 -- the funct3 of a shift is that of no other immediate operation
-pub shift-apart : (k : ShiftKind) (f : Fields) → decodeImmediate f (field (shiftCode k) 0 3) ≡ decodeShift f (functs (field (iBits f) 6 6) (f .funct3))
-shift-apart ShiftKind.Slli f = refl
-shift-apart ShiftKind.Srli f = refl
-shift-apart ShiftKind.Srai f = refl
+pub shift-apart : (k : ShiftKind) (rd rs1 imm : ℕ) (d : Decoded) → otherwise (immediateAt (field (shiftCode k) 0 3) rd rs1 imm) d ≡ d
+shift-apart ShiftKind.Slli rd rs1 imm d = refl
+shift-apart ShiftKind.Srli rd rs1 imm d = refl
+shift-apart ShiftKind.Srai rd rs1 imm d = refl
 
 -- a shift of words has not the funct3 of ADDIW
 pub shift-word-apart : (k : ShiftWordKind) → eqb (field (shiftWordCode k) 0 3) 0 ≡ false

@@ -5,7 +5,8 @@ use Prim.Native.Nat.{ℕ, _+_, _*_, _^_, _<_}
 use native.Mathlib.Omega.{arith}
 use Rattle.words.specs.Word.{field}
 use Rattle.words.proofs.Fields.{field-all, field-cut}
-use Rattle.instructions.specs.Fields.{fieldsOf, wordOf, InWord}
+use Rattle.instructions.specs.Fields.{fieldsOf, wordOf}
+use Rattle.instructions.specs.InWord.{InWord}
 use Rattle.instructions.specs.declared.fields.Fields.{Fields}
 
 -- fields are equal, each by itself

@@ -1,5 +1,5 @@
 -- Document 01's number and values for each answer of decoding and encoding.
--- Assumes nothing.
+-- Decoded and Encoded are declared in src/instruction.rt. Assumes nothing.
 use Prim.Native.Nat.{ℕ}
 use Rattle.instructions.specs.declared.instruction.Decoded.{Decoded}
 use Rattle.instructions.specs.declared.instruction.Decoded.the-variants.{Legal, Illegal}

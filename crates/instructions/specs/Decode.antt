@@ -1,5 +1,6 @@
 -- The instruction of a word. Document 01: "All of RV64I; 32-bit words", the h-prefixed words and the table of opcode 5b;
 -- every other word is illegal.
+-- Fields is declared in src/fields.rt, the kinds in src/kind.rt, Instruction and Decoded in src/instruction.rt.
 -- Assumes nothing.
 use mathlib.Core.Bool.{Bool, true, false, cond, _&&_}
 use mathlib.Core.List.{List, [], _∷_}
@@ -9,11 +10,9 @@ use Rattle.words.specs.Word.{field}
 use Rattle.instructions.specs.Fields.{fieldsOf}
 use Rattle.instructions.specs.Table.{lookup, ofCode}
 use Rattle.instructions.specs.Opcodes.{LUI, AUIPC, JAL, JALR, BRANCH, LOAD, STORE, OP-IMM, OP-IMM-32, OP, OP-32, MISC-MEM, SYSTEM, H-LOAD, H-STORE, HFI}
-use Rattle.instructions.specs.Kinds.{functs, branchCode, branchKinds, loadCode, loadKinds, storeCode, storeKinds, immediateCode, immediateKinds, shiftCode, shiftKinds, shiftWordCode, shiftWordKinds, registerCode, registerKinds, registerWordCode, registerWordKinds, systemCode, systemKinds, hfiRow, hfiCode, hfiKinds, named}
+use Rattle.instructions.specs.Kinds.{functs, upperCode, upperKinds, branchCode, branchKinds, loadCode, loadKinds, storeCode, storeKinds, immediateCode, immediateKinds, shiftCode, shiftKinds, shiftWordCode, shiftWordKinds, registerCode, registerKinds, registerWordCode, registerWordKinds, systemCode, systemKinds, hfiRow, hfiCode, hfiKinds, named}
 use Rattle.instructions.specs.Immediates.{iBits, iImmediate, sImmediate, bImmediate, uImmediate, jImmediate}
 use Rattle.instructions.specs.declared.fields.Fields.{Fields}
-use Rattle.instructions.specs.declared.kind.UpperKind.{UpperKind}
-use Rattle.instructions.specs.declared.kind.UpperKind.the-variants.{Lui, Auipc}
 use Rattle.instructions.specs.declared.kind.LoadKind.{LoadKind}
 use Rattle.instructions.specs.declared.kind.StoreKind.{StoreKind}
 use Rattle.instructions.specs.declared.instruction.Instruction.{Instruction}
@@ -21,60 +20,81 @@ use Rattle.instructions.specs.declared.instruction.Instruction.the-varia
 use Rattle.instructions.specs.declared.instruction.Decoded.{Decoded}
 use Rattle.instructions.specs.declared.instruction.Decoded.the-variants.{Legal, Illegal}
 
--- legal only where the test holds
-abbrev pub provided : Bool → Decoded → Decoded
-provided b d = cond b d Illegal
+-- ---- what stands under a code in the listing of a group
 
-abbrev pub decodeUpper : UpperKind → Fields → Decoded
-decodeUpper k f = Legal (Upper k (f .rd) (uImmediate f))
+abbrev pub upperAt : ℕ → ℕ → ℕ → Decoded
+upperAt code rd imm = ofCode upperCode (λ k. Legal (Upper k rd imm)) Illegal upperKinds code
 
-abbrev pub decodeJal : Fields → Decoded
-decodeJal f = Legal (Jal (f .rd) (jImmediate f))
-
-abbrev pub decodeJalr : Fields → Decoded
-decodeJalr f = provided (eqb (f .funct3) 0) (Legal (Jalr (f .rd) (f .rs1) (iImmediate f)))
-
-abbrev pub decodeBranch : Fields → ℕ → Decoded
-decodeBranch f = ofCode branchCode (λ k. Legal (Branch k (f .rs1) (f .rs2) (bImmediate f))) Illegal branchKinds
+abbrev pub branchAt : ℕ → ℕ → ℕ → ℕ → Decoded
+branchAt code rs1 rs2 offset = ofCode branchCode (λ k. Legal (Branch k rs1 rs2 offset)) Illegal branchKinds code
 
 -- "h-prefixed words .. have the field layout of ordinary loads and stores"
 abbrev pub loadOf : Bool → LoadKind → ℕ → ℕ → ℕ → Instruction
 loadOf false = Load
 loadOf true = HLoad
 
+abbrev pub loadAt : Bool → ℕ → ℕ → ℕ → ℕ → Decoded
+loadAt prefixed code rd rs1 imm = ofCode loadCode (λ k. Legal (loadOf prefixed k rd rs1 imm)) Illegal loadKinds code
+
 abbrev pub storeOf : Bool → StoreKind → ℕ → ℕ → ℕ → Instruction
 storeOf false = Store
 storeOf true = HStore
 
-abbrev pub decodeLoad : Bool → Fields → ℕ → Decoded
-decodeLoad prefixed f = ofCode loadCode (λ k. Legal (loadOf prefixed k (f .rd) (f .rs1) (iImmediate f))) Illegal loadKinds
+abbrev pub storeAt : Bool → ℕ → ℕ → ℕ → ℕ → Decoded
+storeAt prefixed code rs1 rs2 imm = ofCode storeCode (λ k. Legal (storeOf prefixed k rs1 rs2 imm)) Illegal storeKinds code
 
-abbrev pub decodeStore : Bool → Fields → ℕ → Decoded
-decodeStore prefixed f = ofCode storeCode (λ k. Legal (storeOf prefixed k (f .rs1) (f .rs2) (sImmediate f))) Illegal storeKinds
+abbrev pub immediateAt : ℕ → ℕ → ℕ → ℕ → Decoded
+immediateAt code rd rs1 imm = ofCode immediateCode (λ k. Legal (Immediate k rd rs1 imm)) Illegal immediateKinds code
 
-abbrev pub decodeShift : Fields → ℕ → Decoded
-decodeShift f = ofCode shiftCode (λ k. Legal (Shift k (f .rd) (f .rs1) (field (iBits f) 0 6))) Illegal shiftKinds
+abbrev pub shiftAt : ℕ → ℕ → ℕ → ℕ → Decoded
+shiftAt code rd rs1 amount = ofCode shiftCode (λ k. Legal (Shift k rd rs1 amount)) Illegal shiftKinds code
+
+abbrev pub shiftWordAt : ℕ → ℕ → ℕ → ℕ → Decoded
+shiftWordAt code rd rs1 amount = ofCode shiftWordCode (λ k. Legal (ShiftWord k rd rs1 amount)) Illegal shiftWordKinds code
+
+abbrev pub registerAt : ℕ → ℕ → ℕ → ℕ → Decoded
+registerAt code rd rs1 rs2 = ofCode registerCode (λ k. Legal (Register k rd rs1 rs2)) Illegal registerKinds code
+
+abbrev pub registerWordAt : ℕ → ℕ → ℕ → ℕ → Decoded
+registerWordAt code rd rs1 rs2 = ofCode registerWordCode (λ k. Legal (RegisterWord k rd rs1 rs2)) Illegal registerWordKinds code
+
+abbrev pub systemAt : ℕ → Decoded
+systemAt code = ofCode systemCode (λ k. Legal (System k)) Illegal systemKinds code
+
+abbrev pub hfiAt : ℕ → ℕ → ℕ → ℕ → Decoded
+hfiAt code rd rs1 rs2 = ofCode hfiCode (λ k. Legal (Hfi k rd rs1 rs2)) Illegal hfiKinds code
+
+-- the row with this funct7 names every field that is not zero
+abbrev pub namedAt : ℕ → ℕ → ℕ → ℕ → Bool
+namedAt funct7 rd rs1 rs2 = ofCode hfiCode (λ k. named (hfiRow k) rd rs1 rs2) false hfiKinds funct7
+
+-- ---- the groups whose opcode and code are not all
+
+-- legal only where the test holds
+abbrev pub provided : Bool → Decoded → Decoded
+provided b d = cond b d Illegal
+
+-- the second where the first is illegal
+abbrev pub otherwise : Decoded → Decoded → Decoded
+otherwise (Legal i) d = Legal i
+otherwise Illegal d = d
+
+abbrev pub decodeJalr : Fields → Decoded
+decodeJalr f = provided (eqb (f .funct3) 0) (Legal (Jalr (f .rd) (f .rs1) (iImmediate f)))
+
+-- a shift has an amount in the low half of its 12 bits
+abbrev pub decodeShift : Fields → Decoded
+decodeShift f = shiftAt (functs (field (iBits f) 6 6) (f .funct3)) (f .rd) (f .rs1) (field (iBits f) 0 6)
 
 -- a funct3 that no immediate operation has is a shift's, or illegal
-abbrev pub decodeImmediate : Fields → ℕ → Decoded
-decodeImmediate f =
-    ofCode immediateCode (λ k. Legal (Immediate k (f .rd) (f .rs1) (iImmediate f)))
-    (decodeShift f (functs (field (iBits f) 6 6) (f .funct3))) immediateKinds
-
-abbrev pub decodeShiftWord : Fields → ℕ → Decoded
-decodeShiftWord f = ofCode shiftWordCode (λ k. Legal (ShiftWord k (f .rd) (f .rs1) (f .rs2))) Illegal shiftWordKinds
+abbrev pub decodeImmediate : Fields → Decoded
+decodeImmediate f = otherwise (immediateAt (f .funct3) (f .rd) (f .rs1) (iImmediate f)) (decodeShift f)
 
 -- ADDIW has funct3 0
 abbrev pub decodeImmediateWord : Fields → Decoded
 decodeImmediateWord f =
     cond (eqb (f .funct3) 0) (Legal (Addiw (f .rd) (f .rs1) (iImmediate f)))
-    (decodeShiftWord f (functs (f .funct7) (f .funct3)))
-
-abbrev pub decodeRegister : Fields → ℕ → Decoded
-decodeRegister f = ofCode registerCode (λ k. Legal (Register k (f .rd) (f .rs1) (f .rs2))) Illegal registerKinds
-
-abbrev pub decodeRegisterWord : Fields → ℕ → Decoded
-decodeRegisterWord f = ofCode registerWordCode (λ k. Legal (RegisterWord k (f .rd) (f .rs1) (f .rs2))) Illegal registerWordKinds
+    (shiftWordAt (functs (f .funct7) (f .funct3)) (f .rd) (f .rs1) (f .rs2))
 
 -- "FENCE carries its spare fields": fm, pred and succ, and rs1 and rd; FENCE.I has another funct3
 abbrev pub decodeFence : Fields → Decoded
@@ -83,42 +103,34 @@ decodeFence f =
     (Legal (Fence (field (iBits f) 8 4) (field (iBits f) 4 4) (field (iBits f) 0 4) (f .rs1) (f .rd)))
 
 -- ECALL and EBREAK have nothing but funct12; "No [..] CSRs"
-abbrev pub decodeSystem : Fields → ℕ → Decoded
-decodeSystem f funct12 =
-    provided (eqb (f .rd) 0 && (eqb (f .funct3) 0 && eqb (f .rs1) 0)) (ofCode systemCode (λ k. Legal (System k)) Illegal systemKinds funct12)
-
--- the row with this funct7 names every field that is not zero
-abbrev pub namedAt : ℕ → ℕ → ℕ → ℕ → Bool
-namedAt funct7 rd rs1 rs2 = ofCode hfiCode (λ k. named (hfiRow k) rd rs1 rs2) false hfiKinds funct7
-
-abbrev pub hfiOf : Fields → ℕ → Decoded
-hfiOf f = ofCode hfiCode (λ k. Legal (Hfi k (f .rd) (f .rs1) (f .rs2))) Illegal hfiKinds
+abbrev pub decodeSystem : Fields → Decoded
+decodeSystem f = provided (eqb (f .rd) 0 && (eqb (f .funct3) 0 && eqb (f .rs1) 0)) (systemAt (iBits f))
 
 -- "R-type words, opcode 5b, funct3 0. Fields not named in a row are zero, else the word is illegal."
-abbrev pub decodeHfi : Fields → ℕ → Decoded
-decodeHfi f funct7 =
-    provided (eqb (f .funct3) 0 && namedAt funct7 (f .rd) (f .rs1) (f .rs2))
-    (hfiOf f funct7)
+abbrev pub decodeHfi : Fields → Decoded
+decodeHfi f =
+    provided (eqb (f .funct3) 0 && namedAt (f .funct7) (f .rd) (f .rs1) (f .rs2))
+    (hfiAt (f .funct7) (f .rd) (f .rs1) (f .rs2))
 
 -- the groups by opcode
 abbrev pub groups : Fields → List (ℕ × Decoded)
 groups f =
-    (LUI, decodeUpper Lui f)
-    ∷ (AUIPC, decodeUpper Auipc f)
-    ∷ (JAL, decodeJal f)
+    (LUI, upperAt LUI (f .rd) (uImmediate f))
+    ∷ (AUIPC, upperAt AUIPC (f .rd) (uImmediate f))
+    ∷ (JAL, Legal (Jal (f .rd) (jImmediate f)))
     ∷ (JALR, decodeJalr f)
-    ∷ (BRANCH, decodeBranch f (f .funct3))
-    ∷ (LOAD, decodeLoad false f (f .funct3))
-    ∷ (STORE, decodeStore false f (f .funct3))
-    ∷ (OP-IMM, decodeImmediate f (f .funct3))
+    ∷ (BRANCH, branchAt (f .funct3) (f .rs1) (f .rs2) (bImmediate f))
+    ∷ (LOAD, loadAt false (f .funct3) (f .rd) (f .rs1) (iImmediate f))
+    ∷ (STORE, storeAt false (f .funct3) (f .rs1) (f .rs2) (sImmediate f))
+    ∷ (OP-IMM, decodeImmediate f)
     ∷ (OP-IMM-32, decodeImmediateWord f)
-    ∷ (OP, decodeRegister f (functs (f .funct7) (f .funct3)))
-    ∷ (OP-32, decodeRegisterWord f (functs (f .funct7) (f .funct3)))
+    ∷ (OP, registerAt (functs (f .funct7) (f .funct3)) (f .rd) (f .rs1) (f .rs2))
+    ∷ (OP-32, registerWordAt (functs (f .funct7) (f .funct3)) (f .rd) (f .rs1) (f .rs2))
     ∷ (MISC-MEM, decodeFence f)
-    ∷ (SYSTEM, decodeSystem f (iBits f))
-    ∷ (H-LOAD, decodeLoad true f (f .funct3))
-    ∷ (H-STORE, decodeStore true f (f .funct3))
-    ∷ (HFI, decodeHfi f (f .funct7))
+    ∷ (SYSTEM, decodeSystem f)
+    ∷ (H-LOAD, loadAt true (f .funct3) (f .rd) (f .rs1) (iImmediate f))
+    ∷ (H-STORE, storeAt true (f .funct3) (f .rs1) (f .rs2) (sImmediate f))
+    ∷ (HFI, decodeHfi f)
     ∷ []
 
 -- the fields f under an opcode

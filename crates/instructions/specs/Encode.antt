@@ -1,4 +1,5 @@
 -- The word of an instruction. "The range is what the word's field can express; branch and jump offsets are even."
+-- Fields is declared in src/fields.rt, ShiftKind in src/kind.rt, Instruction and Encoded in src/instruction.rt.
 -- Assumes nothing.
 use mathlib.Core.Bool.{Bool, true, cond, _&&_}
 use Prim.Native.Nat.{ℕ, _+_, _*_, _^_}

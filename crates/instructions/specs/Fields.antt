@@ -1,6 +1,6 @@
 -- A word of 32 bits as the six fields of the R-type format (RISC-V unprivileged specification, "Base Instruction Formats").
--- Assumes nothing.
-use Prim.Native.Nat.{ℕ, _+_, _*_, _^_, _<_}
+-- Fields is declared in src/fields.rt. Assumes nothing.
+use Prim.Native.Nat.{ℕ, _+_, _*_, _^_}
 use Rattle.words.specs.Word.{field}
 use Rattle.instructions.specs.declared.fields.Fields.{Fields}
 
@@ -17,12 +17,3 @@ fieldsOf w =
 
 abbrev pub wordOf : Fields → ℕ
 wordOf f = f .funct7 * 2 ^ 25 + f .rs2 * 2 ^ 20 + f .rs1 * 2 ^ 15 + f .funct3 * 2 ^ 12 + f .rd * 2 ^ 7 + f .opcode
-
--- each field fits its place in the word
-pub record InWord (f : Fields) : Type 0 where
-  pub opcode : f .opcode < 2 ^ 7
-  pub rd : f .rd < 2 ^ 5
-  pub funct3 : f .funct3 < 2 ^ 3
-  pub rs1 : f .rs1 < 2 ^ 5
-  pub rs2 : f .rs2 < 2 ^ 5
-  pub funct7 : f .funct7 < 2 ^ 7

@@ -1,6 +1,6 @@
 -- The immediate of each format, from the fields of the word ("Immediate Encoding Variants" in the specification). Each is
 -- the 64 bits of the signed number. Where its bits are scattered, the pieces stand with the highest first.
--- Assumes nothing.
+-- Fields is declared in src/fields.rt. Assumes nothing.
 use mathlib.Core.List.{List, [], _∷_}
 use Prim.Native.Nat.{ℕ, _+_, _*_, _^_}
 use Rattle.words.specs.Word.{field, sext, lay}

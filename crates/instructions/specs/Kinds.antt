@@ -1,7 +1,7 @@
 -- The codes of each group's kinds: the RISC-V unprivileged specification's listings "RV32I Base
 -- Instruction Set" and "RV64I Base Instruction Set", a row a line.
 -- h-prefixed words have the codes of ordinary loads and stores (document 01, "Instructions").
--- Assumes nothing.
+-- The kinds are declared in src/kind.rt. Assumes nothing.
 use mathlib.Core.Bool.{Bool, true, false, _&&_, _||_}
 use mathlib.Core.List.{List, [], _∷_}
 use Prim.Native.Nat.{ℕ, _+_, _*_, _^_}
@@ -38,6 +38,9 @@ functs high funct3 = high * 2 ^ 3 + funct3
 abbrev pub upperCode : UpperKind → ℕ
 upperCode Lui = LUI
 upperCode Auipc = AUIPC
+
+abbrev pub upperKinds : List UpperKind
+upperKinds = Lui ∷ Auipc ∷ []
 
 -- funct3 of opcode BRANCH
 abbrev pub branchCode : BranchKind → ℕ

@@ -1,4 +1,5 @@
 pub mod Fields
+pub mod InWord
 pub mod Table
 pub mod Opcodes
 pub mod Kinds

@@ -1,4 +1,5 @@
-// The code of each kind: the number of its function fields, of its opcode, or document 01's funct7.
+// The code of each kind: the number of its function fields, of its opcode, or document 01's funct7. Here alone it is
+// written out; decoding, encoding and the codec for C use these names.
 ghost use mathlib.Core.Path.{_≡_};
 ghost use Rattle.instructions.specs.Kinds.{upperCode, branchCode, loadCode, storeCode, immediateCode, shiftCode, shiftWordCode, registerCode, registerWordCode, systemCode, hfiCode};
 use crate::kind::BranchKind;
@@ -12,141 +13,293 @@ use crate::kind::ShiftWordKind;
 use crate::kind::StoreKind;
 use crate::kind::SystemKind;
 use crate::kind::UpperKind;
+use crate::opcode::AUIPC;
+use crate::opcode::LUI;
 
-pub fn upper_code(k: UpperKind) -> u64
-    ensures { λ r. ⌜ r ≡ upperCode k ⌝ }
-{
-    match k {
-        UpperKind::Lui => 0b0110111,
-        UpperKind::Auipc => 0b0010111,
+// funct3 of opcode BRANCH.
+pub const BEQ: u64 = 0b000;
+
+pub const BNE: u64 = 0b001;
+
+pub const BLT: u64 = 0b100;
+
+pub const BGE: u64 = 0b101;
+
+pub const BLTU: u64 = 0b110;
+
+pub const BGEU: u64 = 0b111;
+
+// funct3 of opcode LOAD, and of opcode 0b.
+pub const LB: u64 = 0b000;
+
+pub const LH: u64 = 0b001;
+
+pub const LW: u64 = 0b010;
+
+pub const LD: u64 = 0b011;
+
+pub const LBU: u64 = 0b100;
+
+pub const LHU: u64 = 0b101;
+
+pub const LWU: u64 = 0b110;
+
+// funct3 of opcode STORE, and of opcode 2b.
+pub const SB: u64 = 0b000;
+
+pub const SH: u64 = 0b001;
+
+pub const SW: u64 = 0b010;
+
+pub const SD: u64 = 0b011;
+
+// funct3 of opcode OP-IMM.
+pub const ADDI: u64 = 0b000;
+
+pub const SLTI: u64 = 0b010;
+
+pub const SLTIU: u64 = 0b011;
+
+pub const XORI: u64 = 0b100;
+
+pub const ORI: u64 = 0b110;
+
+pub const ANDI: u64 = 0b111;
+
+// The six bits above the amount, and funct3, of opcode OP-IMM.
+pub const SLLI: u64 = 0b000000_001;
+
+pub const SRLI: u64 = 0b000000_101;
+
+pub const SRAI: u64 = 0b010000_101;
+
+// funct7 and funct3 of opcode OP-IMM-32.
+pub const SLLIW: u64 = 0b0000000_001;
+
+pub const SRLIW: u64 = 0b0000000_101;
+
+pub const SRAIW: u64 = 0b0100000_101;
+
+// funct7 and funct3 of opcode OP.
+pub const ADD: u64 = 0b0000000_000;
+
+pub const SUB: u64 = 0b0100000_000;
+
+pub const SLL: u64 = 0b0000000_001;
+
+pub const SLT: u64 = 0b0000000_010;
+
+pub const SLTU: u64 = 0b0000000_011;
+
+pub const XOR: u64 = 0b0000000_100;
+
+pub const SRL: u64 = 0b0000000_101;
+
+pub const SRA: u64 = 0b0100000_101;
+
+pub const OR: u64 = 0b0000000_110;
+
+pub const AND: u64 = 0b0000000_111;
+
+// funct7 and funct3 of opcode OP-32.
+pub const ADDW: u64 = 0b0000000_000;
+
+pub const SUBW: u64 = 0b0100000_000;
+
+pub const SLLW: u64 = 0b0000000_001;
+
+pub const SRLW: u64 = 0b0000000_101;
+
+pub const SRAW: u64 = 0b0100000_101;
+
+// funct12 of opcode SYSTEM.
+pub const ECALL: u64 = 0;
+
+pub const EBREAK: u64 = 1;
+
+// Document 01's funct7 of opcode 5b.
+pub const ENTER: u64 = 0;
+
+pub const ENTER_JUMP: u64 = 1;
+
+pub const EXIT: u64 = 2;
+
+pub const SELECT_REGION: u64 = 3;
+
+pub const SET_BASE: u64 = 4;
+
+pub const GET_BASE: u64 = 5;
+
+pub const SET_BOUND: u64 = 6;
+
+pub const GET_BOUND: u64 = 7;
+
+pub const SET_PERMISSION: u64 = 8;
+
+pub const GET_PERMISSION: u64 = 9;
+
+pub const SET_HANDLER: u64 = 10;
+
+pub const GET_HANDLER: u64 = 11;
+
+pub const RESET_REGIONS: u64 = 12;
+
+impl UpperKind {
+    pub fn code(self) -> u64
+        ensures { λ r. ⌜ r ≡ upperCode self ⌝ }
+    {
+        match self {
+            UpperKind::Lui => LUI,
+            UpperKind::Auipc => AUIPC,
+        }
     }
 }
 
-pub fn branch_code(k: BranchKind) -> u64
-    ensures { λ r. ⌜ r ≡ branchCode k ⌝ }
-{
-    match k {
-        BranchKind::Beq => 0b000,
-        BranchKind::Bne => 0b001,
-        BranchKind::Blt => 0b100,
-        BranchKind::Bge => 0b101,
-        BranchKind::Bltu => 0b110,
-        BranchKind::Bgeu => 0b111,
+impl BranchKind {
+    pub fn code(self) -> u64
+        ensures { λ r. ⌜ r ≡ branchCode self ⌝ }
+    {
+        match self {
+            BranchKind::Beq => BEQ,
+            BranchKind::Bne => BNE,
+            BranchKind::Blt => BLT,
+            BranchKind::Bge => BGE,
+            BranchKind::Bltu => BLTU,
+            BranchKind::Bgeu => BGEU,
+        }
     }
 }
 
-pub fn load_code(k: LoadKind) -> u64
-    ensures { λ r. ⌜ r ≡ loadCode k ⌝ }
-{
-    match k {
-        LoadKind::Lb => 0b000,
-        LoadKind::Lh => 0b001,
-        LoadKind::Lw => 0b010,
-        LoadKind::Ld => 0b011,
-        LoadKind::Lbu => 0b100,
-        LoadKind::Lhu => 0b101,
-        LoadKind::Lwu => 0b110,
+impl LoadKind {
+    pub fn code(self) -> u64
+        ensures { λ r. ⌜ r ≡ loadCode self ⌝ }
+    {
+        match self {
+            LoadKind::Lb => LB,
+            LoadKind::Lh => LH,
+            LoadKind::Lw => LW,
+            LoadKind::Ld => LD,
+            LoadKind::Lbu => LBU,
+            LoadKind::Lhu => LHU,
+            LoadKind::Lwu => LWU,
+        }
     }
 }
 
-pub fn store_code(k: StoreKind) -> u64
-    ensures { λ r. ⌜ r ≡ storeCode k ⌝ }
-{
-    match k {
-        StoreKind::Sb => 0b000,
-        StoreKind::Sh => 0b001,
-        StoreKind::Sw => 0b010,
-        StoreKind::Sd => 0b011,
+impl StoreKind {
+    pub fn code(self) -> u64
+        ensures { λ r. ⌜ r ≡ storeCode self ⌝ }
+    {
+        match self {
+            StoreKind::Sb => SB,
+            StoreKind::Sh => SH,
+            StoreKind::Sw => SW,
+            StoreKind::Sd => SD,
+        }
     }
 }
 
-pub fn immediate_code(k: ImmediateKind) -> u64
-    ensures { λ r. ⌜ r ≡ immediateCode k ⌝ }
-{
-    match k {
-        ImmediateKind::Addi => 0b000,
-        ImmediateKind::Slti => 0b010,
-        ImmediateKind::Sltiu => 0b011,
-        ImmediateKind::Xori => 0b100,
-        ImmediateKind::Ori => 0b110,
-        ImmediateKind::Andi => 0b111,
+impl ImmediateKind {
+    pub fn code(self) -> u64
+        ensures { λ r. ⌜ r ≡ immediateCode self ⌝ }
+    {
+        match self {
+            ImmediateKind::Addi => ADDI,
+            ImmediateKind::Slti => SLTI,
+            ImmediateKind::Sltiu => SLTIU,
+            ImmediateKind::Xori => XORI,
+            ImmediateKind::Ori => ORI,
+            ImmediateKind::Andi => ANDI,
+        }
     }
 }
 
-pub fn shift_code(k: ShiftKind) -> u64
-    ensures { λ r. ⌜ r ≡ shiftCode k ⌝ }
-{
-    match k {
-        ShiftKind::Slli => 0b000000_001,
-        ShiftKind::Srli => 0b000000_101,
-        ShiftKind::Srai => 0b010000_101,
+impl ShiftKind {
+    pub fn code(self) -> u64
+        ensures { λ r. ⌜ r ≡ shiftCode self ⌝ }
+    {
+        match self {
+            ShiftKind::Slli => SLLI,
+            ShiftKind::Srli => SRLI,
+            ShiftKind::Srai => SRAI,
+        }
     }
 }
 
-pub fn shift_word_code(k: ShiftWordKind) -> u64
-    ensures { λ r. ⌜ r ≡ shiftWordCode k ⌝ }
-{
-    match k {
-        ShiftWordKind::Slliw => 0b0000000_001,
-        ShiftWordKind::Srliw => 0b0000000_101,
-        ShiftWordKind::Sraiw => 0b0100000_101,
+impl ShiftWordKind {
+    pub fn code(self) -> u64
+        ensures { λ r. ⌜ r ≡ shiftWordCode self ⌝ }
+    {
+        match self {
+            ShiftWordKind::Slliw => SLLIW,
+            ShiftWordKind::Srliw => SRLIW,
+            ShiftWordKind::Sraiw => SRAIW,
+        }
     }
 }
 
-pub fn register_code(k: RegisterKind) -> u64
-    ensures { λ r. ⌜ r ≡ registerCode k ⌝ }
-{
-    match k {
-        RegisterKind::Add => 0b0000000_000,
-        RegisterKind::Sub => 0b0100000_000,
-        RegisterKind::Sll => 0b0000000_001,
-        RegisterKind::Slt => 0b0000000_010,
-        RegisterKind::Sltu => 0b0000000_011,
-        RegisterKind::Xor => 0b0000000_100,
-        RegisterKind::Srl => 0b0000000_101,
-        RegisterKind::Sra => 0b0100000_101,
-        RegisterKind::Or => 0b0000000_110,
-        RegisterKind::And => 0b0000000_111,
+impl RegisterKind {
+    pub fn code(self) -> u64
+        ensures { λ r. ⌜ r ≡ registerCode self ⌝ }
+    {
+        match self {
+            RegisterKind::Add => ADD,
+            RegisterKind::Sub => SUB,
+            RegisterKind::Sll => SLL,
+            RegisterKind::Slt => SLT,
+            RegisterKind::Sltu => SLTU,
+            RegisterKind::Xor => XOR,
+            RegisterKind::Srl => SRL,
+            RegisterKind::Sra => SRA,
+            RegisterKind::Or => OR,
+            RegisterKind::And => AND,
+        }
     }
 }
 
-pub fn register_word_code(k: RegisterWordKind) -> u64
-    ensures { λ r. ⌜ r ≡ registerWordCode k ⌝ }
-{
-    match k {
-        RegisterWordKind::Addw => 0b0000000_000,
-        RegisterWordKind::Subw => 0b0100000_000,
-        RegisterWordKind::Sllw => 0b0000000_001,
-        RegisterWordKind::Srlw => 0b0000000_101,
-        RegisterWordKind::Sraw => 0b0100000_101,
+impl RegisterWordKind {
+    pub fn code(self) -> u64
+        ensures { λ r. ⌜ r ≡ registerWordCode self ⌝ }
+    {
+        match self {
+            RegisterWordKind::Addw => ADDW,
+            RegisterWordKind::Subw => SUBW,
+            RegisterWordKind::Sllw => SLLW,
+            RegisterWordKind::Srlw => SRLW,
+            RegisterWordKind::Sraw => SRAW,
+        }
     }
 }
 
-pub fn system_code(k: SystemKind) -> u64
-    ensures { λ r. ⌜ r ≡ systemCode k ⌝ }
-{
-    match k {
-        SystemKind::Ecall => 0,
-        SystemKind::Ebreak => 1,
+impl SystemKind {
+    pub fn code(self) -> u64
+        ensures { λ r. ⌜ r ≡ systemCode self ⌝ }
+    {
+        match self {
+            SystemKind::Ecall => ECALL,
+            SystemKind::Ebreak => EBREAK,
+        }
     }
 }
 
-pub fn hfi_code(k: HfiKind) -> u64
-    ensures { λ r. ⌜ r ≡ hfiCode k ⌝ }
-{
-    match k {
-        HfiKind::Enter => 0,
-        HfiKind::EnterJump => 1,
-        HfiKind::Exit => 2,
-        HfiKind::SelectRegion => 3,
-        HfiKind::SetBase => 4,
-        HfiKind::GetBase => 5,
-        HfiKind::SetBound => 6,
-        HfiKind::GetBound => 7,
-        HfiKind::SetPermission => 8,
-        HfiKind::GetPermission => 9,
-        HfiKind::SetHandler => 10,
-        HfiKind::GetHandler => 11,
-        HfiKind::ResetRegions => 12,
+impl HfiKind {
+    pub fn code(self) -> u64
+        ensures { λ r. ⌜ r ≡ hfiCode self ⌝ }
+    {
+        match self {
+            HfiKind::Enter => ENTER,
+            HfiKind::EnterJump => ENTER_JUMP,
+            HfiKind::Exit => EXIT,
+            HfiKind::SelectRegion => SELECT_REGION,
+            HfiKind::SetBase => SET_BASE,
+            HfiKind::GetBase => GET_BASE,
+            HfiKind::SetBound => SET_BOUND,
+            HfiKind::GetBound => GET_BOUND,
+            HfiKind::SetPermission => SET_PERMISSION,
+            HfiKind::GetPermission => GET_PERMISSION,
+            HfiKind::SetHandler => SET_HANDLER,
+            HfiKind::GetHandler => GET_HANDLER,
+            HfiKind::ResetRegions => RESET_REGIONS,
+        }
     }
 }

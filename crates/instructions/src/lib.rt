@@ -1,8 +1,7 @@
-// The instructions of RV64I with HFI, decoded from 32-bit words and encoded to them.
+// The instructions of RV64I with HFI: their types, their codes, and what decoding and encoding are (specs/).
 pub mod code;
-pub mod decode;
-pub mod encode;
 pub mod fields;
 pub mod hfi_table;
 pub mod instruction;
 pub mod kind;
+pub mod opcode;

@@ -1,12 +1,13 @@
--- The laying out of an instruction loses nothing, and a record stands for an instruction exactly if it is one laid out.
+-- The laying out of an instruction loses nothing, and a record stands for an instruction exactly if it is that one laid out.
 -- Assumes nothing.
-use mathlib.Core.Path.{_≡_, refl, ap, _∙_}
-use mathlib.Core.Bool.{true}
+use mathlib.Core.Path.{_≡_, refl, sym, ap, _∙_}
+use mathlib.Core.Bool.{Bool, true, false}
+use mathlib.Core.Logic.{_↔_}
 use Prim.Native.Nat.{ℕ, _^_, _<_}
+use native.Mathlib.Omega.{arith}
 use lib.Dec.{eqb}
 use borrow.Author.Tests.{eqb-true, eq-eqb}
-use Rattle.instructions.specs.Kinds.{upperCode, branchCode, loadCode, storeCode, immediateCode, shiftCode, shiftWordCode, registerCode, registerWordCode, systemCode, hfiCode}
-use Rattle.instructions.specs.Decode.{decodeWord}
+use Rattle.instructions.specs.Decode.{provided, decodeWord}
 use Rattle.instructions.specs.Encode.{encodeWord}
 use Rattle.instructions.specs.declared.kind.UpperKind.{UpperKind}
 use Rattle.instructions.specs.declared.kind.BranchKind.{BranchKind}
@@ -21,119 +22,35 @@ use Rattle.instructions.specs.declared.kind.SystemKind.{SystemKind}
 use Rattle.instructions.specs.declared.kind.HfiKind.{HfiKind}
 use Rattle.instructions.specs.declared.instruction.Instruction.{Instruction}
 use Rattle.instructions.specs.declared.instruction.Instruction.the-variants.{Upper, Jal, Jalr, Branch, Load, Store, Immediate, Shift, Addiw, ShiftWord, Register, RegisterWord, Fence, System, HLoad, HStore, Hfi}
-use Rattle.instructions.specs.declared.instruction.Decoded.the-variants.{Legal}
+use Rattle.instructions.specs.declared.instruction.Decoded.{Decoded}
+use Rattle.instructions.specs.declared.instruction.Decoded.the-variants.{Legal, Illegal}
 use Rattle.instructions.specs.declared.instruction.Encoded.the-variants.{Word}
 use Rattle.instructions.proofs.Tests.{and-both}
+use Rattle.instructions.proofs.Tables.{upper-code, branch-code, load-code, store-code, immediate-code, shift-code, shift-word-code, register-code, register-word-code, system-code, hfi-code}
 use Rattle.instructions.proofs.RoundTrip.{encode-of-decode}
-use Rattle.koubospar_codec.specs.Kinds.{upperKind, branchKind, loadKind, storeKind, immediateKind, shiftKind, shiftWordKind, registerKind, registerWordKind, systemKind, hfiKind}
-use Rattle.koubospar_codec.specs.Flat.{flatten, unflatten, same, stands, encodeFlat}
+use Rattle.koubospar_codec.specs.Flat.{flatten, unflatten, same, laidOut, standsFor, encodeDecoded, encodeFlat}
 use Rattle.koubospar_codec.specs.declared.flat.Flat.{Flat}
 
--- ---- each kind is read under its own code
+-- ---- what is laid out is read back: each kind is found under its code
 
-upper : (k : UpperKind) → upperKind (upperCode k) ≡ k
-upper UpperKind.Lui = refl
-upper UpperKind.Auipc = refl
-
-branch : (k : BranchKind) → branchKind (branchCode k) ≡ k
-branch BranchKind.Beq = refl
-branch BranchKind.Bne = refl
-branch BranchKind.Blt = refl
-branch BranchKind.Bge = refl
-branch BranchKind.Bltu = refl
-branch BranchKind.Bgeu = refl
-
-load : (k : LoadKind) → loadKind (loadCode k) ≡ k
-load LoadKind.Lb = refl
-load LoadKind.Lh = refl
-load LoadKind.Lw = refl
-load LoadKind.Ld = refl
-load LoadKind.Lbu = refl
-load LoadKind.Lhu = refl
-load LoadKind.Lwu = refl
-
-store : (k : StoreKind) → storeKind (storeCode k) ≡ k
-store StoreKind.Sb = refl
-store StoreKind.Sh = refl
-store StoreKind.Sw = refl
-store StoreKind.Sd = refl
-
-immediate : (k : ImmediateKind) → immediateKind (immediateCode k) ≡ k
-immediate ImmediateKind.Addi = refl
-immediate ImmediateKind.Slti = refl
-immediate ImmediateKind.Sltiu = refl
-immediate ImmediateKind.Xori = refl
-immediate ImmediateKind.Ori = refl
-immediate ImmediateKind.Andi = refl
-
-shift : (k : ShiftKind) → shiftKind (shiftCode k) ≡ k
-shift ShiftKind.Slli = refl
-shift ShiftKind.Srli = refl
-shift ShiftKind.Srai = refl
-
-shift-word : (k : ShiftWordKind) → shiftWordKind (shiftWordCode k) ≡ k
-shift-word ShiftWordKind.Slliw = refl
-shift-word ShiftWordKind.Srliw = refl
-shift-word ShiftWordKind.Sraiw = refl
-
-register : (k : RegisterKind) → registerKind (registerCode k) ≡ k
-register RegisterKind.Add = refl
-register RegisterKind.Sub = refl
-register RegisterKind.Sll = refl
-register RegisterKind.Slt = refl
-register RegisterKind.Sltu = refl
-register RegisterKind.Xor = refl
-register RegisterKind.Srl = refl
-register RegisterKind.Sra = refl
-register RegisterKind.Or = refl
-register RegisterKind.And = refl
-
-register-word : (k : RegisterWordKind) → registerWordKind (registerWordCode k) ≡ k
-register-word RegisterWordKind.Addw = refl
-register-word RegisterWordKind.Subw = refl
-register-word RegisterWordKind.Sllw = refl
-register-word RegisterWordKind.Srlw = refl
-register-word RegisterWordKind.Sraw = refl
-
-system : (k : SystemKind) → systemKind (systemCode k) ≡ k
-system SystemKind.Ecall = refl
-system SystemKind.Ebreak = refl
-
-hfi : (k : HfiKind) → hfiKind (hfiCode k) ≡ k
-hfi HfiKind.Enter = refl
-hfi HfiKind.EnterJump = refl
-hfi HfiKind.Exit = refl
-hfi HfiKind.SelectRegion = refl
-hfi HfiKind.SetBase = refl
-hfi HfiKind.GetBase = refl
-hfi HfiKind.SetBound = refl
-hfi HfiKind.GetBound = refl
-hfi HfiKind.SetPermission = refl
-hfi HfiKind.GetPermission = refl
-hfi HfiKind.SetHandler = refl
-hfi HfiKind.GetHandler = refl
-hfi HfiKind.ResetRegions = refl
-
--- ---- the round trip
-
-pub unflatten-flatten : (i : Instruction) → unflatten (flatten i) ≡ i
-unflatten-flatten (Upper k rd imm) = ap (λ (j : UpperKind). Upper j rd imm) (upper k)
+pub unflatten-flatten : (i : Instruction) → unflatten (flatten i) ≡ Legal i
+unflatten-flatten (Upper k rd imm) = upper-code k .found Decoded (λ (j : UpperKind). Legal (Upper j rd imm)) Illegal
 unflatten-flatten (Jal rd offset) = refl
 unflatten-flatten (Jalr rd rs1 imm) = refl
-unflatten-flatten (Branch k rs1 rs2 offset) = ap (λ (j : BranchKind). Branch j rs1 rs2 offset) (branch k)
-unflatten-flatten (Load k rd rs1 imm) = ap (λ (j : LoadKind). Load j rd rs1 imm) (load k)
-unflatten-flatten (Store k rs1 rs2 imm) = ap (λ (j : StoreKind). Store j rs1 rs2 imm) (store k)
-unflatten-flatten (Immediate k rd rs1 imm) = ap (λ (j : ImmediateKind). Immediate j rd rs1 imm) (immediate k)
-unflatten-flatten (Shift k rd rs1 amount) = ap (λ (j : ShiftKind). Shift j rd rs1 amount) (shift k)
+unflatten-flatten (Branch k rs1 rs2 offset) = branch-code k .found Decoded (λ (j : BranchKind). Legal (Branch j rs1 rs2 offset)) Illegal
+unflatten-flatten (Load k rd rs1 imm) = load-code k .found Decoded (λ (j : LoadKind). Legal (Load j rd rs1 imm)) Illegal
+unflatten-flatten (Store k rs1 rs2 imm) = store-code k .found Decoded (λ (j : StoreKind). Legal (Store j rs1 rs2 imm)) Illegal
+unflatten-flatten (Immediate k rd rs1 imm) = immediate-code k .found Decoded (λ (j : ImmediateKind). Legal (Immediate j rd rs1 imm)) Illegal
+unflatten-flatten (Shift k rd rs1 amount) = shift-code k .found Decoded (λ (j : ShiftKind). Legal (Shift j rd rs1 amount)) Illegal
 unflatten-flatten (Addiw rd rs1 imm) = refl
-unflatten-flatten (ShiftWord k rd rs1 amount) = ap (λ (j : ShiftWordKind). ShiftWord j rd rs1 amount) (shift-word k)
-unflatten-flatten (Register k rd rs1 rs2) = ap (λ (j : RegisterKind). Register j rd rs1 rs2) (register k)
-unflatten-flatten (RegisterWord k rd rs1 rs2) = ap (λ (j : RegisterWordKind). RegisterWord j rd rs1 rs2) (register-word k)
+unflatten-flatten (ShiftWord k rd rs1 amount) = shift-word-code k .found Decoded (λ (j : ShiftWordKind). Legal (ShiftWord j rd rs1 amount)) Illegal
+unflatten-flatten (Register k rd rs1 rs2) = register-code k .found Decoded (λ (j : RegisterKind). Legal (Register j rd rs1 rs2)) Illegal
+unflatten-flatten (RegisterWord k rd rs1 rs2) = register-word-code k .found Decoded (λ (j : RegisterWordKind). Legal (RegisterWord j rd rs1 rs2)) Illegal
 unflatten-flatten (Fence fm pred succ rs1 rd) = refl
-unflatten-flatten (System k) = ap System (system k)
-unflatten-flatten (HLoad k rd rs1 imm) = ap (λ (j : LoadKind). HLoad j rd rs1 imm) (load k)
-unflatten-flatten (HStore k rs1 rs2 imm) = ap (λ (j : StoreKind). HStore j rs1 rs2 imm) (store k)
-unflatten-flatten (Hfi k rd rs1 rs2) = ap (λ (j : HfiKind). Hfi j rd rs1 rs2) (hfi k)
+unflatten-flatten (System k) = system-code k .found Decoded (λ (j : SystemKind). Legal (System j)) Illegal
+unflatten-flatten (HLoad k rd rs1 imm) = load-code k .found Decoded (λ (j : LoadKind). Legal (HLoad j rd rs1 imm)) Illegal
+unflatten-flatten (HStore k rs1 rs2 imm) = store-code k .found Decoded (λ (j : StoreKind). Legal (HStore j rs1 rs2 imm)) Illegal
+unflatten-flatten (Hfi k rd rs1 rs2) = hfi-code k .found Decoded (λ (j : HfiKind). Legal (Hfi j rd rs1 rs2)) Illegal
 
 -- ---- a record that stands for an instruction is that instruction laid out, and the other way
 
@@ -164,16 +81,30 @@ same-equal a b h =
       succ = eqb-true (a .succ) (b .succ) (t .1) i;
     }
 
-pub stands-flatten : (i : Instruction) → stands (flatten i) ≡ true
-stands-flatten i = rw (unflatten-flatten i) (same-refl (flatten i))
+pub stands-flatten : (i : Instruction) → standsFor (flatten i) ≡ Legal i
+stands-flatten i = rw (unflatten-flatten i, same-refl (flatten i)) refl
 
-pub flatten-unflatten : (f : Flat) → stands f ≡ true → flatten (unflatten f) ≡ f
-flatten-unflatten f h = same-equal (flatten (unflatten f)) f h
+-- what a record stands for is laid out as that record
+pub flatten-stands : (f : Flat) (i : Instruction) → standsFor f ≡ Legal i → flatten i ≡ f
+flatten-stands f i e = read (unflatten f) e
+  where
+    told : (b : Bool) (j : Instruction) → provided b (Legal j) ≡ Legal i → (b ≡ true) × (j ≡ i)
+    told true j e = (refl, cc)
+    told false j e = let z : _≡_ {A = ℕ} 0 1 = cc in absurd (omega arith)
+
+    read : (d : Decoded) → laidOut f d ≡ Legal i → flatten i ≡ f
+    read (Legal j) e =
+        let t = told (same (flatten j) f) j e in
+        ap flatten (sym (t .1)) ∙ same-equal (flatten j) f (t .0)
+    read Illegal e = let z : _≡_ {A = ℕ} 0 1 = cc in absurd (omega arith)
+
+pub stands-exactly : (f : Flat) (i : Instruction) → (standsFor f ≡ Legal i) ↔ (flatten i ≡ f)
+stands-exactly f i = (flatten-stands f i, λ e. ap standsFor (sym e) ∙ stands-flatten i)
 
 -- ---- so the codec by records is the codec by instructions
 
 pub encode-flatten : (i : Instruction) → encodeFlat (flatten i) ≡ encodeWord i
-encode-flatten i = rw (stands-flatten i, unflatten-flatten i) refl
+encode-flatten i = ap encodeDecoded (stands-flatten i)
 
 -- what a legal word is decoded to is encoded to that word again
 pub encode-decode : (w : ℕ) (i : Instruction) → w < 2 ^ 32 → decodeWord w ≡ Legal i → encodeFlat (flatten i) ≡ Word w

@@ -1,11 +1,13 @@
 -- An instruction as numbers alone: its laying out, its reading back, and the codec in these terms.
--- Assumes nothing.
-use mathlib.Core.Bool.{Bool, cond, _&&_}
+-- Flat, FlatDecoded and FlatEncoded are declared in src/flat.rt, Instruction, Decoded and Encoded in
+-- instructions/src/instruction.rt. Assumes nothing.
+use mathlib.Core.Bool.{Bool, true, false, _&&_}
 use mathlib.Core.List.{List, [], _∷_}
 use Prim.Native.Nat.{ℕ}
 use lib.Dec.{eqb}
 use Rattle.instructions.specs.Table.{lookup}
 use Rattle.instructions.specs.Kinds.{upperCode, branchCode, loadCode, storeCode, immediateCode, shiftCode, shiftWordCode, registerCode, registerWordCode, systemCode, hfiCode}
+use Rattle.instructions.specs.Decode.{upperAt, branchAt, loadAt, storeAt, immediateAt, shiftAt, shiftWordAt, registerAt, registerWordAt, systemAt, hfiAt, provided}
 use Rattle.instructions.specs.Encode.{encodeWord}
 use Rattle.instructions.specs.Answers.{decodeNumber, encodeNumber, wordAnswered}
 use Rattle.instructions.specs.declared.instruction.Instruction.{Instruction}
@@ -14,7 +16,6 @@ use Rattle.instructions.specs.declared.instruction.Decoded.{Decoded}
 use Rattle.instructions.specs.declared.instruction.Decoded.the-variants.{Legal, Illegal}
 use Rattle.instructions.specs.declared.instruction.Encoded.{Encoded}
 use Rattle.instructions.specs.declared.instruction.Encoded.the-variants.{OutOfRange}
-use Rattle.koubospar_codec.specs.Kinds.{upperKind, branchKind, loadKind, storeKind, immediateKind, shiftKind, shiftWordKind, registerKind, registerWordKind, systemKind, hfiKind}
 use Rattle.koubospar_codec.specs.declared.flat.Flat.{Flat}
 use Rattle.koubospar_codec.specs.declared.flat.FlatDecoded.{FlatDecoded}
 use Rattle.koubospar_codec.specs.declared.flat.FlatEncoded.{FlatEncoded}
@@ -51,33 +52,31 @@ flatten (HLoad k rd rs1 imm) = layout 15 (loadCode k) rd rs1 0 imm
 flatten (HStore k rs1 rs2 imm) = layout 16 (storeCode k) 0 rs1 rs2 imm
 flatten (Hfi k rd rs1 rs2) = layout 17 (hfiCode k) rd rs1 rs2 0
 
--- what is read under each group, but for group 14
-abbrev pub groups : Flat → List (ℕ × Instruction)
+-- what is read under each group
+abbrev pub groups : Flat → List (ℕ × Decoded)
 groups f =
-    (1, Upper (upperKind (f .kind)) (f .rd) (f .imm))
-    ∷ (2, Jal (f .rd) (f .imm))
-    ∷ (3, Jalr (f .rd) (f .rs1) (f .imm))
-    ∷ (4, Branch (branchKind (f .kind)) (f .rs1) (f .rs2) (f .imm))
-    ∷ (5, Load (loadKind (f .kind)) (f .rd) (f .rs1) (f .imm))
-    ∷ (6, Store (storeKind (f .kind)) (f .rs1) (f .rs2) (f .imm))
-    ∷ (7, Immediate (immediateKind (f .kind)) (f .rd) (f .rs1) (f .imm))
-    ∷ (8, Shift (shiftKind (f .kind)) (f .rd) (f .rs1) (f .imm))
-    ∷ (9, Addiw (f .rd) (f .rs1) (f .imm))
-    ∷ (10, ShiftWord (shiftWordKind (f .kind)) (f .rd) (f .rs1) (f .imm))
-    ∷ (11, Register (registerKind (f .kind)) (f .rd) (f .rs1) (f .rs2))
-    ∷ (12, RegisterWord (registerWordKind (f .kind)) (f .rd) (f .rs1) (f .rs2))
-    ∷ (13, Fence (f .fm) (f .pred) (f .succ) (f .rs1) (f .rd))
-    ∷ (15, HLoad (loadKind (f .kind)) (f .rd) (f .rs1) (f .imm))
-    ∷ (16, HStore (storeKind (f .kind)) (f .rs1) (f .rs2) (f .imm))
-    ∷ (17, Hfi (hfiKind (f .kind)) (f .rd) (f .rs1) (f .rs2))
+    (1, upperAt (f .kind) (f .rd) (f .imm))
+    ∷ (2, Legal (Jal (f .rd) (f .imm)))
+    ∷ (3, Legal (Jalr (f .rd) (f .rs1) (f .imm)))
+    ∷ (4, branchAt (f .kind) (f .rs1) (f .rs2) (f .imm))
+    ∷ (5, loadAt false (f .kind) (f .rd) (f .rs1) (f .imm))
+    ∷ (6, storeAt false (f .kind) (f .rs1) (f .rs2) (f .imm))
+    ∷ (7, immediateAt (f .kind) (f .rd) (f .rs1) (f .imm))
+    ∷ (8, shiftAt (f .kind) (f .rd) (f .rs1) (f .imm))
+    ∷ (9, Legal (Addiw (f .rd) (f .rs1) (f .imm)))
+    ∷ (10, shiftWordAt (f .kind) (f .rd) (f .rs1) (f .imm))
+    ∷ (11, registerAt (f .kind) (f .rd) (f .rs1) (f .rs2))
+    ∷ (12, registerWordAt (f .kind) (f .rd) (f .rs1) (f .rs2))
+    ∷ (13, Legal (Fence (f .fm) (f .pred) (f .succ) (f .rs1) (f .rd)))
+    ∷ (14, systemAt (f .kind))
+    ∷ (15, loadAt true (f .kind) (f .rd) (f .rs1) (f .imm))
+    ∷ (16, storeAt true (f .kind) (f .rs1) (f .rs2) (f .imm))
+    ∷ (17, hfiAt (f .kind) (f .rd) (f .rs1) (f .rs2))
     ∷ []
 
--- the instruction that the record stands for, if it stands for one; every other group is read as 14
-abbrev pub unflattenAt : Flat → ℕ → Instruction
-unflattenAt f group = lookup (System (systemKind (f .kind))) (groups f) group
-
-abbrev pub unflatten : Flat → Instruction
-unflatten f = unflattenAt f (f .group)
+-- the instruction that is read from the record, whatever the fields that its group lacks
+abbrev pub unflatten : Flat → Decoded
+unflatten f = lookup Illegal (groups f) (f .group)
 
 abbrev pub same : Flat → Flat → Bool
 same a b =
@@ -85,9 +84,14 @@ same a b =
     && ((eqb (a .rd) (b .rd) && (eqb (a .rs1) (b .rs1) && eqb (a .rs2) (b .rs2)))
     && (eqb (a .imm) (b .imm) && (eqb (a .fm) (b .fm) && (eqb (a .pred) (b .pred) && eqb (a .succ) (b .succ)))))
 
--- the record stands for an instruction: it is that instruction laid out (proofs/Laid.antt: exactly then)
-abbrev pub stands : Flat → Bool
-stands f = same (flatten (unflatten f)) f
+-- the instruction, where the record is that instruction laid out
+abbrev pub laidOut : Flat → Decoded → Decoded
+laidOut f (Legal i) = provided (same (flatten i) f) (Legal i)
+laidOut f Illegal = Illegal
+
+-- the instruction that the record stands for (proofs/Laid.antt: it is that instruction laid out, and exactly then)
+abbrev pub standsFor : Flat → Decoded
+standsFor f = laidOut f (unflatten f)
 
 -- ---- the codec
 
@@ -99,8 +103,12 @@ abbrev pub flatDecoded : Decoded → FlatDecoded
 flatDecoded d = record { number = decodeNumber d; instruction = decodedAs d }
 
 -- a record that stands for no instruction is refused like a field out of range
+abbrev pub encodeDecoded : Decoded → Encoded
+encodeDecoded (Legal i) = encodeWord i
+encodeDecoded Illegal = OutOfRange
+
 abbrev pub encodeFlat : Flat → Encoded
-encodeFlat f = cond (stands f) (encodeWord (unflatten f)) OutOfRange
+encodeFlat f = encodeDecoded (standsFor f)
 
 abbrev pub flatEncoded : Encoded → FlatEncoded
 flatEncoded e = record { number = encodeNumber e; word = wordAnswered e }

@@ -1,31 +1,9 @@
 // An instruction as numbers alone, since an enum cannot cross to C: laid out, read back, decoded and encoded.
 ghost use mathlib.Core.Path.{_≡_};
 ghost use Rattle.instructions.specs.Decode.{decodeWord};
-ghost use Rattle.koubospar_codec.specs.Flat.{layout, fenceLayout, flatten as flattenOf, unflatten as unflattenOf, same as sameAs, stands as standsFor, flatDecoded, flatEncoded, encodeFlat};
-use crate::kind::branch_kind;
-use crate::kind::hfi_kind;
-use crate::kind::immediate_kind;
-use crate::kind::load_kind;
-use crate::kind::register_kind;
-use crate::kind::register_word_kind;
-use crate::kind::shift_kind;
-use crate::kind::shift_word_kind;
-use crate::kind::store_kind;
-use crate::kind::system_kind;
-use crate::kind::upper_kind;
-use instructions::code::branch_code;
-use instructions::code::hfi_code;
-use instructions::code::immediate_code;
-use instructions::code::load_code;
-use instructions::code::register_code;
-use instructions::code::register_word_code;
-use instructions::code::shift_code;
-use instructions::code::shift_word_code;
-use instructions::code::store_code;
-use instructions::code::system_code;
-use instructions::code::upper_code;
-use instructions::decode::decode;
-use instructions::encode::encode;
+ghost use Rattle.koubospar_codec.specs.Flat.{layout, fenceLayout, flatten as flattenOf, unflatten as unflattenOf, same as sameAs, standsFor, flatDecoded, flatEncoded, encodeFlat};
+use decode::decode;
+use encode::encode;
 use instructions::instruction::Decoded;
 use instructions::instruction::Encoded;
 use instructions::instruction::Instruction;
@@ -95,63 +73,50 @@ pub fn flatten(i: Instruction) -> Flat
     ensures { λ r. ⌜ r ≡ flattenOf i ⌝ }
 {
     match i {
-        Instruction::Upper(k, rd, imm) => lay_out(1, upper_code(k), rd, 0, 0, imm),
+        Instruction::Upper(k, rd, imm) => lay_out(1, k.code(), rd, 0, 0, imm),
         Instruction::Jal(rd, offset) => lay_out(2, 0, rd, 0, 0, offset),
         Instruction::Jalr(rd, rs1, imm) => lay_out(3, 0, rd, rs1, 0, imm),
-        Instruction::Branch(k, rs1, rs2, offset) => lay_out(4, branch_code(k), 0, rs1, rs2, offset),
-        Instruction::Load(k, rd, rs1, imm) => lay_out(5, load_code(k), rd, rs1, 0, imm),
-        Instruction::Store(k, rs1, rs2, imm) => lay_out(6, store_code(k), 0, rs1, rs2, imm),
-        Instruction::Immediate(k, rd, rs1, imm) => lay_out(7, immediate_code(k), rd, rs1, 0, imm),
-        Instruction::Shift(k, rd, rs1, amount) => lay_out(8, shift_code(k), rd, rs1, 0, amount),
+        Instruction::Branch(k, rs1, rs2, offset) => lay_out(4, k.code(), 0, rs1, rs2, offset),
+        Instruction::Load(k, rd, rs1, imm) => lay_out(5, k.code(), rd, rs1, 0, imm),
+        Instruction::Store(k, rs1, rs2, imm) => lay_out(6, k.code(), 0, rs1, rs2, imm),
+        Instruction::Immediate(k, rd, rs1, imm) => lay_out(7, k.code(), rd, rs1, 0, imm),
+        Instruction::Shift(k, rd, rs1, amount) => lay_out(8, k.code(), rd, rs1, 0, amount),
         Instruction::Addiw(rd, rs1, imm) => lay_out(9, 0, rd, rs1, 0, imm),
-        Instruction::ShiftWord(k, rd, rs1, amount) => lay_out(
-            10,
-            shift_word_code(k),
-            rd,
-            rs1,
-            0,
-            amount,
-        ),
-        Instruction::Register(k, rd, rs1, rs2) => lay_out(11, register_code(k), rd, rs1, rs2, 0),
-        Instruction::RegisterWord(k, rd, rs1, rs2) => lay_out(
-            12,
-            register_word_code(k),
-            rd,
-            rs1,
-            rs2,
-            0,
-        ),
+        Instruction::ShiftWord(k, rd, rs1, amount) => lay_out(10, k.code(), rd, rs1, 0, amount),
+        Instruction::Register(k, rd, rs1, rs2) => lay_out(11, k.code(), rd, rs1, rs2, 0),
+        Instruction::RegisterWord(k, rd, rs1, rs2) => lay_out(12, k.code(), rd, rs1, rs2, 0),
         Instruction::Fence(fm, pred, succ, rs1, rd) => lay_out_fence(fm, pred, succ, rs1, rd),
-        Instruction::System(k) => lay_out(14, system_code(k), 0, 0, 0, 0),
-        Instruction::HLoad(k, rd, rs1, imm) => lay_out(15, load_code(k), rd, rs1, 0, imm),
-        Instruction::HStore(k, rs1, rs2, imm) => lay_out(16, store_code(k), 0, rs1, rs2, imm),
-        Instruction::Hfi(k, rd, rs1, rs2) => lay_out(17, hfi_code(k), rd, rs1, rs2, 0),
+        Instruction::System(k) => lay_out(14, k.code(), 0, 0, 0, 0),
+        Instruction::HLoad(k, rd, rs1, imm) => lay_out(15, k.code(), rd, rs1, 0, imm),
+        Instruction::HStore(k, rs1, rs2, imm) => lay_out(16, k.code(), 0, rs1, rs2, imm),
+        Instruction::Hfi(k, rd, rs1, rs2) => lay_out(17, k.code(), rd, rs1, rs2, 0),
     }
 }
 
-// The instruction that the record stands for, if it stands for one.
-pub fn unflatten(f: Flat) -> Instruction
+// The instruction that is read from the record; fields that its group lacks are not asked about.
+pub fn unflatten(f: Flat) -> Decoded
     ensures { λ r. ⌜ r ≡ unflattenOf f ⌝ }
 {
     let group = f.group;
     match group {
-        1 => Instruction::Upper(upper_kind(f.kind), f.rd, f.imm),
-        2 => Instruction::Jal(f.rd, f.imm),
-        3 => Instruction::Jalr(f.rd, f.rs1, f.imm),
-        4 => Instruction::Branch(branch_kind(f.kind), f.rs1, f.rs2, f.imm),
-        5 => Instruction::Load(load_kind(f.kind), f.rd, f.rs1, f.imm),
-        6 => Instruction::Store(store_kind(f.kind), f.rs1, f.rs2, f.imm),
-        7 => Instruction::Immediate(immediate_kind(f.kind), f.rd, f.rs1, f.imm),
-        8 => Instruction::Shift(shift_kind(f.kind), f.rd, f.rs1, f.imm),
-        9 => Instruction::Addiw(f.rd, f.rs1, f.imm),
-        10 => Instruction::ShiftWord(shift_word_kind(f.kind), f.rd, f.rs1, f.imm),
-        11 => Instruction::Register(register_kind(f.kind), f.rd, f.rs1, f.rs2),
-        12 => Instruction::RegisterWord(register_word_kind(f.kind), f.rd, f.rs1, f.rs2),
-        13 => Instruction::Fence(f.fm, f.pred, f.succ, f.rs1, f.rd),
-        15 => Instruction::HLoad(load_kind(f.kind), f.rd, f.rs1, f.imm),
-        16 => Instruction::HStore(store_kind(f.kind), f.rs1, f.rs2, f.imm),
-        17 => Instruction::Hfi(hfi_kind(f.kind), f.rd, f.rs1, f.rs2),
-        _ => Instruction::System(system_kind(f.kind)),
+        1 => listing::upper(f.kind, f.rd, f.imm),
+        2 => Decoded::Legal(Instruction::Jal(f.rd, f.imm)),
+        3 => Decoded::Legal(Instruction::Jalr(f.rd, f.rs1, f.imm)),
+        4 => listing::branch(f.kind, f.rs1, f.rs2, f.imm),
+        5 => listing::load(false, f.kind, f.rd, f.rs1, f.imm),
+        6 => listing::store(false, f.kind, f.rs1, f.rs2, f.imm),
+        7 => listing::immediate(f.kind, f.rd, f.rs1, f.imm),
+        8 => listing::shift(f.kind, f.rd, f.rs1, f.imm),
+        9 => Decoded::Legal(Instruction::Addiw(f.rd, f.rs1, f.imm)),
+        10 => listing::shift_word(f.kind, f.rd, f.rs1, f.imm),
+        11 => listing::register(f.kind, f.rd, f.rs1, f.rs2),
+        12 => listing::register_word(f.kind, f.rd, f.rs1, f.rs2),
+        13 => Decoded::Legal(Instruction::Fence(f.fm, f.pred, f.succ, f.rs1, f.rd)),
+        14 => listing::system(f.kind),
+        15 => listing::load(true, f.kind, f.rd, f.rs1, f.imm),
+        16 => listing::store(true, f.kind, f.rs1, f.rs2, f.imm),
+        17 => listing::hfi(f.kind, f.rd, f.rs1, f.rs2),
+        _ => Decoded::Illegal,
     }
 }
 
@@ -164,11 +129,19 @@ fn same(a: Flat, b: Flat) -> bool
     shape & (registers & rest)
 }
 
-// Does the record stand for an instruction: is it what is laid out of the one read from it?
-pub fn stands(f: Flat) -> bool
+// The instruction that the record stands for: the one that is read from it, if the record is that one laid out.
+pub fn stands_for(f: Flat) -> Decoded
     ensures { λ r. ⌜ r ≡ standsFor f ⌝ }
 {
-    same(flatten(unflatten(f)), f)
+    let d = unflatten(f);
+    match d {
+        Decoded::Legal(i) => if same(flatten(i), f) {
+            d
+        } else {
+            Decoded::Illegal
+        },
+        Decoded::Illegal => Decoded::Illegal,
+    }
 }
 
 // The instruction of any word.
@@ -203,9 +176,9 @@ fn answer_encoded(e: Encoded) -> FlatEncoded
 pub extern "C" fn koubospar_encode(f: Flat) -> FlatEncoded
     ensures { λ r. ⌜ r ≡ flatEncoded (encodeFlat f) ⌝ }
 {
-    if stands(f) {
-        answer_encoded(encode(unflatten(f)))
-    } else {
-        answer_encoded(Encoded::OutOfRange)
+    let d = stands_for(f);
+    match d {
+        Decoded::Legal(i) => answer_encoded(encode(i)),
+        Decoded::Illegal => answer_encoded(Encoded::OutOfRange),
     }
 }

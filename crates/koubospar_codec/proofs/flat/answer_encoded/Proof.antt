@@ -4,17 +4,11 @@ use borrow.Author.Needs.{needs}
 use Rattle.koubospar_codec.proofs.flat.answer_encoded.Statement.{statement}
 use Rattle.koubospar_codec.proofs.flat.answer_encoded.Tie as tie
 
-enum-known-e : tie.Need-enum-known-e
-enum-known-e c = search needs
-
-enum-told : tie.Need-enum-told
-enum-told c = search needs
-
-returns : tie.Need-returns
-returns c = ap flatEncoded (sym (c .before .e .given .1))
-
-returns-2 : tie.Need-returns-2
-returns-2 c = ap flatEncoded (sym (c .enum-told .given .1))
-
 pub answer-encoded-spec : {M : Type 1} → statement M
-answer-encoded-spec = tie.close (tie.spec enum-known-e enum-told returns returns-2)
+answer-encoded-spec =
+    tie.close
+    (tie.spec
+    (λ c. search needs)
+    (λ c. search needs)
+    (λ c. ap flatEncoded (sym (c .before .e .given .1)))
+    (λ c. ap flatEncoded (sym (c .enum-told .given .1))))

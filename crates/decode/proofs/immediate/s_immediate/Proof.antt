@@ -1,0 +1,11 @@
+use borrow.Author.Needs.{needs}
+use Rattle.decode.proofs.immediate.s_immediate.Statement.{statement}
+use Rattle.decode.proofs.immediate.s_immediate.Tie as tie
+
+pub s-immediate-spec : {M : Type 1} → statement M
+s-immediate-spec =
+    tie.close
+    (tie.spec
+    (λ c κs. search needs)
+    (λ c κs. search needs)
+    (λ c. cc))

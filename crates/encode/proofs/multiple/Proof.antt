@@ -1,0 +1,11 @@
+use borrow.Author.Needs.{needs}
+use Rattle.encode.proofs.multiple.Statement.{statement}
+use Rattle.encode.proofs.multiple.Tie as tie
+
+pub multiple-spec : {M : Type 1} → statement M
+multiple-spec =
+    tie.close
+    (tie.spec
+    (λ c κs. search needs)
+    (λ c κs. search needs)
+    (λ c. cc))

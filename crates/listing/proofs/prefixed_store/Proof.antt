@@ -1,0 +1,5 @@
+use Rattle.listing.proofs.prefixed_store.Statement.{statement}
+use Rattle.listing.proofs.prefixed_store.Tie as tie
+
+pub prefixed-store-spec : {M : Type 1} → statement M
+prefixed-store-spec = tie.close (tie.spec (λ c. rw (c .if1 .taken)) (λ c. rw (c .if1 .left)))

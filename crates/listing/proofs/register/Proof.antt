@@ -1,0 +1,23 @@
+use Rattle.instructions.specs.Kinds.{registerCode, registerKinds}
+use Rattle.instructions.specs.declared.kind.RegisterKind.{RegisterKind}
+use Rattle.instructions.specs.declared.instruction.Instruction.the-variants.{Register}
+use Rattle.instructions.specs.declared.instruction.Decoded.the-variants.{Legal, Illegal}
+use Rattle.instructions.proofs.Tables.{rest}
+use Rattle.listing.proofs.register.Statement.{statement}
+use Rattle.listing.proofs.register.Tie as tie
+
+pub register-spec : {M : Type 1} → statement M
+register-spec =
+    tie.close
+    (tie.spec
+    (λ c. rw (c .match .keys1))
+    (λ c. rw (c .match .keys2))
+    (λ c. rw (c .match .keys3))
+    (λ c. rw (c .match .keys4))
+    (λ c. rw (c .match .keys5))
+    (λ c. rw (c .match .keys6))
+    (λ c. rw (c .match .keys7))
+    (λ c. rw (c .match .keys8))
+    (λ c. rw (c .match .keys9))
+    (λ c. rw (c .match .keys10))
+    (λ c. let a = c .before .args in rest registerCode (λ (k : RegisterKind). Legal (Register k (a .rd) (a .rs1) (a .rs2))) Illegal registerKinds _ (c .match .rest)))
