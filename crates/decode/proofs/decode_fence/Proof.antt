@@ -1,3 +1,4 @@
+use mathlib.Core.Path.{refl}
 use borrow.Author.Tests.{eq-eqb, ne-eqb}
 use borrow.Author.Needs.{needs}
 use Rattle.decode.proofs.decode_fence.Statement.{statement}
@@ -11,7 +12,7 @@ returns c =
       c .before .bits2 .ensures,
       c .before .before .bits .ensures,
       c .before .before .before .i-bits .ensures,
-    )
+    ) refl
 
 pub decode-fence-spec : {M : Type 1} → statement M
 decode-fence-spec =
@@ -22,4 +23,4 @@ decode-fence-spec =
     (λ c κs. search needs)
     (λ c κs. search needs)
     returns
-    (λ c. rw (ne-eqb _ 0 (c .if1 .left))))
+    (λ c. rw (ne-eqb _ 0 (c .if1 .left)) refl))

@@ -1,4 +1,4 @@
-use mathlib.Core.Path.{sym}
+use mathlib.Core.Path.{refl, sym}
 use borrow.Author.Needs.{needs}
 use Rattle.decode.proofs.decode_hfi.Statement.{statement}
 use Rattle.decode.proofs.decode_hfi.Tie as tie
@@ -9,5 +9,5 @@ decode-hfi-spec =
     (tie.spec
     (λ c κs. search needs)
     (λ c κs. search needs)
-    (λ c. rw (c .hfi .ensures, sym (c .before .before .fields-named .ensures), c .before .if1 .taken))
-    (λ c. rw (sym (c .before .fields-named .ensures), c .if1 .left)))
+    (λ c. rw (c .hfi .ensures, sym (c .before .before .fields-named .ensures), c .before .if1 .taken) refl)
+    (λ c. rw (sym (c .before .fields-named .ensures), c .if1 .left) refl))

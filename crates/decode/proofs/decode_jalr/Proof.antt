@@ -1,3 +1,4 @@
+use mathlib.Core.Path.{refl}
 use borrow.Author.Tests.{eq-eqb, ne-eqb}
 use borrow.Author.Needs.{needs}
 use Rattle.decode.proofs.decode_jalr.Statement.{statement}
@@ -8,5 +9,5 @@ decode-jalr-spec =
     tie.close
     (tie.spec
     (λ c κs. search needs)
-    (λ c. rw (eq-eqb _ 0 (c .before .if1 .taken), c .i-immediate .ensures))
-    (λ c. rw (ne-eqb _ 0 (c .if1 .left))))
+    (λ c. rw (eq-eqb _ 0 (c .before .if1 .taken), c .i-immediate .ensures) refl)
+    (λ c. rw (ne-eqb _ 0 (c .if1 .left)) refl))

@@ -1,4 +1,4 @@
-use mathlib.Core.Path.{sym, _∙_}
+use mathlib.Core.Path.{refl, sym, _∙_}
 use Rattle.instructions.specs.Encode.{encodeWord}
 use Rattle.instructions.proofs.DecodeEncode.{encode-in-word}
 use borrow.Author.Needs.{needs}
@@ -18,11 +18,11 @@ returns c =
       c .before .encode-fields .ensures,
       sym (c .before .before .before .in-range .ensures)
           ∙ c .before .before .if1 .taken,
-    )
+    ) refl
 
 returns-2 : tie.Need-returns-2
 unfolding encodeWord
-returns-2 c = rw (sym (c .before .in-range .ensures) ∙ c .if1 .left)
+returns-2 c = rw (sym (c .before .in-range .ensures) ∙ c .if1 .left) refl
 
 pub encode-spec : {M : Type 1} → statement M
 encode-spec =

@@ -1,3 +1,4 @@
+use mathlib.Core.Path.{refl}
 use borrow.Author.Needs.{needs}
 use Rattle.encode.proofs.multiple.Statement.{statement}
 use Rattle.encode.proofs.multiple.Tie as tie
@@ -8,4 +9,4 @@ multiple-spec =
     (tie.spec
     (λ c κs. search needs)
     (λ c κs. search needs)
-    (λ c. cc))
+    (λ c. rw (c .bits .ensures, c .before .fits-signed .ensures) refl))

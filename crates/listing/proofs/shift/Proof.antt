@@ -1,3 +1,4 @@
+use mathlib.Core.Path.{refl}
 use Rattle.instructions.specs.Kinds.{shiftCode, shiftKinds}
 use Rattle.instructions.specs.declared.kind.ShiftKind.{ShiftKind}
 use Rattle.instructions.specs.declared.instruction.Instruction.the-variants.{Shift}
@@ -10,7 +11,7 @@ pub shift-spec : {M : Type 1} → statement M
 shift-spec =
     tie.close
     (tie.spec
-    (λ c. rw (c .match .keys1))
-    (λ c. rw (c .match .keys2))
-    (λ c. rw (c .match .keys3))
+    (λ c. rw (c .match .keys1) refl)
+    (λ c. rw (c .match .keys2) refl)
+    (λ c. rw (c .match .keys3) refl)
     (λ c. let a = c .before .args in rest shiftCode (λ (k : ShiftKind). Legal (Shift k (a .rd) (a .rs1) (a .amount))) Illegal shiftKinds _ (c .match .rest)))

@@ -1,3 +1,4 @@
+use mathlib.Core.Path.{refl}
 use borrow.Author.Needs.{needs}
 use Rattle.instructions.specs.Kinds.{storeCode, storeKinds}
 use Rattle.instructions.specs.Decode.{storeOf}
@@ -15,8 +16,8 @@ store-spec =
     (λ c κs. search needs)
     (λ c κs. search needs)
     (λ c κs. search needs)
-    (λ c. rw (c .prefixed-store .ensures, c .before .match .keys1))
-    (λ c. rw (c .prefixed-store2 .ensures, c .before .match .keys2))
-    (λ c. rw (c .prefixed-store3 .ensures, c .before .match .keys3))
-    (λ c. rw (c .prefixed-store4 .ensures, c .before .match .keys4))
+    (λ c. rw (c .prefixed-store .ensures, c .before .match .keys1) refl)
+    (λ c. rw (c .prefixed-store2 .ensures, c .before .match .keys2) refl)
+    (λ c. rw (c .prefixed-store3 .ensures, c .before .match .keys3) refl)
+    (λ c. rw (c .prefixed-store4 .ensures, c .before .match .keys4) refl)
     (λ c. let a = c .before .args in rest storeCode (λ (k : StoreKind). Legal (storeOf (a .prefixed) k (a .rs1) (a .rs2) (a .imm))) Illegal storeKinds _ (c .match .rest)))

@@ -1,3 +1,4 @@
+use mathlib.Core.Path.{refl}
 use Rattle.instructions.specs.Kinds.{systemCode, systemKinds}
 use Rattle.instructions.specs.declared.kind.SystemKind.{SystemKind}
 use Rattle.instructions.specs.declared.instruction.Instruction.the-variants.{System}
@@ -10,6 +11,6 @@ pub system-spec : {M : Type 1} → statement M
 system-spec =
     tie.close
     (tie.spec
-    (λ c. rw (c .match .keys1))
-    (λ c. rw (c .match .keys2))
+    (λ c. rw (c .match .keys1) refl)
+    (λ c. rw (c .match .keys2) refl)
     (λ c. rest systemCode (λ (k : SystemKind). Legal (System k)) Illegal systemKinds _ (c .match .rest)))

@@ -1,3 +1,4 @@
+use mathlib.Core.Path.{refl}
 use borrow.Author.Needs.{needs}
 use Rattle.decode.proofs.immediate.s_immediate.Statement.{statement}
 use Rattle.decode.proofs.immediate.s_immediate.Tie as tie
@@ -8,4 +9,4 @@ s-immediate-spec =
     (tie.spec
     (λ c κs. search needs)
     (λ c κs. search needs)
-    (λ c. cc))
+    (λ c. rw (c .sign-extend .ensures, c .before .put .ensures) refl))

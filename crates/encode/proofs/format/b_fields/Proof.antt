@@ -1,6 +1,18 @@
+use mathlib.Core.Path.{refl}
 use borrow.Author.Needs.{needs}
 use Rattle.encode.proofs.format.b_fields.Statement.{statement}
 use Rattle.encode.proofs.format.b_fields.Tie as tie
+
+returns : tie.Need-returns
+returns c =
+    rw (
+      c .put2 .ensures,
+      c .before .bits4 .ensures,
+      c .before .before .bits3 .ensures,
+      c .before .before .before .put .ensures,
+      c .before .before .before .before .bits2 .ensures,
+      c .before .before .before .before .before .bits .ensures,
+    ) refl
 
 pub b-fields-spec : {M : Type 1} → statement M
 b-fields-spec =
@@ -12,4 +24,4 @@ b-fields-spec =
     (λ c κs. search needs)
     (λ c κs. search needs)
     (λ c κs. search needs)
-    (λ c. cc))
+    returns)

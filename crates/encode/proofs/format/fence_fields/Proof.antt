@@ -1,3 +1,4 @@
+use mathlib.Core.Path.{refl}
 use borrow.Author.Needs.{needs}
 use Rattle.encode.proofs.format.fence_fields.Statement.{statement}
 use Rattle.encode.proofs.format.fence_fields.Tie as tie
@@ -9,4 +10,4 @@ fence-fields-spec =
     (λ c κs. search needs)
     (λ c κs. search needs)
     (λ c κs. search needs)
-    (λ c. cc))
+    (λ c. rw (c .i-fields .ensures, c .before .put2 .ensures, c .before .before .put .ensures) refl))

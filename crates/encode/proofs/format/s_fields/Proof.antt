@@ -1,3 +1,4 @@
+use mathlib.Core.Path.{refl}
 use borrow.Author.Needs.{needs}
 use Rattle.encode.proofs.format.s_fields.Statement.{statement}
 use Rattle.encode.proofs.format.s_fields.Tie as tie
@@ -8,4 +9,4 @@ s-fields-spec =
     (tie.spec
     (λ c κs. search needs)
     (λ c κs. search needs)
-    (λ c. cc))
+    (λ c. rw (c .bits2 .ensures, c .before .bits .ensures) refl))
