@@ -14,7 +14,7 @@ use Rattle.text.specs.Scan.{count}
 use Rattle.text.specs.Number.{digitValue, spelled, digitByte, digits}
 use Rattle.text.proofs.Scanning.{count-append}
 
--- ---- reading: v is spelled by the digits before place i
+-- ---- reading: v is spelled by the digits before position i
 pub spelled-on : (s : List ℕ) (i base v : ℕ) → i < length s
     → spelled base v (drop i s) ≡ spelled base (v * base + digitValue (getD s i 0)) (drop (i + 1) s)
 unfolding spelled
@@ -54,7 +54,7 @@ unfolding digits
 digits-none base k n e = ap (λ j. digits base j n) e
 
 -- What holds of the digits of every number: it holds of no digits, of one digit, and of one digit more.
--- P k n s speaks of the digits s of n, for which k places are given. All laws below are cases of this one induction.
+-- P k n s speaks of the digits s of n, for which k positions are given. All laws below are cases of this one induction.
 module _ (base : ℕ) (P : ℕ → ℕ → List ℕ → Type 0)
     (none : (n : ℕ) → P 0 n [])
     (one : (k n : ℕ) → n < base → P (suc k) n (digitByte n ∷ []))

@@ -8,7 +8,8 @@ use lib.Dec.{eqb, lit<, lit≤}
 use lib.ListN.{length, getD}
 use borrow.Author.Tests.{eq-eqb, ne-eqb, le-leb}
 use Rattle.text.specs.Scan.{count, newline, comma}
-use Rattle.text.specs.Split.{push, split, lines, fields, joinLines, joinFields, joinRow, joinRows, rowsOf, wide}
+use Rattle.text.specs.Split.{push, split, lines, fields, joinLines, joinFields, joinRow, joinRows, rowsOf}
+use Rattle.text.specs.Row.{wide}
 use Rattle.text.specs.Number.{spelled, number, decimal, hexadecimal}
 use Rattle.text.proofs.Scanning.{count-append}
 use Rattle.text.proofs.Splitting.{lines-none}
@@ -28,7 +29,7 @@ decimal-number n h = rw (le-leb (length (decimal n)) 16 (digits-short 10 20 15 n
 pub hexadecimal-number : (n : ℕ) → n < 2 ^ 64 → number 16 (hexadecimal n) ≡ n
 hexadecimal-number n h = rw (le-leb (length (hexadecimal n)) 16 (digits-le 16 16 n)) (hexadecimal-back n h)
 
-pub hexadecimal-wide : (n : ℕ) → wide (hexadecimal n) ≡ true
+pub hexadecimal-wide : (n : ℕ) → wide (length (hexadecimal n)) ≡ true
 hexadecimal-wide n =
     rw (le-leb 1 (length (hexadecimal n)) (digits-some 16 16 n (lit< tt))) (le-leb (length (hexadecimal n)) 16 (digits-le 16 16 n))
 

@@ -1,9 +1,8 @@
--- A text cut into pieces at a byte, and pieces joined to a text.
-use mathlib.Core.Bool.{Bool, true, cond, _&&_}
+-- A text cut into pieces at a byte, and pieces joined to a text. Assumes nothing.
+use mathlib.Core.Bool.{cond}
 use mathlib.Core.List.{List, [], _∷_, _++_}
 use Prim.Native.Nat.{ℕ}
-use lib.Dec.{eqb, leb}
-use lib.ListN.{length}
+use lib.Dec.{eqb}
 use Rattle.text.specs.Scan.{newline, comma}
 
 -- b in front of the first piece
@@ -47,11 +46,3 @@ joinRows (r ∷ rs) = joinRow r ++ (newline ∷ joinRows rs)
 abbrev pub rowsOf : List (List ℕ) → List (List (List ℕ))
 rowsOf [] = []
 rowsOf (l ∷ ls) = fields l ∷ rowsOf ls
-
--- "has each field 1 to 16 digits" (01, question 33)
-abbrev pub wide : List ℕ → Bool
-wide f = leb 1 (length f) && leb (length f) 16
-
-unfoldable pub allWide : List (List ℕ) → Bool
-allWide [] = true
-allWide (f ∷ fs) = wide f && allWide fs

@@ -1,17 +1,17 @@
--- `scan::place` meets its contract. The bytes before place i are not c: what is left of the text has its first c at the same place.
+-- `scan::position` meets its contract. The bytes before position i are not c: what is left of the text has its first c at the same position.
 use mathlib.Core.Path.{_≡_}
 use Prim.Native.Nat.{_+_, _-_, _≤_}
 use native.Mathlib.Omega.{arith}
 use lib.ListN.{length, drop}
 use borrow.Author.Needs.{needs}
 use Rattle.text.proofs.Scanning.{first-on, first-off}
-use Rattle.text.specs.Scan.{is, place}
+use Rattle.text.specs.Scan.{is, position}
 use borrow.Author.Tests.{eq-eqb, ne-eqb}
-use Rattle.text.proofs.scan.place.Statement.{statement}
-use Rattle.text.proofs.scan.place.Tie as tie
+use Rattle.text.proofs.scan.position.Statement.{statement}
+use Rattle.text.proofs.scan.position.Tie as tie
 
 abbrev Inv-loop : tie.InvT-loop
-Inv-loop s c i₀ i = (i ≤ length s) × (i + place c (drop i s) ≡ place c s)
+Inv-loop s c i₀ i = (i ≤ length s) × (i + position c (drop i s) ≡ position c s)
 
 abbrev μ-loop : tie.MeasureT-loop
 μ-loop s c i₀ i = length s - i
@@ -42,8 +42,8 @@ returns-2 : tie.Need-returns-2 Inv-loop μ-loop
 returns-2 c = let a = c .before in
     (omega (arith, first-off (a .before .args .s .now) (a .loop .i) (is (a .before .args .c)) (c .loop-test .left)), search needs)
 
-pub place-spec : {M : Type 1} → statement M
-place-spec =
+pub position-spec : {M : Type 1} → statement M
+position-spec =
     tie.close
     (tie.spec
     Inv-loop
