@@ -1,13 +1,13 @@
 // The machine that a sheet starts from.
 ghost use mathlib.Core.Path.{_≡_};
-ghost use Rattle.report.specs.Start.{machineOf};
+ghost use Rattle.setup.specs.Start.{machineOf};
+use crate::Setup;
 use model::Fault;
 use model::HfiState;
 use model::Machine;
-use sheet::SetupFields;
 
 // In HFI mode, with the values of the setup line; all else is 0.
-pub fn machine_of(s: SetupFields) -> Machine
+pub fn machine_of(s: Setup) -> Machine
     ensures { λ r. ⌜ r ≡ machineOf s ⌝ }
 {
     let regions = s.regions;

@@ -1,10 +1,11 @@
 -- The machine that a sheet starts from (01, The run sheet).
+-- Setup is declared in src/lib.rt, Machine in model/src/lib.rt. Assumes nothing.
 use lib.ListN.{replicate}
 use Rattle.model.specs.declared.Machine.{Machine}
-use Rattle.sheet.specs.declared.SetupFields.{SetupFields}
+use Rattle.setup.specs.declared.Setup.{Setup}
 
 -- "mode starts at 1, all else at 0"
-abbrev pub machineOf : SetupFields → Machine
+abbrev pub machineOf : Setup → Machine
 machineOf s =
     record {
       x = replicate 32 0;

@@ -1,0 +1,103 @@
+-- `line::read_setup` meets its contract: its values and tests are those of the row.
+use mathlib.Core.Path.{_≡_, ap, sym, _∙_}
+use Prim.Native.Nat.{_≤_}
+use lib.ListN.{length}
+use lib.Seq.{length-take-le}
+use Rattle.text.specs.Row.{rowWith}
+use Rattle.setup.specs.Setup.{budgetField, setupLine, readSetup}
+use borrow.Author.Needs.{needs}
+use Rattle.setup.proofs.line.read_setup.Statement.{statement}
+use Rattle.setup.proofs.line.read_setup.Tie as tie
+
+slice-aggregate-read-row : tie.Need-slice-aggregate-read-row
+slice-aggregate-read-row c = search needs
+
+slice-aggregate-read-row-2 : tie.Need-slice-aggregate-read-row-2
+slice-aggregate-read-row-2 c = search needs
+
+read-row-requires : tie.Need-read-row-requires
+read-row-requires c κs = search needs
+
+slice-aggregate-regions-of : tie.Need-slice-aggregate-regions-of
+slice-aggregate-regions-of c = search needs
+
+regions-of-requires : tie.Need-regions-of-requires
+regions-of-requires c κs = search needs
+
+array-read-wide : tie.Need-array-read-wide
+array-read-wide c = search needs
+
+array-read-t20 : tie.Need-array-read-t20
+array-read-t20 c = search needs
+
+array-read-t23 : tie.Need-array-read-t23
+array-read-t23 c = search needs
+
+array-read-budget-of : tie.Need-array-read-budget-of
+array-read-budget-of c = search needs
+
+array-read-budget-of-2 : tie.Need-array-read-budget-of-2
+array-read-budget-of-2 c = search needs
+
+budget-of-requires : tie.Need-budget-of-requires
+budget-of-requires c κs = search needs
+
+array-share-prefix-widths : tie.Need-array-share-prefix-widths
+array-share-prefix-widths c = search needs
+
+slice-aggregate-all-wide : tie.Need-slice-aggregate-all-wide
+slice-aggregate-all-wide c =
+    let ws = c .before .before .before .before .before .before .read-row .last .1 .1 .0 in
+    let long : budgetField ≤ length ws = search needs in
+    sym (length-take-le budgetField ws long)
+
+all-wide-requires : tie.Need-all-wide-requires
+all-wide-requires c κs = search needs
+
+array-read-wide-2 : tie.Need-array-read-wide-2
+array-read-wide-2 c = search needs
+
+in-range-requires : tie.Need-in-range-requires
+in-range-requires c κs = search needs
+
+ask-requires : tie.Need-ask-requires
+ask-requires c κs = search needs
+
+ask-requires-2 : tie.Need-ask-requires-2
+ask-requires-2 c κs = search needs
+
+ask-requires-3 : tie.Need-ask-requires-3
+ask-requires-3 c κs = search needs
+
+returns : tie.Need-returns
+unfolding readSetup
+returns c =
+    let r = c .before .before .before .before .before .before .before .before .before .before .before .read-row in
+    let row = rowWith (r .result) (r .last .1 .0) (r .last .1 .1 .0) in
+    let same : setupLine row ≡ readSetup (c .before .before .before .before .before .before .before .before .before .before .before .before .before .before .before .args .line .now) = ap setupLine (r .ensures) in
+    cc
+
+pub read-setup-spec : {M : Type 1} → statement M
+read-setup-spec =
+    tie.close
+    (tie.spec
+    slice-aggregate-read-row
+    slice-aggregate-read-row-2
+    read-row-requires
+    slice-aggregate-regions-of
+    regions-of-requires
+    array-read-wide
+    array-read-t20
+    array-read-t23
+    array-read-budget-of
+    array-read-budget-of-2
+    budget-of-requires
+    array-share-prefix-widths
+    slice-aggregate-all-wide
+    all-wide-requires
+    array-read-wide-2
+    in-range-requires
+    ask-requires
+    ask-requires-2
+    ask-requires-3
+    returns)
