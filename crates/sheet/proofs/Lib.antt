@@ -1,3 +1,4 @@
+pub mod Files
 pub mod Laws
 pub mod Refusals
 pub mod Cases

@@ -1,4 +1,4 @@
-pub mod Questions
-pub mod Setup
-pub mod Read
+pub mod File
+pub mod Words
+pub mod Sheet
 pub mod Print

@@ -1,4 +1,4 @@
--- What is printed of a sheet that is refused.
+-- What is printed of a sheet that is refused. Assumes nothing.
 use mathlib.Core.List.{List, [], _∷_, _++_}
 use Prim.Native.Nat.{ℕ}
 use Rattle.text.specs.Ascii.{ascii}
@@ -10,5 +10,5 @@ abbrev pub sheetWord : List ℕ
 sheetWord = ascii "sheet"
 
 -- "sheet, number, line number in decimal", for example `sheet,33,2`; "every printed line ends in 0a"
-abbrev pub refusal : ℕ → ℕ → List ℕ
-refusal n l = (sheetWord ++ (comma ∷ [])) ++ decimal n ++ (comma ∷ []) ++ decimal l ++ (newline ∷ [])
+abbrev pub refusalText : ℕ → ℕ → List ℕ
+refusalText question lineno = (sheetWord ++ (comma ∷ [])) ++ decimal question ++ (comma ∷ []) ++ decimal lineno ++ (newline ∷ [])

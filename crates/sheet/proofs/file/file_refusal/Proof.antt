@@ -1,8 +1,8 @@
--- `judge::judge_file` meets its contract: its tests are those of the questions.
+-- `file::file_refusal` meets its contract: its tests are those of the questions.
 use borrow.Author.Needs.{needs}
-use Rattle.sheet.specs.Questions.{fileNo}
-use Rattle.sheet.proofs.judge.judge_file.Statement.{statement}
-use Rattle.sheet.proofs.judge.judge_file.Tie as tie
+use Rattle.sheet.specs.File.{fileNo}
+use Rattle.sheet.proofs.file.file_refusal.Statement.{statement}
+use Rattle.sheet.proofs.file.file_refusal.Tie as tie
 
 first-foreign-requires : tie.Need-first-foreign-requires
 first-foreign-requires c κs = search needs
@@ -22,8 +22,8 @@ front-requires c κs = search needs
 count-requires : tie.Need-count-requires
 count-requires c κs = search needs
 
-add-line : tie.Need-add-line
-add-line c = search needs
+add-lineno : tie.Need-add-lineno
+add-lineno c = search needs
 
 ask-requires-3 : tie.Need-ask-requires-3
 ask-requires-3 c κs = search needs
@@ -32,8 +32,8 @@ returns : tie.Need-returns
 unfolding fileNo
 returns c = cc
 
-pub judge-file-spec : {M : Type 1} → statement M
-judge-file-spec =
+pub file-refusal-spec : {M : Type 1} → statement M
+file-refusal-spec =
     tie.close
     (tie.spec
     first-foreign-requires
@@ -42,6 +42,6 @@ judge-file-spec =
     ask-requires-2
     front-requires
     count-requires
-    add-line
+    add-lineno
     ask-requires-3
     returns)

@@ -1,8 +1,8 @@
--- `print::refuse` meets its contract: one text after another.
+-- `print::put_refusal` meets its contract: one text after another.
 use borrow.Author.Needs.{needs}
 use Rattle.text.proofs.Writing.{wrote-then}
-use Rattle.sheet.proofs.print.refuse.Statement.{statement}
-use Rattle.sheet.proofs.print.refuse.Tie as tie
+use Rattle.sheet.proofs.print.put_refusal.Statement.{statement}
+use Rattle.sheet.proofs.print.put_refusal.Tie as tie
 
 slice-aggregate-put-text : tie.Need-slice-aggregate-put-text
 slice-aggregate-put-text c = search needs
@@ -35,8 +35,8 @@ returns c =
     let first = wrote-then (wrote-then (word .put-text .ensures) (number .put-decimal .ensures .0)) (comma .put-byte .ensures) in
     (wrote-then (wrote-then first (line .put-decimal2 .ensures .0)) (end .put-byte2 .ensures), search needs)
 
-pub refuse-spec : {M : Type 1} → statement M
-refuse-spec =
+pub put-refusal-spec : {M : Type 1} → statement M
+put-refusal-spec =
     tie.close
     (tie.spec
     slice-aggregate-put-text
