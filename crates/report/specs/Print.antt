@@ -1,4 +1,5 @@
 -- What is printed of a run: rows of fields, each row on a line of its own (01, The run sheet).
+-- Fault and Ran are declared in model/src/lib.rt. Assumes nothing.
 use mathlib.Core.Bool.{cond}
 use mathlib.Core.List.{List, [], _∷_, _++_}
 use Prim.Native.Nat.{ℕ, _+_}

@@ -1,3 +1,2 @@
-// Between a sheet and a run: the machine that a sheet starts from, and what is printed of the run's answer.
+// What is printed of a sheet: the definition of the whole program, and the lines of a run's result.
 pub mod print;
-pub mod start;

@@ -1,4 +1,4 @@
-// What is printed of a run. Each function answers the place after what it wrote.
+// What is printed of a run. Each function answers the position after what it wrote.
 ghost use mathlib.Core.List.{[], _∷_};
 ghost use Prim.Native.Nat.{_+_, _≤_};
 ghost use lib.ListN.{length};
@@ -19,8 +19,8 @@ fn put_field(buffer: &mut [u8], at: usize, n: u64) -> usize
     ensures { λ r. ⌜ Wrote (now (buffer .entry)) at (comma ∷ hexadecimal n) (now (buffer .exit)) r ⌝ }
     ensures { λ r. ⌜ r ≤ at + 17 ⌝ }
 {
-    let next = put_byte(buffer, at, b',');
-    put_hexadecimal(buffer, next, n)
+    let end = put_byte(buffer, at, b',');
+    put_hexadecimal(buffer, end, n)
 }
 
 // The four fields of the fault record.
@@ -36,7 +36,7 @@ fn put_fault(buffer: &mut [u8], at: usize, f: Fault) -> usize
 }
 
 // The first line, from the buffer's start on: 20 bytes for the number, 17 for each of 8 fields, and the line's end.
-fn put_result(buffer: &mut [u8], r: Ran) -> usize
+fn put_result_row(buffer: &mut [u8], r: Ran) -> usize
     requires { ⌜ 157 ≤ length (now buffer) ⌝ }
     ensures { λ n. ⌜ Wrote (now (buffer .entry)) 0 (joinRows (resultRow r ∷ [])) (now (buffer .exit)) n ⌝ }
     ensures { λ n. ⌜ n ≤ 157 ⌝ }
@@ -82,14 +82,14 @@ fn put_registers(buffer: &mut [u8], start: usize, x: [u64; 32]) -> usize
     at
 }
 
-// A run's answer: the first line and the registers' lines. 157 + 32 * 38 bytes are enough for every answer.
-pub fn put_answer(buffer: &mut [u8], r: Ran) -> usize
+// A run's result: the first line and the registers' lines. 157 + 32 * 38 bytes are enough for every one.
+pub fn put_result(buffer: &mut [u8], r: Ran) -> usize
     requires { ⌜ 1373 ≤ length (now buffer) ⌝ }
     ensures { λ n. ⌜ Wrote (now (buffer .entry)) 0 (resultText r) (now (buffer .exit)) n ⌝ }
     ensures { λ n. ⌜ n ≤ 1373 ⌝ }
 {
     let m = r.machine;
     let x = m.x;
-    let at = put_result(buffer, r);
+    let at = put_result_row(buffer, r);
     put_registers(buffer, at, x)
 }

@@ -5,7 +5,7 @@ use native.Mathlib.Omega.{arith}
 use lib.ListN.{length, drop}
 use borrow.Author.Needs.{needs}
 use Rattle.text.specs.Split.{joinRows}
-use Rattle.report.proofs.Laws.{registers-on, registers-off, Left, left-all, left-on, left-none}
+use Rattle.report.proofs.Laws.{registers-on, registers-off, Remaining, remaining-all, remaining-on, remaining-none}
 use Rattle.report.specs.Print.{registerRows}
 use Rattle.report.proofs.print.put_registers.Statement.{statement}
 use Rattle.report.proofs.print.put_registers.Tie as tie
@@ -13,13 +13,13 @@ use Rattle.report.proofs.print.put_registers.Tie as tie
 abbrev Inv-loop : tie.InvT-loop
 Inv-loop buffer₀ start x at₀ i₀ buffer at i =
     (i ≤ 32) × (at ≤ start + 38 * i) × (length buffer ≡ length buffer₀)
-    × Left buffer₀ start (joinRows (registerRows 0 x)) buffer at (joinRows (registerRows i (drop i x)))
+    × Remaining buffer₀ start (joinRows (registerRows 0 x)) buffer at (joinRows (registerRows i (drop i x)))
 
 abbrev μ-loop : tie.MeasureT-loop
 μ-loop buffer₀ start x at₀ i₀ buffer at i = 32 - i
 
 loop-holds : tie.Need-loop-holds Inv-loop μ-loop
-loop-holds c = (search needs, search needs, search needs, left-all)
+loop-holds c = (search needs, search needs, search needs, remaining-all)
 
 mul-put-register : tie.Need-mul-put-register Inv-loop μ-loop
 mul-put-register c = search needs
@@ -43,7 +43,7 @@ loop-again c =
     let x = turn .before .before .before .args .t3 in
     let long : length x ≡ 32 = search needs in
     let k : l .i < length x = omega (arith, turn .loop-test .taken) in
-    let on = left-on (l .inv .3) (registers-on (l .i) x k) (c .before .before .put-register .ensures .0) in
+    let on = remaining-on (l .inv .3) (registers-on (l .i) x k) (c .before .before .put-register .ensures .0) in
     (search needs, search needs, search needs, on)
 
 same-length : tie.Need-same-length Inv-loop μ-loop
@@ -54,7 +54,7 @@ returns c =
     let l = c .before .loop in
     let x = c .before .before .before .args .t3 in
     let long : length x ≡ 32 = search needs in
-    (left-none (l .inv .3) (registers-off (l .i) x (omega (arith, c .loop-test .left))), search needs)
+    (remaining-none (l .inv .3) (registers-off (l .i) x (omega (arith, c .loop-test .left))), search needs)
 
 pub put-registers-spec : {M : Type 1} → statement M
 put-registers-spec =

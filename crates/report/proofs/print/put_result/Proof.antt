@@ -1,56 +1,30 @@
--- `print::put_result` meets its contract: one field after another, then the line's end.
+-- `print::put_result` meets its contract: the result's row, then the registers' rows.
+use mathlib.Core.Path.{sym}
+use mathlib.Core.List.{[], _∷_}
 use borrow.Author.Needs.{needs}
-use Rattle.text.proofs.Writing.{wrote-then}
+use Rattle.text.proofs.Writing.{wrote-then, wrote-as}
+use Rattle.report.proofs.Laws.{rows-append}
+use Rattle.report.specs.Print.{resultRow, registerRows}
 use Rattle.report.proofs.print.put_result.Statement.{statement}
 use Rattle.report.proofs.print.put_result.Tie as tie
 
-put-decimal-requires : tie.Need-put-decimal-requires
-put-decimal-requires c κs = search needs
+put-result-row-requires : tie.Need-put-result-row-requires
+put-result-row-requires c κs = search needs
 
-put-field-requires : tie.Need-put-field-requires
-put-field-requires c κs = search needs
-
-put-field-requires-2 : tie.Need-put-field-requires-2
-put-field-requires-2 c κs = search needs
-
-put-field-requires-3 : tie.Need-put-field-requires-3
-put-field-requires-3 c κs = search needs
-
-put-field-requires-4 : tie.Need-put-field-requires-4
-put-field-requires-4 c κs = search needs
-
-put-fault-requires : tie.Need-put-fault-requires
-put-fault-requires c κs = search needs
-
-put-byte-requires : tie.Need-put-byte-requires
-put-byte-requires c κs = search needs
+put-registers-requires : tie.Need-put-registers-requires
+put-registers-requires c κs = search needs
 
 same-length : tie.Need-same-length
 same-length c = search needs
 
 returns : tie.Need-returns
 returns c =
-    let e = c .before .before in
-    let f = e .before .before .before .before in
-    let x = f .before .before .before .before in
-    let r = x .before .before .before .before in
-    let p = r .before .before .before .before in
-    let s = p .before .before .before .before in
-    let n = s .before .before .before .before in
-    let fields = wrote-then (r .put-field3 .ensures .0) (wrote-then (x .put-field4 .ensures .0) (f .put-fault .ensures .0)) in
-    let line = wrote-then (n .put-decimal .ensures .0) (wrote-then (s .put-field .ensures .0) (wrote-then (p .put-field2 .ensures .0) fields)) in
-    (wrote-then line (e .put-byte .ensures), search needs)
+    let rest = c .before .before in
+    let first = rest .before .before .before .before in
+    let r = first .before .before .before .before .before .args .r in
+    let rows = sym (rows-append (resultRow r ∷ []) (registerRows 0 (r .machine .x))) in
+    (wrote-as rows (wrote-then (first .put-result-row .ensures .0) (rest .put-registers .ensures .0)), search needs)
 
 pub put-result-spec : {M : Type 1} → statement M
 put-result-spec =
-    tie.close
-    (tie.spec
-    put-decimal-requires
-    put-field-requires
-    put-field-requires-2
-    put-field-requires-3
-    put-field-requires-4
-    put-fault-requires
-    put-byte-requires
-    same-length
-    returns)
+    tie.close (tie.spec put-result-row-requires put-registers-requires same-length returns)
