@@ -3,7 +3,7 @@
 ghost use mathlib.Core.Path.{_≡_};
 ghost use lib.ListN.{take, drop};
 ghost use Rattle.io.specs.Counts.{Counts};
-ghost use Rattle.text.specs.Scan.{position as Scan·position};
+ghost use Rattle.text.specs.Scan.{firstThat, is};
 ghost use Rattle.text.specs.Number.{number as Number·number};
 use input::Input;
 use libc::STDOUT_FILENO;
@@ -28,7 +28,7 @@ pub fn hexadecimal_at(s: &[u8], at: usize, n: usize) -> u64
 
 // What stands before the first space.
 pub fn unpadded(s: &[u8]) -> &[u8]
-    ensures { λ r. ⌜ now r ≡ take (Scan·position 32 (now (s .entry))) (now (s .entry)) ⌝ }
+    ensures { λ r. ⌜ now r ≡ take (firstThat (is 32) (now (s .entry))) (now (s .entry)) ⌝ }
 {
     front(s, position(s, b' '))
 }

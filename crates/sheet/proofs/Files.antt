@@ -22,4 +22,3 @@ file-whole s e =
       leb-true (length s) 65536 (left-half few ended most),
       eqb-true (getD s (length s - 1) 0) newline (right-half few ended most),
     )
-

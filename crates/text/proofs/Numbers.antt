@@ -157,21 +157,6 @@ spelled-digits base k n p q =
     ∙ div-add-mod' n base)
     k n
 
--- ---- no digit too many: j + 1 digits for a number below base ^ (j + 1)
-short-more : (base n j b : ℕ) (s : List ℕ) → 0 < base → base ≤ n → ((i : ℕ) → n / base < base ^ suc i → length s ≤ suc i)
-    → n < base ^ suc j → length (s ++ (b ∷ [])) ≤ suc j
-short-more base n zero b s z l r h = let g : n < base = rw (pow-succ', pow-zero, mul-one) at h in let y : ⊥ = omega arith in absurd y
-short-more base n (suc j) b s z l r h = rw length-append (omega (arith, r j (fewer base (suc j) n z h)))
-
-pub digits-short : (base k j n : ℕ) → 1 < base → n < base ^ suc j → length (digits base k n) ≤ suc j
-digits-short base k j n p h =
-    let z : 0 < base = omega arith in
-    digits-ind base (λ k n s. (j : ℕ) → n < base ^ suc j → length s ≤ suc j)
-    (λ n j h. omega arith)
-    (λ k n l j h. omega arith)
-    (λ k n s l r j h. short-more base n j (digitByte (n % base)) s z l r h)
-    k n j h
-
 -- no leading zero: a number that is not 0 has a first digit, and that is not 0
 byte-zero : (t : Bool) (d : ℕ) → 0 < d → cond t (48 + d) (87 + d) ≡ 48 → ⊥
 byte-zero true d h e = omega arith

@@ -7,9 +7,8 @@ use native.Mathlib.Numerals.{add-one}
 use native.Mathlib.Omega.{arith}
 use lib.ListN.{length, getD, drop, set, drop-of-length-le}
 use lib.Seq.{drop-cons, sets}
-use Rattle.text.specs.Split.{fields}
 use Rattle.text.specs.Number.{number}
-use Rattle.text.specs.Row.{Row, rowWith, rowOver, wide, allWide}
+use Rattle.text.specs.Split.{fields, Row, rowWith, rowOver, wide, allWide}
 use Rattle.text.proofs.Splitting.{field-more, field-last}
 
 -- the row of a line of which n fields are read and the fields fs remain

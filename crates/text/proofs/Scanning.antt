@@ -8,7 +8,11 @@ use native.Mathlib.Omega.{arith}
 use lib.Dec.{lit≤}
 use lib.ListN.{length, getD, drop, take, length-drop, drop-of-length-le}
 use lib.Seq.{drop-cons, take-all}
-use Rattle.text.specs.Scan.{firstThat, is, position, count}
+use Rattle.text.specs.Scan.{firstThat, is, count}
+
+-- the position of the first c; the length where there is none
+abbrev pub position : ℕ → List ℕ → ℕ
+position c s = firstThat (is c) s
 
 module _ (s : List ℕ) (i : ℕ) where
   pub first-on : (test : ℕ → Bool) → i < length s

@@ -8,9 +8,9 @@ use lib.Dec.{eqb, leb}
 use lib.ListN.{length, getD, drop, take, length-drop, drop-of-length-le}
 use lib.Seq.{take-all, take-add, drop-drop, getD-drop, length-take-le}
 use borrow.Author.Tests.{eq-eqb, leb-true, leb-false}
-use Rattle.text.specs.Scan.{firstThat, is, position, count, newline, comma, lineNumber}
+use Rattle.text.specs.Scan.{firstThat, is, count, newline, comma, lineNumber}
 use Rattle.text.specs.Split.{push, split, lines, fields}
-use Rattle.text.proofs.Scanning.{first-le, first-before, count-append, count-first}
+use Rattle.text.proofs.Scanning.{position, first-le, first-before, count-append, count-first}
 
 -- ---- one piece of a list: the first w bytes, and the pieces from w + 1 on
 abbrev pub Piece : ℕ → List (List ℕ) → List ℕ → ℕ → Type 0

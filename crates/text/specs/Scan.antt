@@ -21,10 +21,6 @@ firstThat test (b ∷ bs) = cond (test b) 0 (suc (firstThat test bs))
 abbrev pub is : ℕ → ℕ → Bool
 is c b = eqb b c
 
--- the position of the first c; the length where there is none
-abbrev pub position : ℕ → List ℕ → ℕ
-position c s = firstThat (is c) s
-
 -- how many c there are: one for each
 unfoldable pub count : ℕ → List ℕ → ℕ
 count c [] = 0

@@ -1,4 +1,5 @@
--- What writing leaves in a buffer. Assumes nothing.
+-- What writing leaves in a buffer. No promise rests on this file: `Answered` (respond) says what the whole text leaves.
+-- Assumes nothing.
 use mathlib.Core.Path.{_≡_}
 use mathlib.Core.List.{List}
 use Prim.Native.Nat.{ℕ, _+_}

@@ -1,7 +1,7 @@
 // The fields of a line as numbers, each field read once.
 ghost use mathlib.Core.Path.{_≡_};
 ghost use lib.ListN.{set};
-ghost use Rattle.text.specs.Row.{rowWith, rowOver, allWide};
+ghost use Rattle.text.specs.Split.{rowWith, rowOver, allWide};
 use crate::field::field_at;
 use crate::number::number;
 

@@ -2,11 +2,11 @@
 ghost use mathlib.Core.Path.{_≡_};
 ghost use Prim.Native.Nat.{_-_, _≤_};
 ghost use lib.ListN.{length, getD, take, drop};
-ghost use Rattle.text.specs.Scan.{position as Scan·position, count as Scan·count};
+ghost use Rattle.text.specs.Scan.{firstThat, is, count as Scan·count};
 
 // The position of the first c, or the length.
 pub fn position(s: &[u8], c: u8) -> usize
-    ensures { λ r. ⌜ (r ≡ Scan·position c (now (s .entry))) × (r ≤ length (now (s .entry))) ⌝ }
+    ensures { λ r. ⌜ (r ≡ firstThat (is c) (now (s .entry))) × (r ≤ length (now (s .entry))) ⌝ }
 {
     let mut i = 0;
     while i < s.len() {

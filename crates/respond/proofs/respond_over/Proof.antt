@@ -16,7 +16,7 @@ same-length : tie.Need-same-length
 same-length c = search needs
 
 returns : tie.Need-returns
-returns c = 
+returns c =
     let sheet = c .before .before .before .before .before .before .before .read-sheet in
     let entry = c .before .before .before .before .before .before .before .before .before .before .before in
     let a = entry .args in
@@ -37,7 +37,7 @@ same-length-2 : tie.Need-same-length-2
 same-length-2 c = search needs
 
 returns-2 : tie.Need-returns-2
-returns-2 c = 
+returns-2 c =
     let ran = c .before .before .before .before .run-call in
     let m = c .before .before .before .before .before .before .machine-of in
     let yes = c .before .before .before .before .before .before .before .before .if1 .left in

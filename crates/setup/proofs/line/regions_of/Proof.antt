@@ -41,15 +41,17 @@ loop-less : tie.Need-loop-less Inv-loop μ-loop
 loop-less c = search needs
 
 loop-again : tie.Need-loop-again Inv-loop μ-loop
-loop-again c = 
+loop-again c =
     let l = c .before .before .loop in
-    let vs = c .before .before .before .before .args .values .now in
-    (search needs, search needs,
-    ap (λ r. sets (set (l .regions) (l .i) r) (l .i + 1) (regionsFrom vs (fieldOf (l .i + 1)) (lastRegion - (l .i + 1)))) (c .region-from .ensures)
-    ∙ sym (regions-on (l .regions) vs lastRegion (l .i) (c .before .loop-test .taken)) ∙ l .inv .2)
+    let vs = c .before .before .before .before .args .values .now in (
+      search needs,
+      search needs,
+      ap (λ r. sets (set (l .regions) (l .i) r) (l .i + 1) (regionsFrom vs (fieldOf (l .i + 1)) (lastRegion - (l .i + 1)))) (c .region-from .ensures)
+          ∙ sym (regions-on (l .regions) vs lastRegion (l .i) (c .before .loop-test .taken)) ∙ l .inv .2,
+    )
 
 returns : tie.Need-returns Inv-loop μ-loop
-returns c = 
+returns c =
     let l = c .before .loop in
     sym (regions-off (l .regions) (c .before .before .before .args .values .now) lastRegion (l .i) (c .loop-test .left)) ∙ l .inv .2
 

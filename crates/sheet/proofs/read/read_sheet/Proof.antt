@@ -19,7 +19,7 @@ file-refusal-requires : tie.Need-file-refusal-requires
 file-refusal-requires c κs = search needs
 
 returns : tie.Need-returns
-returns c = 
+returns c =
     let a = c .before .before .before .before .before .before .before .before .args in
     let s = a .s .now in
     let line = c .before .before .before .before .before .line-at in
@@ -29,7 +29,7 @@ returns c =
     ((refused, ap (λ r. r .setup) (first .ensures ∙ ap readSetup (line .ensures))), λ z. absurd (c .if1 .taken z))
 
 returns-2 : tie.Need-returns-2
-returns-2 c = 
+returns-2 c =
     let a = c .before .before .before .before .before .before .before .before .before .args in
     let s = a .s .now in
     let line = c .before .before .before .before .before .before .line-at in
@@ -44,7 +44,7 @@ add-read-words : tie.Need-add-read-words
 add-read-words c = search needs
 
 read-words-requires : tie.Need-read-words-requires
-read-words-requires c κs = 
+read-words-requires c κs =
     let a = c .before .before .before .before .before .before .before .before .before .before .args in
     let s = a .s .now in
     let line = c .before .before .before .before .before .before .before .line-at in
@@ -59,7 +59,7 @@ same-length : tie.Need-same-length
 same-length c = search needs
 
 returns-3 : tie.Need-returns-3
-returns-3 c = 
+returns-3 c =
     let a = c .before .before .before .before .before .before .before .before .before .before .before .before .before .args in
     let s = a .s .now in
     let line = c .before .before .before .before .before .before .before .before .before .before .line-at in

@@ -41,7 +41,7 @@ ask-requires-4 c κs = search needs
 
 returns : tie.Need-returns
 unfolding readWord
-returns c = 
+returns c =
     let r = c .before .before .before .before .before .before .before .before .read-row in
     let a = c .before .before .before .before .before .before .before .before .before .before .before .before .args in
     let row = rowWith (r .result) (r .last .1 .0) (r .last .1 .1 .0) in

@@ -33,7 +33,7 @@ same-length : tie.Need-same-length Inv-loop μ-loop
 same-length c = search needs
 
 returns : tie.Need-returns Inv-loop μ-loop
-returns c = 
+returns c =
     let l = c .before .before .before .before .before .loop in
     let s = c .before .before .before .before .before .before .before .before .args .s .now in
     let line = c .before .before .before .line-at in
@@ -42,7 +42,7 @@ returns c =
     (stop ∙ l .inv .3, λ z. absurd (c .if1 .taken z))
 
 write-requires : tie.Need-write-requires Inv-loop μ-loop
-write-requires c κs = 
+write-requires c κs =
     let l = c .before .before .before .before .before .before .loop in
     let s = c .before .before .before .before .before .before .before .before .before .args .s .now in
     let line = c .before .before .before .before .line-at in
@@ -52,7 +52,7 @@ write-requires c κs =
     (search needs, omega (arith, low, ap (λ r. r .address) (w .ensures), l .inv .0))
 
 add-least : tie.Need-add-least Inv-loop μ-loop
-add-least c = 
+add-least c =
     let l = c .before .before .before .before .before .before .before .before .before .before .loop in
     let s = c .before .before .before .before .before .before .before .before .before .before .before .before .before .args .s .now in
     let line = c .before .before .before .before .before .before .before .before .line-at in
@@ -61,7 +61,7 @@ add-least c =
     omega (arith, word-fits (l .least) (line .result .now) passed, ap (λ r. r .address) (w .ensures))
 
 add-lineno : tie.Need-add-lineno Inv-loop μ-loop
-add-lineno c = 
+add-lineno c =
     let l = c .before .before .before .before .before .before .before .before .before .before .loop in
     let s = c .before .before .before .before .before .before .before .before .before .before .before .before .before .args .s .now in
     omega (arith, l .inv .2, count-le newline (take (l .at) s), length-take (l .at) s)
@@ -76,7 +76,7 @@ loop-less : tie.Need-loop-less Inv-loop μ-loop
 loop-less c = search needs
 
 loop-again : tie.Need-loop-again Inv-loop μ-loop
-loop-again c = 
+loop-again c =
     let l = c .before .before .before .before .before .before .before .before .before .before .loop in
     let s = c .before .before .before .before .before .before .before .before .before .before .before .before .before .args .s .now in
     let line = c .before .before .before .before .before .before .before .before .line-at in
@@ -96,7 +96,7 @@ same-length-2 : tie.Need-same-length-2 Inv-loop μ-loop
 same-length-2 c = search needs
 
 returns-2 : tie.Need-returns-2 Inv-loop μ-loop
-returns-2 c = 
+returns-2 c =
     let l = c .before .loop in
     let s = c .before .before .before .before .args .s .now in
     let past = c .loop-test .left in

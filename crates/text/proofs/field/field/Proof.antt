@@ -29,7 +29,7 @@ front-requires : tie.Need-front-requires Inv-loop μ-loop
 front-requires c κs = search needs
 
 returns : tie.Need-returns Inv-loop μ-loop
-returns c = 
+returns c =
     let l = c .before .before .before .before .loop in
     let line = c .before .before .before .before .before .before .args .line .now in
     let f = c .before .before .field-at in
@@ -49,7 +49,7 @@ loop-less : tie.Need-loop-less Inv-loop μ-loop
 loop-less c = search needs
 
 loop-again : tie.Need-loop-again Inv-loop μ-loop
-loop-again c = 
+loop-again c =
     let l = c .before .before .before .loop in
     let line = c .before .before .before .before .before .args .line .now in
     let f = c .before .field-at in
@@ -60,7 +60,7 @@ field-at-requires-2 : tie.Need-field-at-requires-2 Inv-loop μ-loop
 field-at-requires-2 c κs = search needs
 
 returns-2 : tie.Need-returns-2 Inv-loop μ-loop
-returns-2 c = 
+returns-2 c =
     let l = c .before .before .loop in
     let z : 0 ≡ l .remaining = omega (arith, c .before .loop-test .left) in
     c .field-at2 .ensures ∙ ap (λ n. getD (fields (drop (l .at) (c .before .before .before .before .args .line .now))) n []) z ∙ l .inv .1

@@ -3,8 +3,9 @@ use mathlib.Core.Path.{refl, ap, sym, _∙_}
 use mathlib.Core.List.{[], _∷_}
 use lib.ListN.{drop, take}
 use borrow.Author.Needs.{needs}
+use Rattle.text.proofs.Scanning.{position}
 use Rattle.text.proofs.Splitting.{split-first}
-use Rattle.text.specs.Scan.{position, comma}
+use Rattle.text.specs.Scan.{comma}
 use Rattle.text.proofs.field.field_at.Statement.{statement}
 use Rattle.text.proofs.field.field_at.Tie as tie
 

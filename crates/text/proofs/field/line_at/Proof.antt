@@ -3,8 +3,9 @@ use mathlib.Core.Path.{refl, ap, sym, _∙_}
 use mathlib.Core.List.{[]}
 use lib.ListN.{drop, take}
 use borrow.Author.Needs.{needs}
+use Rattle.text.proofs.Scanning.{position}
 use Rattle.text.proofs.Splitting.{split-first}
-use Rattle.text.specs.Scan.{position, newline}
+use Rattle.text.specs.Scan.{newline}
 use Rattle.text.proofs.field.line_at.Statement.{statement}
 use Rattle.text.proofs.field.line_at.Tie as tie
 

@@ -4,7 +4,7 @@ use mathlib.Core.Bool.{true, false}
 use Prim.Native.Nat.{_-_, _≤_}
 use lib.ListN.{length, getD, drop}
 use borrow.Author.Tests.{not-true, not-false}
-use Rattle.text.specs.Row.{wide, allWide}
+use Rattle.text.specs.Split.{wide, allWide}
 use Rattle.text.proofs.Rows.{wide-on, wide-off}
 use borrow.Author.Needs.{needs}
 use Rattle.text.proofs.row.all_wide.Statement.{statement}
@@ -32,7 +32,7 @@ shared-slice-read-if1-2 : tie.Need-shared-slice-read-if1-2 Inv-loop μ-loop
 shared-slice-read-if1-2 c = search needs
 
 returns : tie.Need-returns Inv-loop μ-loop
-returns c = 
+returns c =
     let l = c .before .before .before .before .loop in
     let ws = c .before .before .before .before .before .args .widths .now in
     let on = wide-on ws (l .i) (c .before .before .before .loop-test .taken) in
@@ -46,7 +46,7 @@ loop-less : tie.Need-loop-less Inv-loop μ-loop
 loop-less c = search needs
 
 loop-again : tie.Need-loop-again Inv-loop μ-loop
-loop-again c = 
+loop-again c =
     let l = c .before .before .before .before .loop in
     let ws = c .before .before .before .before .before .args .widths .now in
     let on = wide-on ws (l .i) (c .before .before .before .loop-test .taken) in

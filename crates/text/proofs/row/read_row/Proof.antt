@@ -3,8 +3,7 @@ use mathlib.Core.Path.{_≡_, refl, ap, sym, _∙_}
 use Prim.Native.Nat.{_+_, _-_, _<_, _≤_}
 use native.Mathlib.Omega.{arith}
 use lib.ListN.{length, drop}
-use Rattle.text.specs.Split.{fields}
-use Rattle.text.specs.Row.{rowOver}
+use Rattle.text.specs.Split.{fields, rowOver}
 use Rattle.text.proofs.Splitting.{field-fits}
 use Rattle.text.proofs.Rows.{rowFrom, row-all, row-more, row-last}
 use borrow.Author.Needs.{needs}
@@ -36,7 +35,7 @@ add-count : tie.Need-add-count Inv-loop μ-loop
 add-count c = search needs
 
 add-at : tie.Need-add-at Inv-loop μ-loop
-add-at c = 
+add-at c =
     let l = c .before .before .before .before .before .before .before .before .before .before .loop in
     let f = c .before .before .before .before .before .before .before .before .before .field-at in
     omega (arith, field-fits (c .before .before .before .before .before .before .before .before .before .before .before .before .before .before .args .line .now) (f .result .now) (l .at) (f .ensures) (l .inv .0))
@@ -52,7 +51,7 @@ loop-less c =
     omega (arith, field-fits line (f .result .now) (l .at) (f .ensures) (l .inv .0), c .if1 .left)
 
 loop-again : tie.Need-loop-again Inv-loop μ-loop
-loop-again c = 
+loop-again c =
     let l = c .before .before .before .before .before .before .before .before .before .before .before .loop in
     let line = c .before .before .before .before .before .before .before .before .before .before .before .before .before .before .before .args .line .now in
     let f = c .before .before .before .before .before .before .before .before .before .before .field-at in
@@ -68,7 +67,7 @@ same-length-2 : tie.Need-same-length-2 Inv-loop μ-loop
 same-length-2 c = search needs
 
 returns : tie.Need-returns Inv-loop μ-loop
-returns c = 
+returns c =
     let l = c .before .before .before .before .before .before .before .before .before .before .before .loop in
     let f = c .before .before .before .before .before .before .before .before .before .before .field-at in
     let v = c .before .before .before .before .before .before .before .before .number in

@@ -4,8 +4,8 @@ use Prim.Native.Nat.{_+_, _-_, _≤_}
 use native.Mathlib.Omega.{arith}
 use lib.ListN.{length, drop}
 use borrow.Author.Needs.{needs}
-use Rattle.text.proofs.Scanning.{first-on, first-off}
-use Rattle.text.specs.Scan.{is, position}
+use Rattle.text.proofs.Scanning.{position, first-on, first-off}
+use Rattle.text.specs.Scan.{is}
 use borrow.Author.Tests.{eq-eqb, ne-eqb}
 use Rattle.text.proofs.scan.position.Statement.{statement}
 use Rattle.text.proofs.scan.position.Tie as tie
