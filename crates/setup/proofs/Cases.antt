@@ -5,11 +5,11 @@ use mathlib.Core.List.{List, [], _∷_, _++_}
 use Prim.Native.Nat.{ℕ}
 use lib.Dec.{eqb}
 use Rattle.text.specs.Ascii.{ascii}
-use Rattle.text.specs.Split.{split}
+use Rattle.text.specs.Split.{split, rowOf}
 use Rattle.text.specs.Number.{spelled}
-use Rattle.setup.specs.Setup.{readSetup}
+use Rattle.setup.specs.Setup.{setupFields, readSetup}
 
-pub example-setup : readSetup (ascii "0,5,100,200,10,3,0,0,0,0,fffffffffffffff0,4,a") .setup
+pub example-setup : readSetup (rowOf setupFields (ascii "0,5,100,200,10,3,0,0,0,0,fffffffffffffff0,4,a")) .setup
     ≡ record {
       pc = 0;
       options = 5;
@@ -21,7 +21,7 @@ pub example-setup : readSetup (ascii "0,5,100,200,10,3,0,0,0,0,fffffffffffffff0,
           ∷ [];
       budget = 10;
     }
-unfolding readSetup split spelled
+unfolding readSetup rowOf split spelled
 example-setup = refl
 
 -- the digits of the budget in line 1, and the budget: "an empty budget means 1,000"
@@ -35,8 +35,8 @@ budgets =
 
 abbrev pub allBudgets : List (List ℕ × ℕ) → Bool
 allBudgets [] = true
-allBudgets (b ∷ bs) = eqb (readSetup (ascii "0,5,100,200,10,3,0,0,0,0,0,4," ++ b .0) .setup .budget) (b .1) && allBudgets bs
+allBudgets (b ∷ bs) = eqb (readSetup (rowOf setupFields (ascii "0,5,100,200,10,3,0,0,0,0,0,4," ++ b .0)) .setup .budget) (b .1) && allBudgets bs
 
 pub budgets-hold : allBudgets budgets ≡ true
-unfolding readSetup split spelled
+unfolding readSetup rowOf split spelled
 budgets-hold = refl

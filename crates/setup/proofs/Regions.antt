@@ -10,26 +10,28 @@ use lib.ListN.{length, getD, drop, set, drop-of-length-le}
 use lib.Seq.{drop-cons, sets}
 use Rattle.model.specs.Machine.{noRegion}
 use Rattle.model.specs.declared.Region.{Region}
-use Rattle.setup.specs.Setup.{firstRegion, regionFields, regionFrom, regionsFrom, permissionsInRange}
+use Rattle.setup.specs.Setup.{regionsFrom, permissionsInRange}
 
--- ---- i of n regions are stored
-abbrev pub fieldOf : ℕ → ℕ
-fieldOf i = firstRegion + regionFields * i
+-- ---- storing the regions from index i on, of n
+module _ (vs : List ℕ) (n i : ℕ) where
+  abbrev pub storedFrom : List Region → List Region
+  storedFrom rs = sets rs i (regionsFrom vs (3 + 3 * i) (n - i))
 
-pub regions-on : (rs : List Region) (vs : List ℕ) (n i : ℕ) → i < n
-    → sets rs i (regionsFrom vs (fieldOf i) (n - i)) ≡ sets (set rs i (regionFrom vs (fieldOf i))) (i + 1) (regionsFrom vs (fieldOf (i + 1)) (n - (i + 1)))
-regions-on rs vs n i h =
-    let e : n - i ≡ suc (n - (i + 1)) = omega arith in
-    let f : suc i ≡ i + 1 = omega arith in
-    let g : fieldOf i + regionFields ≡ fieldOf (i + 1) = omega arith in
-    ap (λ k. sets rs i (regionsFrom vs (fieldOf i) k)) e
-    ∙ ap (λ k. sets (set rs i (regionFrom vs (fieldOf i))) k (regionsFrom vs (fieldOf i + regionFields) (n - (i + 1)))) f
-    ∙ ap (λ k. sets (set rs i (regionFrom vs (fieldOf i))) (i + 1) (regionsFrom vs k (n - (i + 1)))) g
+  pub regions-on : (rs : List Region) → i < n
+      → storedFrom rs ≡ sets (set rs i (getD (regionsFrom vs (3 + 3 * i) 1) 0 noRegion)) (i + 1) (regionsFrom vs (3 + 3 * (i + 1)) (n - (i + 1)))
+  regions-on rs h =
+      let e : n - i ≡ suc (n - (i + 1)) = omega arith in
+      let f : suc i ≡ i + 1 = omega arith in
+      let g : 3 + 3 * i + 3 ≡ 3 + 3 * (i + 1) = omega arith in
+      let one = getD (regionsFrom vs (3 + 3 * i) 1) 0 noRegion in
+      ap (λ k. sets rs i (regionsFrom vs (3 + 3 * i) k)) e
+      ∙ ap (λ k. sets (set rs i one) k (regionsFrom vs (3 + 3 * i + 3) (n - (i + 1)))) f
+      ∙ ap (λ k. sets (set rs i one) (i + 1) (regionsFrom vs k (n - (i + 1)))) g
 
-pub regions-off : (rs : List Region) (vs : List ℕ) (n i : ℕ) → n ≤ i → sets rs i (regionsFrom vs (fieldOf i) (n - i)) ≡ rs
-regions-off rs vs n i h = let e : n - i ≡ 0 = omega arith in ap (λ k. sets rs i (regionsFrom vs (fieldOf i) k)) e
+  pub regions-off : (rs : List Region) → n ≤ i → storedFrom rs ≡ rs
+  regions-off rs h = let e : n - i ≡ 0 = omega arith in ap (λ k. sets rs i (regionsFrom vs (3 + 3 * i) k)) e
 
--- ---- the permissions of the regions before the one at index i are in range
+-- ---- the permissions of the regions before index i are in range
 pub permissions-on : (rs : List Region) (i : ℕ) → i < length rs
     → permissionsInRange (drop i rs) ≡ leb (getD rs i noRegion .permission) 0xff && permissionsInRange (drop (i + 1) rs)
 unfolding permissionsInRange

@@ -5,10 +5,10 @@ use mathlib.Core.List.{List, [], _∷_, map}
 use Prim.Native.Nat.{ℕ, suc, _+_, _<_, _≤_}
 use native.Mathlib.Numerals.{add-one}
 use native.Mathlib.Omega.{arith}
-use lib.ListN.{length, getD, drop, set, drop-of-length-le}
+use lib.ListN.{length, getD, drop, set, replicate, drop-of-length-le}
 use lib.Seq.{drop-cons, sets}
 use Rattle.text.specs.Number.{number}
-use Rattle.text.specs.Split.{fields, Row, rowWith, rowOver, wide, allWide}
+use Rattle.text.specs.Split.{fields, Row, rowWith, rowOver, rowOf, wide, allWide}
 use Rattle.text.proofs.Splitting.{field-more, field-last}
 
 -- the row of a line of which n fields are read and the fields fs remain
@@ -45,3 +45,8 @@ wide-on ws i h = rw (drop-cons ws i 0 h, add-one i)
 pub wide-off : (ws : List ℕ) (i : ℕ) → length ws ≤ i → allWide (drop i ws) ≡ true
 unfolding allWide
 wide-off ws i h = rw (drop-of-length-le ws h)
+
+-- ---- a row in slots of 0
+pub row-in : (n : ℕ) (line : List ℕ) (r : Row) → r ≡ rowOver (replicate n 0) (replicate n 0) line → r ≡ rowOf n line
+unfolding rowOf
+row-in n line r e = e

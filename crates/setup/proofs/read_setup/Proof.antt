@@ -1,13 +1,14 @@
--- `line::read_setup` meets its contract: its values and tests are those of the row.
-use mathlib.Core.Path.{_≡_, ap, sym, _∙_}
+-- `read_setup` meets its contract: its values and tests are those of the row.
+use mathlib.Core.Path.{ap, sym}
 use Prim.Native.Nat.{_≤_}
 use lib.ListN.{length}
 use lib.Seq.{length-take-le}
-use Rattle.text.specs.Row.{rowWith}
-use Rattle.setup.specs.Setup.{budgetField, setupLine, readSetup}
+use Rattle.text.specs.Split.{rowWith}
+use Rattle.text.proofs.Rows.{row-in}
+use Rattle.setup.specs.Setup.{setupFields, budgetField, readSetup}
 use borrow.Author.Needs.{needs}
-use Rattle.setup.proofs.line.read_setup.Statement.{statement}
-use Rattle.setup.proofs.line.read_setup.Tie as tie
+use Rattle.setup.proofs.read_setup.Statement.{statement}
+use Rattle.setup.proofs.read_setup.Tie as tie
 
 slice-aggregate-read-row : tie.Need-slice-aggregate-read-row
 slice-aggregate-read-row c = search needs
@@ -24,15 +25,6 @@ slice-aggregate-regions-of c = search needs
 regions-of-requires : tie.Need-regions-of-requires
 regions-of-requires c κs = search needs
 
-array-read-wide : tie.Need-array-read-wide
-array-read-wide c = search needs
-
-array-read-t20 : tie.Need-array-read-t20
-array-read-t20 c = search needs
-
-array-read-t23 : tie.Need-array-read-t23
-array-read-t23 c = search needs
-
 array-read-budget-of : tie.Need-array-read-budget-of
 array-read-budget-of c = search needs
 
@@ -46,7 +38,7 @@ array-share-prefix-widths : tie.Need-array-share-prefix-widths
 array-share-prefix-widths c = search needs
 
 slice-aggregate-all-wide : tie.Need-slice-aggregate-all-wide
-slice-aggregate-all-wide c =
+slice-aggregate-all-wide c = 
     let ws = c .before .before .before .before .before .before .read-row .last .1 .1 .0 in
     let long : budgetField ≤ length ws = search needs in
     sym (length-take-le budgetField ws long)
@@ -54,11 +46,23 @@ slice-aggregate-all-wide c =
 all-wide-requires : tie.Need-all-wide-requires
 all-wide-requires c κs = search needs
 
-array-read-wide-2 : tie.Need-array-read-wide-2
-array-read-wide-2 c = search needs
+array-read-wide : tie.Need-array-read-wide
+array-read-wide c = search needs
 
-in-range-requires : tie.Need-in-range-requires
-in-range-requires c κs = search needs
+array-read-range : tie.Need-array-read-range
+array-read-range c = search needs
+
+permissions-in-range-requires : tie.Need-permissions-in-range-requires
+permissions-in-range-requires c κs = search needs
+
+array-read-t18 : tie.Need-array-read-t18
+array-read-t18 c = search needs
+
+array-read-ask : tie.Need-array-read-ask
+array-read-ask c = search needs
+
+array-read-ask-2 : tie.Need-array-read-ask-2
+array-read-ask-2 c = search needs
 
 ask-requires : tie.Need-ask-requires
 ask-requires c κs = search needs
@@ -73,9 +77,18 @@ returns : tie.Need-returns
 unfolding readSetup
 returns c =
     let r = c .before .before .before .before .before .before .before .before .before .before .before .read-row in
+    let line = c .before .before .before .before .before .before .before .before .before .before .before .before .before .before .before .args .line .now in
     let row = rowWith (r .result) (r .last .1 .0) (r .last .1 .1 .0) in
-    let same : setupLine row ≡ readSetup (c .before .before .before .before .before .before .before .before .before .before .before .before .before .before .before .args .line .now) = ap setupLine (r .ensures) in
-    cc
+    rw (
+      c .ask3 .ensures,
+      c .before .ask2 .ensures,
+      c .before .before .ask .ensures,
+      c .before .before .before .permissions-in-range .ensures,
+      c .before .before .before .before .all-wide .ensures,
+      c .before .before .before .before .before .before .budget-of .ensures,
+      c .before .before .before .before .before .before .before .regions-of .ensures,
+    )
+    (ap readSetup (row-in setupFields line row (r .ensures)))
 
 pub read-setup-spec : {M : Type 1} → statement M
 read-setup-spec =
@@ -86,17 +99,18 @@ read-setup-spec =
     read-row-requires
     slice-aggregate-regions-of
     regions-of-requires
-    array-read-wide
-    array-read-t20
-    array-read-t23
     array-read-budget-of
     array-read-budget-of-2
     budget-of-requires
     array-share-prefix-widths
     slice-aggregate-all-wide
     all-wide-requires
-    array-read-wide-2
-    in-range-requires
+    array-read-wide
+    array-read-range
+    permissions-in-range-requires
+    array-read-t18
+    array-read-ask
+    array-read-ask-2
     ask-requires
     ask-requires-2
     ask-requires-3

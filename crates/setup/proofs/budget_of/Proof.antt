@@ -1,8 +1,8 @@
--- `line::budget_of` meets its contract: a field of width 0 is the empty field.
+-- `budget_of` meets its contract: a field of width 0 is the empty field.
 use borrow.Author.Tests.{eq-eqb, ne-eqb}
 use borrow.Author.Needs.{needs}
-use Rattle.setup.proofs.line.budget_of.Statement.{statement}
-use Rattle.setup.proofs.line.budget_of.Tie as tie
+use Rattle.setup.proofs.budget_of.Statement.{statement}
+use Rattle.setup.proofs.budget_of.Tie as tie
 
 returns : tie.Need-returns
 returns c = rw (eq-eqb _ 0 (c .if1 .taken))
