@@ -16,12 +16,10 @@ use Rattle.model.specs.WellFormed.{stateFits, wellFormed}
 use Rattle.text.specs.Number.{spelled, digits}
 use Rattle.text.specs.Ascii.{ascii}
 use Rattle.text.specs.Scan.{firstThat, count}
-use Rattle.text.specs.Split.{split}
-use Rattle.text.specs.Row.{allWide}
+use Rattle.text.specs.Split.{split, rowOf, allWide}
 use Rattle.setup.specs.Setup.{permissionsInRange, readSetup}
-use Rattle.sheet.specs.File.{fileNo}
-use Rattle.sheet.specs.Words.{wordOf, readWord, wordsRefusal, memoryOf, blank}
-use Rattle.sheet.specs.Sheet.{linesRefusal, sheetRefusal}
+use Rattle.sheet.specs.Words.{readWord, memoryOf, blank}
+use Rattle.sheet.specs.Sheet.{fileNo, wordsRefusal, linesRefusal, sheetRefusal}
 use Rattle.sheet.proofs.Cases.{lineOne, words}
 use Rattle.report.specs.Print.{registerRows}
 use Rattle.report.specs.Report.{reportOver, report}
@@ -48,5 +46,5 @@ expected [] = []
 expected (r ∷ rs) = r .1 ∷ expected rs
 
 pub rows-hold : reported rows ≡ expected rows
-unfolding report reportOver registerRows sheetRefusal linesRefusal wordsRefusal readWord wordOf memoryOf blank fileNo permissionsInRange readSetup split allWide firstThat count spelled digits runCall runBy step executeWord perform branch jump store load stateFits wellFormed explicitRule matches firstMatch implicitGrants explicitGrants allowed aligned settle hfiStop hWordStop hfiPerform value written scan firstRefused firstAbsent verdict decodeWord sext trailingZeros
+unfolding report reportOver registerRows sheetRefusal linesRefusal wordsRefusal readWord rowOf memoryOf blank fileNo permissionsInRange readSetup split allWide firstThat count spelled digits runCall runBy step executeWord perform branch jump store load stateFits wellFormed explicitRule matches firstMatch implicitGrants explicitGrants allowed aligned settle hfiStop hWordStop hfiPerform value written scan firstRefused firstAbsent verdict decodeWord sext trailingZeros
 rows-hold = refl

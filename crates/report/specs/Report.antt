@@ -5,7 +5,7 @@ use mathlib.Core.List.{List}
 use Prim.Native.Nat.{ℕ}
 use lib.Dec.{eqb}
 use Rattle.model.specs.Run.{runCall}
-use Rattle.setup.specs.Start.{machineOf}
+use Rattle.setup.specs.Setup.{machineOf}
 use Rattle.sheet.specs.Words.{memoryOf, blank}
 use Rattle.sheet.specs.Sheet.{Sheet, readSheet}
 use Rattle.sheet.specs.Print.{refusalText}

@@ -11,7 +11,7 @@ use Rattle.text.proofs.Writing.{wrote-parts}
 use Rattle.model.specs.declared.Machine.{Machine}
 use Rattle.model.specs.declared.Ran.{Ran}
 use Rattle.model.specs.Run.{ranWith, runCall}
-use Rattle.setup.specs.Start.{machineOf}
+use Rattle.setup.specs.Setup.{machineOf}
 use Rattle.sheet.specs.declared.ReadSheet.{ReadSheet}
 use Rattle.sheet.specs.Words.{memoryOf}
 use Rattle.sheet.specs.Sheet.{readSheet}

@@ -6,9 +6,9 @@ ghost use Rattle.report.specs.Report.{report, reportOver};
 ghost use Rattle.respond.specs.Answered.{Answered};
 use report::print::put_result;
 use run::run_call;
-use setup::start::machine_of;
+use setup::machine_of;
 use sheet::print::put_refusal;
-use sheet::read::read_sheet;
+use sheet::read_sheet;
 
 // Room for every report: 157 bytes for the first line, 38 for each of 32 registers.
 pub const MOST: usize = 1373;

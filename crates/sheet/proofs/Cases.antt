@@ -7,14 +7,12 @@ use lib.Dec.{eqb}
 use lib.ListN.{take, replicate}
 use Rattle.text.specs.Ascii.{ascii}
 use Rattle.text.specs.Scan.{firstThat, count}
-use Rattle.text.specs.Split.{split}
-use Rattle.text.specs.Row.{allWide}
+use Rattle.text.specs.Split.{split, rowOf, allWide}
 use Rattle.text.specs.Number.{spelled, digits}
 use Rattle.model.specs.Bytes.{written}
 use Rattle.setup.specs.Setup.{permissionsInRange, readSetup}
-use Rattle.sheet.specs.File.{fileNo}
-use Rattle.sheet.specs.Words.{wordOf, readWord, wordsRefusal, memoryOf}
-use Rattle.sheet.specs.Sheet.{linesRefusal, sheetRefusal, readSheet}
+use Rattle.sheet.specs.Words.{readWord, memoryOf}
+use Rattle.sheet.specs.Sheet.{fileNo, wordsRefusal, linesRefusal, sheetRefusal, readSheet}
 use Rattle.sheet.specs.Print.{refusalText}
 
 -- a sheet, and the question and the line number that it is refused with
@@ -84,7 +82,7 @@ all [] = true
 all (r ∷ rs) = holds r && all rs
 
 pub rows-hold : all rows ≡ true
-unfolding sheetRefusal linesRefusal wordsRefusal fileNo readSetup readWord permissionsInRange firstThat count split allWide spelled
+unfolding sheetRefusal linesRefusal wordsRefusal fileNo readSetup readWord rowOf permissionsInRange firstThat count split allWide spelled
 rows-hold = refl
 
 -- ---- document 01's whole example: its words in memory
@@ -93,7 +91,7 @@ words = ascii "0,00500513\n4,00a001ab\n8,0400005b\n"
 
 pub example-words : take 13 (memoryOf (replicate 16 0) (readSheet (lineOne ++ words) .words))
     ≡ 0x13 ∷ 0x05 ∷ 0x50 ∷ 0x00 ∷ 0xab ∷ 0x01 ∷ 0xa0 ∷ 0x00 ∷ 0x5b ∷ 0x00 ∷ 0x00 ∷ 0x04 ∷ 0x00 ∷ []
-unfolding memoryOf written wordOf split spelled
+unfolding memoryOf written rowOf split spelled
 example-words = refl
 
 -- document 01's example of a refusal

@@ -1,69 +1,79 @@
--- How the lines of a sheet go on.
+-- How the lines of a sheet go on, and what a passed question gives.
 use mathlib.Core.Path.{_≡_, refl, ap, sym, _∙_}
 use mathlib.Core.Bool.{_&&_}
 use mathlib.Core.List.{List, [], _∷_}
-use Prim.Native.Nat.{ℕ, _+_, _%_, _<_, _≤_}
+use Prim.Native.Nat.{ℕ, _+_, _-_, _%_, _<_, _≤_}
 use native.Mathlib.Omega.{arith}
 use lib.Dec.{eqb, leb}
 use lib.ListN.{length, getD, drop, drop-of-length-le}
-use borrow.Author.Tests.{leb-true, eq-eqb, ne-eqb}
-use Rattle.text.specs.Scan.{count, lineNumber}
-use Rattle.text.specs.Split.{lines}
-use Rattle.text.specs.Row.{rowOf}
+use borrow.Author.Tests.{leb-true, eqb-true, eq-eqb, ne-eqb}
+use Rattle.text.specs.Scan.{newline, count, lineNumber}
+use Rattle.text.specs.Split.{lines, Row, rowOf}
 use Rattle.text.proofs.Asking.{left-half, right-half, yes-at}
 use Rattle.text.proofs.Splitting.{line-more, line-ends, line-counts, lines-none}
 use Rattle.model.specs.Bytes.{written}
-use Rattle.setup.specs.Setup.{readSetup}
+use Rattle.setup.specs.Setup.{setupFields, readSetup}
 use Rattle.sheet.specs.declared.ReadWord.{ReadWord}
-use Rattle.sheet.specs.File.{refusal, accepted, fileNo, fileRefusal}
-use Rattle.sheet.specs.Words.{wordFields, rowWord, wordOf, wordsOf, wordQuestions, readWord, wordsRefusal, placed, memoryOf}
-use Rattle.sheet.specs.Sheet.{linesRefusal, sheetRefusal}
-use Rattle.sheet.proofs.Files.{file-whole}
+use Rattle.sheet.specs.Words.{wordFields, wordOf, wordsOf, wordQuestions, readWord, memoryOf}
+use Rattle.sheet.specs.Sheet.{refusal, fileQuestions, fileNo, fileRefusal, wordsRefusal, linesRefusal, sheetRefusal}
 
 -- a word line that is read is the word line
-read-is : (least : ℕ) (line : List ℕ) → (readWord least line .address ≡ wordOf line .address) × (readWord least line .word ≡ wordOf line .word)
-unfolding readWord wordOf
-read-is least line = (refl, refl)
+read-is : (least : ℕ) (r : Row) → (readWord least r .address ≡ wordOf r .address) × (readWord least r .word ≡ wordOf r .word)
+unfolding readWord
+read-is least r = (refl, refl)
 
 -- where it passes, its word lies in memory
-pub word-fits : (least : ℕ) (line : List ℕ) → readWord least line .question ≡ 0 → readWord least line .address ≤ 0xfffc
+pub word-fits : (least : ℕ) (r : Row) → readWord least r .question ≡ 0 → readWord least r .address ≤ 0xfffc
 unfolding readWord
-word-fits least line e =
-    let r = rowOf wordFields line in
-    let w = rowWord r in
-    let range = yes-at 2 (wordQuestions least r) refl e in
+word-fits least r e =
+    let w = wordOf r in
+    let range = yes-at 2 (wordQuestions least r w) refl e in
     let top = right-half (eqb (w .address % 4) 0) (leb (w .address) 0xfffc && leb (w .word) 0xffffffff) range in
     leb-true (w .address) 0xfffc (left-half (leb (w .address) 0xfffc) (leb (w .word) 0xffffffff) top)
 
+-- ---- what a passed file gives
+pub file-whole : (s : List ℕ) → fileNo s ≡ 0 → (1 ≤ length s) × (length s ≤ 65536) × (getD s (length s - 1) 0 ≡ newline)
+unfolding fileNo
+file-whole s e =
+    let some = leb 1 (length s) in
+    let few = leb (length s) 65536 in
+    let ended = eqb (getD s (length s - 1) 0) newline in
+    let all = yes-at 0 (fileQuestions s) refl e in
+    let most = right-half some (few && ended) all in (
+      leb-true 1 (length s) (left-half some (few && ended) all),
+      leb-true (length s) 65536 (left-half few ended most),
+      eqb-true (getD s (length s - 1) 0) newline (right-half few ended most),
+    )
+
 -- ---- the word lines from position `at` on: the line there is read as w
-module _ (s line : List ℕ) (at n least : ℕ) (w : ReadWord) (e : line ≡ getD (lines (drop at s)) 0 []) (h : at < length s) (j : w ≡ readWord least line) where
+module _ (s line : List ℕ) (at n least : ℕ) (w : ReadWord) (e : line ≡ getD (lines (drop at s)) 0 []) (h : at < length s) (j : w ≡ readWord least (rowOf wordFields line)) where
   refused : wordsRefusal n least (lines (drop at s)) ≡ wordsRefusal n least (line ∷ lines (drop (at + length line + 1) s))
   refused = ap (wordsRefusal n least) (line-more s line at e h)
 
   pub refusal-on : w .question ≡ 0 → wordsRefusal (n + 1) (w .address + 1) (lines (drop (at + length line + 1) s)) ≡ wordsRefusal n least (lines (drop at s))
   unfolding wordsRefusal
   refusal-on z =
-      let y : readWord least line .question ≡ 0 = sym (ap (λ r. r .question) j) ∙ z in
+      let y : readWord least (rowOf wordFields line) .question ≡ 0 = sym (ap (λ r. r .question) j) ∙ z in
       ap (λ r. wordsRefusal (n + 1) (r .address + 1) (lines (drop (at + length line + 1) s))) j
-      ∙ sym (refused ∙ rw (eq-eqb (readWord least line .question) 0 y))
+      ∙ sym (refused ∙ rw (eq-eqb (readWord least (rowOf wordFields line) .question) 0 y))
 
   pub refusal-stop : (w .question ≡ 0 → ⊥) → refusal (w .question) n ≡ wordsRefusal n least (lines (drop at s))
   unfolding wordsRefusal
   refusal-stop z =
-      let y : readWord least line .question ≡ 0 → ⊥ = λ u. z (ap (λ r. r .question) j ∙ u) in
-      ap (λ r. refusal (r .question) n) j ∙ sym (refused ∙ rw (ne-eqb (readWord least line .question) 0 y))
+      let y : readWord least (rowOf wordFields line) .question ≡ 0 → ⊥ = λ u. z (ap (λ r. r .question) j ∙ u) in
+      ap (λ r. refusal (r .question) n) j ∙ sym (refused ∙ rw (ne-eqb (readWord least (rowOf wordFields line) .question) 0 y))
 
   pub memory-on : (mem next : List ℕ) → next ≡ written mem (w .address) 0 4 (w .word)
       → memoryOf next (wordsOf (lines (drop (at + length line + 1) s))) ≡ memoryOf mem (wordsOf (lines (drop at s)))
   unfolding memoryOf
   memory-on mem next m =
-      let a : w .address ≡ wordOf line .address = ap (λ r. r .address) j ∙ read-is least line .0 in
-      let b : w .word ≡ wordOf line .word = ap (λ r. r .word) j ∙ read-is least line .1 in
+      let a : w .address ≡ wordOf (rowOf wordFields line) .address = ap (λ r. r .address) j ∙ read-is least (rowOf wordFields line) .0 in
+      let b : w .word ≡ wordOf (rowOf wordFields line) .word = ap (λ r. r .word) j ∙ read-is least (rowOf wordFields line) .1 in
       ap (λ k. memoryOf k (wordsOf (lines (drop (at + length line + 1) s))))
-      (m ∙ ap (λ k. written mem k 0 4 (w .word)) a ∙ ap (written mem (wordOf line .address) 0 4) b)
+      (m ∙ ap (λ k. written mem k 0 4 (w .word)) a ∙ ap (written mem (wordOf (rowOf wordFields line) .address) 0 4) b)
       ∙ sym (ap (λ ls. memoryOf mem (wordsOf ls)) (line-more s line at e h))
 
-pub refusal-off : (s : List ℕ) (at n least : ℕ) → length s ≤ at → wordsRefusal n least (lines (drop at s)) ≡ accepted
+pub refusal-off : (s : List ℕ) (at n least : ℕ) → length s ≤ at → wordsRefusal n least (lines (drop at s)) ≡ refusal 0 0
 unfolding wordsRefusal
 refusal-off s at n least h = ap (wordsRefusal n least) (ap lines (drop-of-length-le s h) ∙ lines-none)
 
@@ -86,11 +96,11 @@ module _ (s line : List ℕ) (h : fileNo s ≡ 0) (e : line ≡ getD (lines s) 0
   unfolding sheetRefusal
   refused-lines = rw (eq-eqb (fileNo s) 0 h) (ap linesRefusal first-line)
 
-  pub sheet-setup : (readSetup line .question ≡ 0 → ⊥) → sheetRefusal s ≡ refusal (readSetup line .question) 1
+  pub sheet-setup : (readSetup (rowOf setupFields line) .question ≡ 0 → ⊥) → sheetRefusal s ≡ refusal (readSetup (rowOf setupFields line) .question) 1
   unfolding linesRefusal
   sheet-setup j = refused-lines ∙ rw (ne-eqb _ 0 j)
 
-  pub sheet-words : readSetup line .question ≡ 0 → sheetRefusal s ≡ wordsRefusal 2 0 (lines (drop (length line + 1) s))
+  pub sheet-words : readSetup (rowOf setupFields line) .question ≡ 0 → sheetRefusal s ≡ wordsRefusal 2 0 (lines (drop (length line + 1) s))
   unfolding linesRefusal
   sheet-words j = refused-lines ∙ rw (eq-eqb _ 0 j)
 

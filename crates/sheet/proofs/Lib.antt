@@ -1,4 +1,3 @@
-pub mod Files
 pub mod Laws
 pub mod Refusals
 pub mod Cases

@@ -1,4 +1,3 @@
-pub mod File
 pub mod Words
 pub mod Sheet
 pub mod Print

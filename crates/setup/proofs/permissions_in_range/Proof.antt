@@ -27,7 +27,7 @@ array-copy-out-r : tie.Need-array-copy-out-r Inv-loop μ-loop
 array-copy-out-r c = search needs
 
 returns : tie.Need-returns Inv-loop μ-loop
-returns c = 
+returns c =
     let rs = c .before .before .before .before .before .args .t1 in
     let l = c .before .before .before .before .loop in
     let long : length rs ≡ lastRegion = search needs in
@@ -41,7 +41,7 @@ loop-less : tie.Need-loop-less Inv-loop μ-loop
 loop-less c = search needs
 
 loop-again : tie.Need-loop-again Inv-loop μ-loop
-loop-again c = 
+loop-again c =
     let rs = c .before .before .before .before .before .args .t1 in
     let l = c .before .before .before .before .loop in
     let long : length rs ≡ lastRegion = search needs in
@@ -49,7 +49,7 @@ loop-again c =
     (search needs, sym (rw (le-leb _ 0xff (c .if1 .left)) at on) ∙ l .inv .1)
 
 returns-2 : tie.Need-returns-2 Inv-loop μ-loop
-returns-2 c = 
+returns-2 c =
     let rs = c .before .before .args .t1 in
     let long : length rs ≡ lastRegion = search needs in
     sym (permissions-off rs (c .before .loop .i) (omega (arith, c .loop-test .left))) ∙ c .before .loop .inv .1

@@ -38,7 +38,7 @@ array-share-prefix-widths : tie.Need-array-share-prefix-widths
 array-share-prefix-widths c = search needs
 
 slice-aggregate-all-wide : tie.Need-slice-aggregate-all-wide
-slice-aggregate-all-wide c = 
+slice-aggregate-all-wide c =
     let ws = c .before .before .before .before .before .before .read-row .last .1 .1 .0 in
     let long : budgetField ≤ length ws = search needs in
     sym (length-take-le budgetField ws long)

@@ -61,13 +61,13 @@ loop-less : tie.Need-loop-less Inv-loop μ-loop
 loop-less c = search needs
 
 loop-again : tie.Need-loop-again Inv-loop μ-loop
-loop-again c = 
+loop-again c =
     let l = c .before .before .before .before .loop in
     let on = regions-on (c .before .before .before .before .before .args .values .now) lastRegion (l .i) (l .regions) (c .before .before .before .loop-test .taken) in
     (search needs, search needs, sym on ∙ l .inv .2)
 
 returns : tie.Need-returns Inv-loop μ-loop
-returns c = 
+returns c =
     let l = c .before .loop in
     sym (regions-off (c .before .before .args .values .now) lastRegion (l .i) (l .regions) (c .loop-test .left)) ∙ l .inv .2
 

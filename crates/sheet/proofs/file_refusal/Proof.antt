@@ -1,8 +1,8 @@
--- `file::file_refusal` meets its contract: its tests are those of the questions.
+-- `file_refusal` meets its contract: its tests are those of the questions.
 use borrow.Author.Needs.{needs}
-use Rattle.sheet.specs.File.{fileNo}
-use Rattle.sheet.proofs.file.file_refusal.Statement.{statement}
-use Rattle.sheet.proofs.file.file_refusal.Tie as tie
+use Rattle.sheet.specs.Sheet.{fileNo}
+use Rattle.sheet.proofs.file_refusal.Statement.{statement}
+use Rattle.sheet.proofs.file_refusal.Tie as tie
 
 first-foreign-requires : tie.Need-first-foreign-requires
 first-foreign-requires c κs = search needs

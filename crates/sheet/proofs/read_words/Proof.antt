@@ -1,4 +1,4 @@
--- `word_lines::read_words` meets its contract. `lineno` is the number of the line that begins at position `at`: one more than the
+-- `read_words` meets its contract. `lineno` is the number of the line that begins at position `at`: one more than the
 -- 0a bytes before it. Reading the rest of the sheet from there comes to reading it all.
 use mathlib.Core.Path.{_≡_, refl, ap, sym, _∙_}
 use Prim.Native.Nat.{_+_, _-_, _≤_}
@@ -7,12 +7,13 @@ use lib.ListN.{length, drop, take, length-take}
 use Rattle.text.proofs.Splitting.{line-ends, line-counts}
 use Rattle.text.proofs.Scanning.{count-le}
 use Rattle.text.specs.Scan.{newline, lineNumber}
-use Rattle.text.specs.Split.{lines}
-use Rattle.sheet.specs.Words.{wordsRefusal, wordsOf, memoryOf, readWord}
+use Rattle.text.specs.Split.{lines, rowOf}
+use Rattle.sheet.specs.Words.{wordFields, wordsOf, memoryOf, readWord}
+use Rattle.sheet.specs.Sheet.{wordsRefusal}
 use Rattle.sheet.proofs.Laws.{word-fits, refusal-on, refusal-stop, refusal-off, memory-on, memory-off}
 use borrow.Author.Needs.{needs}
-use Rattle.sheet.proofs.word_lines.read_words.Statement.{statement}
-use Rattle.sheet.proofs.word_lines.read_words.Tie as tie
+use Rattle.sheet.proofs.read_words.Statement.{statement}
+use Rattle.sheet.proofs.read_words.Tie as tie
 
 abbrev Inv-loop : tie.InvT-loop
 Inv-loop s start first mem₀ at₀ lineno₀ least₀ mem at lineno least = (length mem ≡ 65536) × (at ≤ length s) × (lineno ≡ lineNumber s at) × (wordsRefusal lineno least (lines (drop at s)) ≡ wordsRefusal first 0 (lines (drop start s))) × (memoryOf mem (wordsOf (lines (drop at s))) ≡ memoryOf mem₀ (wordsOf (lines (drop start s))))
@@ -47,8 +48,8 @@ write-requires c κs =
     let s = c .before .before .before .before .before .before .before .before .before .args .s .now in
     let line = c .before .before .before .before .line-at in
     let w = c .before .before .before .read-word in
-    let passed : readWord (l .least) (line .result .now) .question ≡ 0 = sym (ap (λ r. r .question) (w .ensures)) ∙ c .before .if1 .left in
-    let low = word-fits (l .least) (line .result .now) passed in
+    let passed : readWord (l .least) (rowOf wordFields (line .result .now)) .question ≡ 0 = sym (ap (λ r. r .question) (w .ensures)) ∙ c .before .if1 .left in
+    let low = word-fits (l .least) (rowOf wordFields (line .result .now)) passed in
     (search needs, omega (arith, low, ap (λ r. r .address) (w .ensures), l .inv .0))
 
 add-least : tie.Need-add-least Inv-loop μ-loop
@@ -57,8 +58,8 @@ add-least c =
     let s = c .before .before .before .before .before .before .before .before .before .before .before .before .before .args .s .now in
     let line = c .before .before .before .before .before .before .before .before .line-at in
     let w = c .before .before .before .before .before .before .before .read-word in
-    let passed : readWord (l .least) (line .result .now) .question ≡ 0 = sym (ap (λ r. r .question) (w .ensures)) ∙ c .before .before .before .before .before .if1 .left in
-    omega (arith, word-fits (l .least) (line .result .now) passed, ap (λ r. r .address) (w .ensures))
+    let passed : readWord (l .least) (rowOf wordFields (line .result .now)) .question ≡ 0 = sym (ap (λ r. r .question) (w .ensures)) ∙ c .before .before .before .before .before .if1 .left in
+    omega (arith, word-fits (l .least) (rowOf wordFields (line .result .now)) passed, ap (λ r. r .address) (w .ensures))
 
 add-lineno : tie.Need-add-lineno Inv-loop μ-loop
 add-lineno c =

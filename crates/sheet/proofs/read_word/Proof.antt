@@ -1,10 +1,11 @@
--- `word_lines::read_word` meets its contract: its values and tests are those of the row.
+-- `read_word` meets its contract: its values and tests are those of the row.
 use mathlib.Core.Path.{_≡_, ap}
-use Rattle.text.specs.Row.{rowWith}
-use Rattle.sheet.specs.Words.{rowRead, readWord}
+use Rattle.text.specs.Split.{rowWith, rowOf}
+use Rattle.text.proofs.Rows.{row-in}
+use Rattle.sheet.specs.Words.{wordFields, readWord}
 use borrow.Author.Needs.{needs}
-use Rattle.sheet.proofs.word_lines.read_word.Statement.{statement}
-use Rattle.sheet.proofs.word_lines.read_word.Tie as tie
+use Rattle.sheet.proofs.read_word.Statement.{statement}
+use Rattle.sheet.proofs.read_word.Tie as tie
 
 slice-aggregate-read-row : tie.Need-slice-aggregate-read-row
 slice-aggregate-read-row c = search needs
@@ -45,7 +46,7 @@ returns c =
     let r = c .before .before .before .before .before .before .before .before .read-row in
     let a = c .before .before .before .before .before .before .before .before .before .before .before .before .args in
     let row = rowWith (r .result) (r .last .1 .0) (r .last .1 .1 .0) in
-    let same : rowRead (a .least) row ≡ readWord (a .least) (a .line .now) = ap (rowRead (a .least)) (r .ensures) in
+    let same : readWord (a .least) row ≡ readWord (a .least) (rowOf wordFields (a .line .now)) = ap (readWord (a .least)) (row-in wordFields (a .line .now) row (r .ensures)) in
     cc
 
 pub read-word-spec : {M : Type 1} → statement M

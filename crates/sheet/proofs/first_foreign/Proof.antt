@@ -1,4 +1,4 @@
--- `file::first_foreign` meets its contract: the bytes before position i are a sheet's.
+-- `first_foreign` meets its contract: the bytes before position i are a sheet's.
 use mathlib.Core.Path.{_≡_, sym, _∙_}
 use Prim.Native.Nat.{_+_, _-_, _≤_}
 use native.Mathlib.Omega.{arith}
@@ -6,10 +6,10 @@ use lib.ListN.{length, getD, drop}
 use borrow.Author.Needs.{needs}
 use Rattle.text.proofs.Scanning.{first-on, first-off}
 use Rattle.text.specs.Scan.{firstThat}
-use Rattle.sheet.specs.File.{foreign}
+use Rattle.sheet.specs.Sheet.{foreign}
 use mathlib.Core.Bool.{true, false}
-use Rattle.sheet.proofs.file.first_foreign.Statement.{statement}
-use Rattle.sheet.proofs.file.first_foreign.Tie as tie
+use Rattle.sheet.proofs.first_foreign.Statement.{statement}
+use Rattle.sheet.proofs.first_foreign.Tie as tie
 
 abbrev Inv-loop : tie.InvT-loop
 Inv-loop s i₀ i = (i ≤ length s) × (i + firstThat foreign (drop i s) ≡ firstThat foreign s)

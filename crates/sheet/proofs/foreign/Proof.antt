@@ -1,7 +1,7 @@
--- `file::foreign` meets its contract.
+-- `foreign` meets its contract.
 use borrow.Author.Needs.{needs}
-use Rattle.sheet.proofs.file.foreign.Statement.{statement}
-use Rattle.sheet.proofs.file.foreign.Tie as tie
+use Rattle.sheet.proofs.foreign.Statement.{statement}
+use Rattle.sheet.proofs.foreign.Tie as tie
 
 is-digit-requires : tie.Need-is-digit-requires
 is-digit-requires c κs = search needs
