@@ -21,8 +21,7 @@ use Rattle.setup.specs.Setup.{permissionsInRange, readSetup}
 use Rattle.sheet.specs.Words.{readWord, memoryOf, blank}
 use Rattle.sheet.specs.Sheet.{fileNo, wordsRefusal, linesRefusal, sheetRefusal}
 use Rattle.sheet.proofs.Cases.{lineOne, words}
-use Rattle.report.specs.Print.{registerRows}
-use Rattle.report.specs.Report.{reportOver, report}
+use Rattle.report.specs.Report.{registerRows, reportOver, report}
 
 -- a sheet, and what is printed of it
 abbrev pub rows : List (List ℕ × List ℕ)

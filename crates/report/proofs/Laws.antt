@@ -10,7 +10,7 @@ use Rattle.text.specs.Scan.{newline}
 use Rattle.text.specs.Split.{joinRow, joinRows}
 use Rattle.text.specs.Write.{Wrote}
 use Rattle.text.proofs.Writing.{wrote-on}
-use Rattle.report.specs.Print.{registerRow, registerRows}
+use Rattle.report.specs.Report.{registerRow, registerRows}
 
 pub rows-append : (rs qs : List (List (List ℕ))) → joinRows (rs ++ qs) ≡ joinRows rs ++ joinRows qs
 rows-append [] qs = refl

@@ -13,9 +13,9 @@ use Rattle.text.specs.Number.{decimal, hexadecimal}
 use Rattle.text.proofs.RoundTrip.{Clean, rows-same, decimal-free, hexadecimal-free, decimal-same, hexadecimal-same}
 use Rattle.model.specs.declared.Fault.{Fault}
 use Rattle.model.specs.declared.Ran.{Ran}
-use Rattle.sheet.specs.Print.{refusalText}
+use Rattle.sheet.specs.Sheet.{refusalText}
 use Rattle.sheet.proofs.Refusals.{row, row-clean, refusal-row}
-use Rattle.report.specs.Print.{resultRow, registerRows, resultText}
+use Rattle.report.specs.Report.{resultRow, registerRows, resultText}
 
 -- ---- what code can hold: 64 bits in each number, 32 registers
 pub record Held (r : Ran) : Type 0 where

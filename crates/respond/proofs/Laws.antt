@@ -14,10 +14,8 @@ use Rattle.model.specs.Run.{ranWith, runCall}
 use Rattle.setup.specs.Setup.{machineOf}
 use Rattle.sheet.specs.declared.ReadSheet.{ReadSheet}
 use Rattle.sheet.specs.Words.{memoryOf}
-use Rattle.sheet.specs.Sheet.{readSheet}
-use Rattle.sheet.specs.Print.{refusalText}
-use Rattle.report.specs.Print.{resultText}
-use Rattle.report.specs.Report.{reportOver}
+use Rattle.sheet.specs.Sheet.{readSheet, refusalText}
+use Rattle.report.specs.Report.{resultText, reportOver}
 use Rattle.respond.specs.Answered.{Answered}
 
 -- ---- the sheet s was read over a memory

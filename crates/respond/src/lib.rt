@@ -4,10 +4,10 @@ ghost use Prim.Native.Nat.{_≤_};
 ghost use lib.ListN.{length, take};
 ghost use Rattle.report.specs.Report.{report, reportOver};
 ghost use Rattle.respond.specs.Answered.{Answered};
-use report::print::put_result;
+use report::put_result;
 use run::run_call;
 use setup::machine_of;
-use sheet::print::put_refusal;
+use sheet::put_refusal;
 use sheet::read_sheet;
 
 // Room for every report: 157 bytes for the first line, 38 for each of 32 registers.

@@ -31,10 +31,6 @@ regionsFrom vs k (suc n) =
 abbrev pub defaultBudget : ℕ
 defaultBudget = 1000
 
--- the budget, of a field with this value and this width
-abbrev pub budgetOf : ℕ → ℕ → ℕ
-budgetOf n width = cond (eqb width 0) defaultBudget n
-
 abbrev pub setupOf : Row → Setup
 setupOf r =
     record {
@@ -42,7 +38,7 @@ setupOf r =
       options = getD (r .values) 1 0;
       handler = getD (r .values) 2 0;
       regions = regionsFrom (r .values) 3 lastRegion;
-      budget = budgetOf (getD (r .values) budgetField 0) (getD (r .widths) budgetField 0);
+      budget = cond (eqb (getD (r .widths) budgetField 0) 0) defaultBudget (getD (r .values) budgetField 0);
     }
 
 unfoldable pub permissionsInRange : List Region → Bool

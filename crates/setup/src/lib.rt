@@ -4,7 +4,7 @@ ghost use Prim.Native.Nat.{_≤_};
 ghost use lib.ListN.{length};
 ghost use Rattle.text.specs.Split.{rowOf};
 ghost use Rattle.model.specs.Machine.{lastRegion};
-ghost use Rattle.setup.specs.Setup.{setupFields, budgetOf, regionsFrom, permissionsInRange, readSetup, machineOf};
+ghost use Rattle.setup.specs.Setup.{setupFields, regionsFrom, permissionsInRange, readSetup, machineOf};
 use model::Fault;
 use model::HfiState;
 use model::Machine;
@@ -61,13 +61,6 @@ fn regions_of(values: &[u64]) -> [Region; REGIONS]
     regions
 }
 
-// The budget, of a field with this value and this width.
-fn budget_of(n: u64, width: u64) -> u64
-    ensures { λ r. ⌜ r ≡ budgetOf n width ⌝ }
-{
-    if width == 0 { DEFAULT_BUDGET } else { n }
-}
-
 // Are all permissions at most ff?
 fn permissions_in_range(rs: [Region; REGIONS]) -> bool
     ensures { λ r. ⌜ r ≡ permissionsInRange rs ⌝ }
@@ -91,7 +84,7 @@ pub fn read_setup(line: &[u8]) -> ReadSetup
     let mut widths = [0u64; SETUP_FIELDS];
     let count = read_row(line, &mut values, &mut widths);
     let regions = regions_of(&values);
-    let budget = budget_of(values[BUDGET], widths[BUDGET]);
+    let budget = ask(widths[BUDGET] == 0, values[BUDGET], DEFAULT_BUDGET);
     let wide = all_wide(&widths[..BUDGET]) & (widths[BUDGET] <= 16);
     let range = (values[1] <= 0xff) & (permissions_in_range(regions) & (budget <= 0xffffffff));
     let setup = Setup {

@@ -12,8 +12,7 @@ use Rattle.text.specs.Number.{spelled, digits}
 use Rattle.model.specs.Bytes.{written}
 use Rattle.setup.specs.Setup.{permissionsInRange, readSetup}
 use Rattle.sheet.specs.Words.{readWord, memoryOf}
-use Rattle.sheet.specs.Sheet.{fileNo, wordsRefusal, linesRefusal, sheetRefusal, readSheet}
-use Rattle.sheet.specs.Print.{refusalText}
+use Rattle.sheet.specs.Sheet.{fileNo, wordsRefusal, linesRefusal, sheetRefusal, readSheet, refusalText}
 
 -- a sheet, and the question and the line number that it is refused with
 pub record Row : Type 0 where

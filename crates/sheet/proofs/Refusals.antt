@@ -7,7 +7,7 @@ use Rattle.text.specs.Scan.{count, newline, comma}
 use Rattle.text.specs.Split.{joinRows}
 use Rattle.text.specs.Number.{decimal}
 use Rattle.text.proofs.RoundTrip.{Clean, rows-same, decimal-free, decimal-same}
-use Rattle.sheet.specs.Print.{sheetWord, refusalText}
+use Rattle.sheet.specs.Sheet.{sheetWord, refusalText}
 
 -- the line is one row of three fields
 abbrev pub row : ℕ → ℕ → List (List ℕ)

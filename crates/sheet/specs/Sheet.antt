@@ -1,12 +1,13 @@
 -- A sheet as read: whether it is refused, its setup and its word lines (01, The run sheet).
 -- Refusal is declared in src/lib.rt, Setup in setup/src/lib.rt, WordLine in Words.antt. Assumes nothing.
 use mathlib.Core.Bool.{Bool, cond, not, _&&_, _||_}
-use mathlib.Core.List.{List, [], _∷_}
+use mathlib.Core.List.{List, [], _∷_, _++_}
 use Prim.Native.Nat.{ℕ, _+_, _-_}
 use lib.Dec.{eqb, leb}
 use lib.ListN.{length, getD, drop}
+use Rattle.text.specs.Ascii.{ascii}
 use Rattle.text.specs.Scan.{newline, comma, firstThat, lineNumber}
-use Rattle.text.specs.Number.{isDigit}
+use Rattle.text.specs.Number.{isDigit, decimal}
 use Rattle.text.specs.Split.{lines, rowOf}
 use Rattle.text.specs.Questions.{firstNo}
 use Rattle.setup.specs.declared.Setup.{Setup}
@@ -72,3 +73,13 @@ readSheet s =
       setup = readSetup (rowOf setupFields (getD (lines s) 0 [])) .setup;
       words = wordsOf (drop 1 (lines s));
     }
+
+-- ---- what is printed of a sheet that is refused
+
+-- "beginning with the word itself"
+abbrev pub sheetWord : List ℕ
+sheetWord = ascii "sheet"
+
+-- "sheet, number, line number in decimal", for example `sheet,33,2`; "every printed line ends in 0a"
+abbrev pub refusalText : ℕ → ℕ → List ℕ
+refusalText question lineno = (sheetWord ++ (comma ∷ [])) ++ decimal question ++ (comma ∷ []) ++ decimal lineno ++ (newline ∷ [])

@@ -1,19 +1,21 @@
 // The run sheet: questions 30 to 35, its setup, its words placed in memory, and the line of a refusal.
-pub mod print;
-
 ghost use mathlib.Core.Path.{_≡_};
 ghost use Prim.Native.Nat.{_-_, _≤_};
 ghost use lib.ListN.{length, drop, getD};
 ghost use Rattle.text.specs.Scan.{newline, firstThat, lineNumber};
 ghost use Rattle.text.specs.Split.{lines, rowOf};
+ghost use Rattle.text.specs.Write.{Wrote};
 ghost use Rattle.sheet.specs.Words.{wordFields, readWord, wordsOf, memoryOf};
-ghost use Rattle.sheet.specs.Sheet.{foreign as Sheet·foreign, fileRefusal, wordsRefusal, readSheet};
+ghost use Rattle.sheet.specs.Sheet.{foreign as Sheet·foreign, fileRefusal, wordsRefusal, readSheet, refusalText};
 use memory::bytes::write;
 use setup::Setup;
 use setup::read_setup;
 use text::ask;
 use text::field::line_at;
 use text::number::is_digit;
+use text::print::put_byte;
+use text::print::put_decimal;
+use text::print::put_text;
 use text::row::all_wide;
 use text::row::read_row;
 use text::scan::count;
@@ -149,4 +151,17 @@ pub fn read_sheet(s: &[u8], mem: &mut [u8]) -> ReadSheet
     }
     let refusal = read_words(s, line.len() + 1, 2, mem);
     ReadSheet { refusal, setup }
+}
+
+// "sheet,", the question, the line number and the line's end, from the buffer's start on.
+pub fn put_refusal(buffer: &mut [u8], question: u64, lineno: u64) -> usize
+    requires { ⌜ 48 ≤ length (now buffer) ⌝ }
+    ensures { λ r. ⌜ Wrote (now (buffer .entry)) 0 (refusalText question lineno) (now (buffer .exit)) r ⌝ }
+    ensures { λ r. ⌜ r ≤ 48 ⌝ }
+{
+    let a = put_text(buffer, 0, b"sheet,");
+    let b = put_decimal(buffer, a, question);
+    let c = put_byte(buffer, b, b',');
+    let d = put_decimal(buffer, c, lineno);
+    put_byte(buffer, d, b'\n')
 }

@@ -25,14 +25,14 @@ slice-aggregate-regions-of c = search needs
 regions-of-requires : tie.Need-regions-of-requires
 regions-of-requires c κs = search needs
 
-array-read-budget-of : tie.Need-array-read-budget-of
-array-read-budget-of c = search needs
+array-read-ask : tie.Need-array-read-ask
+array-read-ask c = search needs
 
-array-read-budget-of-2 : tie.Need-array-read-budget-of-2
-array-read-budget-of-2 c = search needs
+array-read-ask-2 : tie.Need-array-read-ask-2
+array-read-ask-2 c = search needs
 
-budget-of-requires : tie.Need-budget-of-requires
-budget-of-requires c κs = search needs
+ask-requires : tie.Need-ask-requires
+ask-requires c κs = search needs
 
 array-share-prefix-widths : tie.Need-array-share-prefix-widths
 array-share-prefix-widths c = search needs
@@ -58,14 +58,11 @@ permissions-in-range-requires c κs = search needs
 array-read-t18 : tie.Need-array-read-t18
 array-read-t18 c = search needs
 
-array-read-ask : tie.Need-array-read-ask
-array-read-ask c = search needs
+array-read-ask-3 : tie.Need-array-read-ask-3
+array-read-ask-3 c = search needs
 
-array-read-ask-2 : tie.Need-array-read-ask-2
-array-read-ask-2 c = search needs
-
-ask-requires : tie.Need-ask-requires
-ask-requires c κs = search needs
+array-read-ask-4 : tie.Need-array-read-ask-4
+array-read-ask-4 c = search needs
 
 ask-requires-2 : tie.Need-ask-requires-2
 ask-requires-2 c κs = search needs
@@ -73,22 +70,24 @@ ask-requires-2 c κs = search needs
 ask-requires-3 : tie.Need-ask-requires-3
 ask-requires-3 c κs = search needs
 
+ask-requires-4 : tie.Need-ask-requires-4
+ask-requires-4 c κs = search needs
+
 returns : tie.Need-returns
 unfolding readSetup
 returns c =
     let r = c .before .before .before .before .before .before .before .before .before .before .before .read-row in
-    let line = c .before .before .before .before .before .before .before .before .before .before .before .before .before .before .before .args .line .now in
     let row = rowWith (r .result) (r .last .1 .0) (r .last .1 .1 .0) in
     rw (
-      c .ask3 .ensures,
-      c .before .ask2 .ensures,
-      c .before .before .ask .ensures,
+      c .ask4 .ensures,
+      c .before .ask3 .ensures,
+      c .before .before .ask2 .ensures,
       c .before .before .before .permissions-in-range .ensures,
       c .before .before .before .before .all-wide .ensures,
-      c .before .before .before .before .before .before .budget-of .ensures,
+      c .before .before .before .before .before .before .ask .ensures,
       c .before .before .before .before .before .before .before .regions-of .ensures,
     )
-    (ap readSetup (row-in setupFields line row (r .ensures)))
+    (ap readSetup (row-in setupFields (c .before .before .before .before .before .before .before .before .before .before .before .before .before .before .before .args .line .now) row (r .ensures)))
 
 pub read-setup-spec : {M : Type 1} → statement M
 read-setup-spec =
@@ -99,9 +98,9 @@ read-setup-spec =
     read-row-requires
     slice-aggregate-regions-of
     regions-of-requires
-    array-read-budget-of
-    array-read-budget-of-2
-    budget-of-requires
+    array-read-ask
+    array-read-ask-2
+    ask-requires
     array-share-prefix-widths
     slice-aggregate-all-wide
     all-wide-requires
@@ -109,9 +108,9 @@ read-setup-spec =
     array-read-range
     permissions-in-range-requires
     array-read-t18
-    array-read-ask
-    array-read-ask-2
-    ask-requires
+    array-read-ask-3
+    array-read-ask-4
     ask-requires-2
     ask-requires-3
+    ask-requires-4
     returns)

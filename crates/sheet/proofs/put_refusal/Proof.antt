@@ -1,8 +1,8 @@
--- `print::put_refusal` meets its contract: one text after another.
+-- `put_refusal` meets its contract: one text after another.
 use borrow.Author.Needs.{needs}
 use Rattle.text.proofs.Writing.{wrote-then}
-use Rattle.sheet.proofs.print.put_refusal.Statement.{statement}
-use Rattle.sheet.proofs.print.put_refusal.Tie as tie
+use Rattle.sheet.proofs.put_refusal.Statement.{statement}
+use Rattle.sheet.proofs.put_refusal.Tie as tie
 
 slice-aggregate-put-text : tie.Need-slice-aggregate-put-text
 slice-aggregate-put-text c = search needs

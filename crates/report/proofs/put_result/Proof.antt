@@ -1,12 +1,12 @@
--- `print::put_result` meets its contract: the result's row, then the registers' rows.
+-- `put_result` meets its contract: the result's row, then the registers' rows.
 use mathlib.Core.Path.{sym}
 use mathlib.Core.List.{[], _∷_}
 use borrow.Author.Needs.{needs}
 use Rattle.text.proofs.Writing.{wrote-then, wrote-as}
 use Rattle.report.proofs.Laws.{rows-append}
-use Rattle.report.specs.Print.{resultRow, registerRows}
-use Rattle.report.proofs.print.put_result.Statement.{statement}
-use Rattle.report.proofs.print.put_result.Tie as tie
+use Rattle.report.specs.Report.{resultRow, registerRows}
+use Rattle.report.proofs.put_result.Statement.{statement}
+use Rattle.report.proofs.put_result.Tie as tie
 
 put-result-row-requires : tie.Need-put-result-row-requires
 put-result-row-requires c κs = search needs

@@ -1,8 +1,8 @@
--- `print::put_field` meets its contract: the comma, then the number.
+-- `put_field` meets its contract: the comma, then the number.
 use borrow.Author.Needs.{needs}
 use Rattle.text.proofs.Writing.{wrote-then}
-use Rattle.report.proofs.print.put_field.Statement.{statement}
-use Rattle.report.proofs.print.put_field.Tie as tie
+use Rattle.report.proofs.put_field.Statement.{statement}
+use Rattle.report.proofs.put_field.Tie as tie
 
 put-byte-requires : tie.Need-put-byte-requires
 put-byte-requires c κs = search needs

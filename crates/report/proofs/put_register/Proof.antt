@@ -1,9 +1,9 @@
--- `print::put_register` meets its contract: nothing for a zero, else the line.
+-- `put_register` meets its contract: nothing for a zero, else the line.
 use borrow.Author.Tests.{eq-eqb, ne-eqb}
 use borrow.Author.Needs.{needs}
 use Rattle.text.proofs.Writing.{wrote-then, wrote-none}
-use Rattle.report.proofs.print.put_register.Statement.{statement}
-use Rattle.report.proofs.print.put_register.Tie as tie
+use Rattle.report.proofs.put_register.Statement.{statement}
+use Rattle.report.proofs.put_register.Tie as tie
 
 returns : tie.Need-returns
 returns c = (rw (eq-eqb (c .before .before .args .v) 0 (c .if1 .taken)) wrote-none, search needs)

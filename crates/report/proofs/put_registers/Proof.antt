@@ -1,4 +1,4 @@
--- `print::put_registers` meets its contract: writing the lines of the registers from i on, here, comes to writing all lines there.
+-- `put_registers` meets its contract: writing the lines of the registers from i on, here, comes to writing all lines there.
 use mathlib.Core.Path.{_≡_}
 use Prim.Native.Nat.{_+_, _-_, _*_, _≤_, _<_}
 use native.Mathlib.Omega.{arith}
@@ -6,9 +6,9 @@ use lib.ListN.{length, drop}
 use borrow.Author.Needs.{needs}
 use Rattle.text.specs.Split.{joinRows}
 use Rattle.report.proofs.Laws.{registers-on, registers-off, Remaining, remaining-all, remaining-on, remaining-none}
-use Rattle.report.specs.Print.{registerRows}
-use Rattle.report.proofs.print.put_registers.Statement.{statement}
-use Rattle.report.proofs.print.put_registers.Tie as tie
+use Rattle.report.specs.Report.{registerRows}
+use Rattle.report.proofs.put_registers.Statement.{statement}
+use Rattle.report.proofs.put_registers.Tie as tie
 
 abbrev Inv-loop : tie.InvT-loop
 Inv-loop buffer₀ start x at₀ i₀ buffer at i =

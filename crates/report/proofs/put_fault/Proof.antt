@@ -1,8 +1,8 @@
--- `print::put_fault` meets its contract: one field after another.
+-- `put_fault` meets its contract: one field after another.
 use borrow.Author.Needs.{needs}
 use Rattle.text.proofs.Writing.{wrote-then}
-use Rattle.report.proofs.print.put_fault.Statement.{statement}
-use Rattle.report.proofs.print.put_fault.Tie as tie
+use Rattle.report.proofs.put_fault.Statement.{statement}
+use Rattle.report.proofs.put_fault.Tie as tie
 
 put-field-requires : tie.Need-put-field-requires
 put-field-requires c κs = search needs

@@ -1,8 +1,8 @@
--- `print::put_result_row` meets its contract: one field after another, then the line's end.
+-- `put_result_row` meets its contract: one field after another, then the line's end.
 use borrow.Author.Needs.{needs}
 use Rattle.text.proofs.Writing.{wrote-then}
-use Rattle.report.proofs.print.put_result_row.Statement.{statement}
-use Rattle.report.proofs.print.put_result_row.Tie as tie
+use Rattle.report.proofs.put_result_row.Statement.{statement}
+use Rattle.report.proofs.put_result_row.Tie as tie
 
 put-decimal-requires : tie.Need-put-decimal-requires
 put-decimal-requires c κs = search needs
