@@ -19,7 +19,7 @@ use text::field::field_number;
 use text::field::line_at;
 use text::number::number;
 use text::print::put_hexadecimal;
-use text::scan::place;
+use text::scan::position;
 use text::scan::rest;
 
 // A comma and the number, in hexadecimal.
@@ -29,12 +29,12 @@ fn print_field(n: u64) {
     print(&room[..end]);
 }
 
-// Where the line after the one at a place begins; the text's end where there is none.
+// Where the line after the one at a position begins; the text's end where there is none.
 fn next_line(s: &[u8], at: usize) -> usize
     ensures { λ r. ⌜ (r ≤ length (now (s .entry))) × (at ≤ length (now (s .entry)) → at ≤ r) × (at < length (now (s .entry)) → at < r) ⌝ }
 {
     let line = rest(s, at);
-    let n = place(line, b'\n');
+    let n = position(line, b'\n');
     if n < line.len() {
         return at + n + 1;
     }
@@ -219,7 +219,7 @@ fn print_answer(o: Ran) {
     print_registers(x);
 }
 
-// Makes the call of four lines, whose first begins at a place, and prints what it left.
+// Makes the call of four lines, whose first begins at a position, and prints what it left.
 fn show(s: &[u8], at: usize) {
     let state = next_line(s, at);
     let x = next_line(s, state);
@@ -237,7 +237,7 @@ fn show(s: &[u8], at: usize) {
     print_memory(&mem);
 }
 
-// Where the call after the one that begins at a place begins, five lines on.
+// Where the call after the one that begins at a position begins, five lines on.
 fn next_call(s: &[u8], at: usize) -> usize
     ensures { λ r. ⌜ (r ≤ length (now (s .entry))) × (at < length (now (s .entry)) → at < r) ⌝ }
 {

@@ -1,18 +1,18 @@
 // Stored records in fixed columns, for the programs that run published vectors. A record is one line of a file, as long as
-// every other line of it, and each of its fields stands at a fixed place of the line, padded with spaces.
+// every other line of it, and each of its fields stands at a fixed position of the line, padded with spaces.
 ghost use mathlib.Core.Path.{_≡_};
 ghost use lib.ListN.{take, drop};
 ghost use Rattle.io.specs.Counts.{Counts};
-ghost use Rattle.text.specs.Scan.{place as Scan·place};
+ghost use Rattle.text.specs.Scan.{firstThat, is};
 ghost use Rattle.text.specs.Number.{number as Number·number};
 use input::Input;
 use libc::STDOUT_FILENO;
 use text::number::number;
 use text::scan::front;
-use text::scan::place;
+use text::scan::position;
 use text::scan::rest;
 
-// The n bytes from a place on, fewer where the text ends before.
+// The n bytes from a position on, fewer where the text ends before.
 pub fn column(s: &[u8], at: usize, n: usize) -> &[u8]
     ensures { λ r. ⌜ now r ≡ take n (drop at (now (s .entry))) ⌝ }
 {
@@ -28,9 +28,9 @@ pub fn hexadecimal_at(s: &[u8], at: usize, n: usize) -> u64
 
 // What stands before the first space.
 pub fn unpadded(s: &[u8]) -> &[u8]
-    ensures { λ r. ⌜ now r ≡ take (Scan·place 32 (now (s .entry))) (now (s .entry)) ⌝ }
+    ensures { λ r. ⌜ now r ≡ take (firstThat (is 32) (now (s .entry))) (now (s .entry)) ⌝ }
 {
-    front(s, place(s, b' '))
+    front(s, position(s, b' '))
 }
 
 // The three below write to standard output. What reaches it is left free: no contract can speak of it, and each program is

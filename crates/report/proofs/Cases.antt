@@ -11,17 +11,17 @@ use Rattle.model.specs.Hfi.{hfiStop, hWordStop, hfiPerform}
 use Rattle.model.specs.Outcome.{allowed, aligned, settle}
 use Rattle.model.specs.Regions.{explicitRule, matches, firstMatch, implicitGrants, explicitGrants}
 use Rattle.model.specs.Run.{runBy, runCall}
-use Rattle.model.specs.Step.{load as Step·load, store, jump, branch, perform, executeWord, step}
+use Rattle.model.specs.Step.{load, store, jump, branch, perform, executeWord, step}
 use Rattle.model.specs.WellFormed.{stateFits, wellFormed}
 use Rattle.text.specs.Number.{spelled, digits}
 use Rattle.text.specs.Ascii.{ascii}
 use Rattle.text.specs.Scan.{firstThat, count}
-use Rattle.text.specs.Split.{split, allWide}
-use Rattle.sheet.specs.Questions.{fileNo, permissionsFit, setupNo, wordNo}
-use Rattle.sheet.specs.Read.{load, readLines, readSheet, blank}
+use Rattle.text.specs.Split.{split, rowOf, allWide}
+use Rattle.setup.specs.Setup.{permissionsInRange, readSetup}
+use Rattle.sheet.specs.Words.{readWord, memoryOf, blank}
+use Rattle.sheet.specs.Sheet.{fileNo, wordsRefusal, linesRefusal, sheetRefusal}
 use Rattle.sheet.proofs.Cases.{lineOne, words}
-use Rattle.report.specs.Print.{registerRows}
-use Rattle.report.specs.Report.{reportOver, report}
+use Rattle.report.specs.Report.{registerRows, reportOver, report}
 
 -- a sheet, and what is printed of it
 abbrev pub rows : List (List ℕ × List ℕ)
@@ -40,10 +40,10 @@ abbrev pub reported : List (List ℕ × List ℕ) → List (List ℕ)
 reported [] = []
 reported (r ∷ rs) = report (r .0) ∷ reported rs
 
-abbrev pub printed : List (List ℕ × List ℕ) → List (List ℕ)
-printed [] = []
-printed (r ∷ rs) = r .1 ∷ printed rs
+abbrev pub expected : List (List ℕ × List ℕ) → List (List ℕ)
+expected [] = []
+expected (r ∷ rs) = r .1 ∷ expected rs
 
-pub rows-hold : reported rows ≡ printed rows
-unfolding report reportOver registerRows readSheet readLines load blank fileNo permissionsFit setupNo wordNo split allWide firstThat count spelled digits runCall runBy step executeWord perform branch jump store Step·load stateFits wellFormed explicitRule matches firstMatch implicitGrants explicitGrants allowed aligned settle hfiStop hWordStop hfiPerform value written scan firstRefused firstAbsent verdict decodeWord sext trailingZeros
+pub rows-hold : reported rows ≡ expected rows
+unfolding report reportOver registerRows sheetRefusal linesRefusal wordsRefusal readWord rowOf memoryOf blank fileNo permissionsInRange readSetup split allWide firstThat count spelled digits runCall runBy step executeWord perform branch jump store load stateFits wellFormed explicitRule matches firstMatch implicitGrants explicitGrants allowed aligned settle hfiStop hWordStop hfiPerform value written scan firstRefused firstAbsent verdict decodeWord sext trailingZeros
 rows-hold = refl

@@ -10,7 +10,7 @@ use Rattle.text.specs.Scan.{newline}
 use Rattle.text.specs.Split.{joinRow, joinRows}
 use Rattle.text.specs.Write.{Wrote}
 use Rattle.text.proofs.Writing.{wrote-on}
-use Rattle.report.specs.Print.{registerRow, registerRows}
+use Rattle.report.specs.Report.{registerRow, registerRows}
 
 pub rows-append : (rs qs : List (List (List ℕ))) → joinRows (rs ++ qs) ≡ joinRows rs ++ joinRows qs
 rows-append [] qs = refl
@@ -29,23 +29,23 @@ unfolding registerRows
 registers-off i x h = ap (λ l. joinRows (registerRows i l)) (drop-of-length-le x h)
 
 -- ---- writing the rest here comes to writing the whole there
-pub record Left (old : List ℕ) (start : ℕ) (whole new : List ℕ) (at : ℕ) (rest : List ℕ) : Type 0 where
+pub record Remaining (old : List ℕ) (start : ℕ) (whole new : List ℕ) (at : ℕ) (rest : List ℕ) : Type 0 where
   pub stores : sets new at rest ≡ sets old start whole
   pub ends : at + length rest ≡ start + length whole
 
-pub left-all : {old whole : List ℕ} {start : ℕ} → Left old start whole old start whole
-left-all = record { stores = refl; ends = refl }
+pub remaining-all : {old whole : List ℕ} {start : ℕ} → Remaining old start whole old start whole
+remaining-all = record { stores = refl; ends = refl }
 
-pub left-on : {old whole new next rest s t : List ℕ} {start at end : ℕ} → Left old start whole new at rest → rest ≡ s ++ t
-    → Wrote new at s next end → Left old start whole next end t
-left-on {new = new} {s = s} {t = t} {at = at} l e w =
+pub remaining-on : {old whole new next rest s t : List ℕ} {start at end : ℕ} → Remaining old start whole new at rest → rest ≡ s ++ t
+    → Wrote new at s next end → Remaining old start whole next end t
+remaining-on {new = new} {s = s} {t = t} {at = at} l e w =
     record {
       stores = wrote-on w t ∙ ap (sets new at) (sym e) ∙ l .stores;
       ends = omega (arith, w .after, ap length e, length-append s t, l .ends);
     }
 
-pub left-none : {old whole new rest : List ℕ} {start at : ℕ} → Left old start whole new at rest → rest ≡ [] → Wrote old start whole new at
-left-none {new = new} {at = at} l e =
+pub remaining-none : {old whole new rest : List ℕ} {start at : ℕ} → Remaining old start whole new at rest → rest ≡ [] → Wrote old start whole new at
+remaining-none {new = new} {at = at} l e =
     record {
       stored = ap (sets new at) (sym e) ∙ l .stores;
       after = omega (arith, l .ends, ap length e);

@@ -13,9 +13,9 @@ use Rattle.text.specs.Number.{decimal, hexadecimal}
 use Rattle.text.proofs.RoundTrip.{Clean, rows-same, decimal-free, hexadecimal-free, decimal-same, hexadecimal-same}
 use Rattle.model.specs.declared.Fault.{Fault}
 use Rattle.model.specs.declared.Ran.{Ran}
-use Rattle.sheet.specs.Print.{refusal}
+use Rattle.sheet.specs.Sheet.{refusalText}
 use Rattle.sheet.proofs.Refusals.{row, row-clean, refusal-row}
-use Rattle.report.specs.Print.{resultRow, registerRows, resultText}
+use Rattle.report.specs.Report.{resultRow, registerRows, resultText}
 
 -- ---- what code can hold: 64 bits in each number, 32 registers
 pub record Held (r : Ran) : Type 0 where
@@ -31,7 +31,7 @@ pub record Held (r : Ran) : Type 0 where
   pub long : length (r .machine .x) ≡ 32
   pub registers : (i : ℕ) → getD (r .machine .x) i 0 < 2 ^ 64
 
--- ---- everything that is printed of two answers is the same
+-- ---- everything that is printed of two results is the same
 pub record Same (r q : Ran) : Type 0 where
   pub stop : r .stop ≡ q .stop
   pub count : r .count ≡ q .count
@@ -94,7 +94,7 @@ registers-clean i (v ∷ vs) = by (eqb v 0) (registers-clean (i + 1) vs)
         let b = hexadecimal-free v in
         (lit≤ tt, (a .0, (b .0, tt)), (a .1, (b .1, tt)), g)
 
--- ---- the whole answer
+-- ---- the whole result
 result-clean : (r : Ran) → Clean (resultRow r ∷ registerRows 0 (r .machine .x))
 result-clean r =
     let m = r .machine in
@@ -148,7 +148,7 @@ results-same r q h k e =
     }
 
 -- ---- and no result prints as a refusal: the first line of a result has nine fields, that of a refusal has three
-pub result-no-refusal : (r : Ran) (n l : ℕ) → resultText r ≡ refusal n l → ⊥
+pub result-no-refusal : (r : Ran) (n l : ℕ) → resultText r ≡ refusalText n l → ⊥
 result-no-refusal r n l e =
     let rows : resultRow r ∷ registerRows 0 (r .machine .x) ≡ row n l ∷ [] =
     rows-same (resultRow r ∷ registerRows 0 (r .machine .x)) (row n l ∷ []) (result-clean r) (row-clean n l) (e ∙ refusal-row n l) in

@@ -1,3 +1,1 @@
-pub mod Start
-pub mod Print
 pub mod Report

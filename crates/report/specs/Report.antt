@@ -1,33 +1,57 @@
--- The whole program of document 01, "The run sheet": the bytes that it prints for the bytes that it reads.
+-- The whole program of document 01, "The run sheet": the bytes that it prints for the bytes that it reads. A run is printed as rows
+-- of fields, each row on a line of its own.
+-- Fault and Ran are declared in model/src/lib.rt, Sheet in sheet/specs/Sheet.antt. Assumes nothing.
 use mathlib.Core.Bool.{cond}
-use mathlib.Core.List.{List, []}
-use Prim.Native.Nat.{ℕ}
+use mathlib.Core.List.{List, [], _∷_, _++_}
+use Prim.Native.Nat.{ℕ, _+_}
 use lib.Dec.{eqb}
-use lib.ListN.{getD}
-use Rattle.text.specs.Split.{lines, fields}
-use Rattle.sheet.specs.declared.SetupFields.{SetupFields}
-use Rattle.sheet.specs.Setup.{setupValues}
-use Rattle.sheet.specs.Read.{Loaded, readSheet, blank}
-use Rattle.sheet.specs.Print.{refusal}
+use Rattle.text.specs.Number.{decimal, hexadecimal}
+use Rattle.text.specs.Split.{joinRows}
+use Rattle.model.specs.declared.Fault.{Fault}
+use Rattle.model.specs.declared.Ran.{Ran}
 use Rattle.model.specs.Run.{runCall}
-use Rattle.report.specs.Start.{machineOf}
-use Rattle.report.specs.Print.{resultText}
+use Rattle.setup.specs.Setup.{machineOf}
+use Rattle.sheet.specs.Words.{memoryOf, blank}
+use Rattle.sheet.specs.Sheet.{Sheet, readSheet, refusalText}
 
--- the values of line 1
-abbrev pub setupOf : List ℕ → SetupFields
-setupOf s = setupValues (fields (getD (lines s) 0 []))
+-- "the fault record's occurred, region, op, address"
+abbrev pub faultFields : Fault → List (List ℕ)
+faultFields f = hexadecimal (f .occurred) ∷ hexadecimal (f .region) ∷ hexadecimal (f .op) ∷ hexadecimal (f .address) ∷ []
 
--- what is printed of the run over a memory that holds the words
-abbrev pub told : SetupFields → List ℕ → List ℕ
-told s mem = resultText (runCall (machineOf s) mem (s .budget) .result)
+-- "number (decimal), steps, pc, reason, exit pc, and the fault record's occurred, region, op, address"; "All else is hexadecimal
+-- without leading zeros."
+abbrev pub resultRow : Ran → List (List ℕ)
+resultRow r =
+    decimal (r .stop)
+    ∷ hexadecimal (r .count)
+    ∷ hexadecimal (r .machine .pc)
+    ∷ hexadecimal (r .machine .hfi .reason)
+    ∷ hexadecimal (r .machine .hfi .epc)
+    ∷ faultFields (r .machine .hfi .fault)
 
--- "The first no is printed as one line"; "Otherwise it prints" the run's answer
-abbrev pub concluded : List ℕ → Loaded → List ℕ
-concluded s o = cond (eqb (o .verdict .number) 0) (told (setupOf s) (o .memory)) (refusal (o .verdict .number) (o .verdict .line))
+-- "each non-zero register .. as number (decimal), value"
+abbrev pub registerRow : ℕ → ℕ → List (List (List ℕ))
+registerRow i v = cond (eqb v 0) [] ((decimal i ∷ hexadecimal v ∷ []) ∷ [])
 
--- a sheet over a memory
+-- "rising": the registers from register i on
+unfoldable pub registerRows : ℕ → List ℕ → List (List (List ℕ))
+registerRows i [] = []
+registerRows i (v ∷ vs) = registerRow i v ++ registerRows (i + 1) vs
+
+-- "Otherwise it prints": the result, "then each non-zero register"
+abbrev pub resultText : Ran → List ℕ
+resultText r = joinRows (resultRow r ∷ registerRows 0 (r .machine .x))
+
+-- what is printed of a sheet whose words are placed over a memory: "The first no is printed as one line"; "Otherwise it prints"
+-- the result of the run
+abbrev pub printed : List ℕ → Sheet → List ℕ
+printed mem h =
+    cond (eqb (h .refusal .question) 0)
+    (resultText (runCall (machineOf (h .setup)) (memoryOf mem (h .words)) (h .setup .budget) .result))
+    (refusalText (h .refusal .question) (h .refusal .lineno))
+
 unfoldable pub reportOver : List ℕ → List ℕ → List ℕ
-reportOver mem s = concluded s (readSheet mem s)
+reportOver mem s = printed mem (readSheet s)
 
 -- "Memory is 65,536 zero bytes before the words are placed"
 unfoldable pub report : List ℕ → List ℕ

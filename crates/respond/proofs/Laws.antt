@@ -10,33 +10,34 @@ use Rattle.text.specs.Write.{Wrote}
 use Rattle.text.proofs.Writing.{wrote-parts}
 use Rattle.model.specs.declared.Machine.{Machine}
 use Rattle.model.specs.declared.Ran.{Ran}
-use Rattle.model.specs.Run.{runCall, ranWith}
-use Rattle.sheet.specs.declared.SetupFields.{SetupFields}
-use Rattle.sheet.specs.declared.Verdict.{Verdict}
-use Rattle.sheet.specs.Read.{loaded, readSheet}
-use Rattle.sheet.specs.Print.{refusal}
-use Rattle.report.specs.Start.{machineOf}
-use Rattle.report.specs.Print.{resultText}
-use Rattle.report.specs.Report.{setupOf, told, concluded, reportOver}
+use Rattle.model.specs.Run.{ranWith, runCall}
+use Rattle.setup.specs.Setup.{machineOf}
+use Rattle.sheet.specs.declared.ReadSheet.{ReadSheet}
+use Rattle.sheet.specs.Words.{memoryOf}
+use Rattle.sheet.specs.Sheet.{readSheet, refusalText}
+use Rattle.report.specs.Report.{resultText, reportOver}
 use Rattle.respond.specs.Answered.{Answered}
 
--- ---- the sheet s was read over a memory, with the verdict v, and left the memory `next`
-module _ (mem s : List ℕ) (v : Verdict) (next : List ℕ) (e : loaded v next ≡ readSheet mem s) where
-  pub report-no : (v .number ≡ 0 → ⊥) → refusal (v .number) (v .line) ≡ reportOver mem s
+-- ---- the sheet s was read over a memory
+module _ (mem s : List ℕ) (h : ReadSheet) (e : h .refusal ≡ readSheet s .refusal) where
+  pub report-refused : (h .refusal .question ≡ 0 → ⊥) → refusalText (h .refusal .question) (h .refusal .lineno) ≡ reportOver mem s
   unfolding reportOver
-  report-no h = let k : concluded s (loaded v next) ≡ refusal (v .number) (v .line) = rw (ne-eqb (v .number) 0 h) in
-      sym k ∙ ap (concluded s) e
+  report-refused n =
+      let y : readSheet s .refusal .question ≡ 0 → ⊥ = λ z. n (ap (λ r. r .question) e ∙ z) in
+      ap (λ r. refusalText (r .question) (r .lineno)) e ∙ sym (rw (ne-eqb (readSheet s .refusal .question) 0 y))
 
-  pub report-yes : (setup : SetupFields) (m : Machine) (r : Ran) (last : List ℕ) → v .number ≡ 0 → setup ≡ setupOf s → m ≡ machineOf setup
-      → ranWith r last ≡ runCall m next (setup .budget) → resultText r ≡ reportOver mem s
+  -- it is run over the memory `filled`, which has its words
+  pub report-run : (filled last : List ℕ) (m : Machine) (r : Ran) → h .refusal .question ≡ 0 → h .setup ≡ readSheet s .setup
+      → filled ≡ memoryOf mem (readSheet s .words) → m ≡ machineOf (h .setup) → ranWith r last ≡ runCall m filled (h .setup .budget)
+      → resultText r ≡ reportOver mem s
   unfolding reportOver
-  report-yes setup m r last h f g a =
-      let k : concluded s (loaded v next) ≡ told (setupOf s) next = rw (eq-eqb (v .number) 0 h) in
+  report-run filled last m r z t f g a =
+      let y : readSheet s .refusal .question ≡ 0 = sym (ap (λ r. r .question) e) ∙ z in
       ap (λ o. resultText (o .result)) a
-      ∙ ap (λ n. resultText (runCall n next (setup .budget) .result)) g
-      ∙ ap (λ t. told t next) f
-      ∙ sym k
-      ∙ ap (concluded s) e
+      ∙ ap (λ n. resultText (runCall n filled (h .setup .budget) .result)) g
+      ∙ ap (λ k. resultText (runCall (machineOf k) filled (k .budget) .result)) t
+      ∙ ap (λ k. resultText (runCall (machineOf (readSheet s .setup)) k (readSheet s .setup .budget) .result)) f
+      ∙ sym (rw (eq-eqb (readSheet s .refusal .question) 0 y))
 
 -- ---- a text was written from the start of a buffer that has room for it
 pub answered : (old text new : List ℕ) (r : ℕ) → Wrote old 0 text new r → r ≤ length old

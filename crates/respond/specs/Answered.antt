@@ -1,4 +1,4 @@
--- What an answer leaves in a buffer.
+-- What an answer leaves in a buffer. Assumes nothing.
 use mathlib.Core.Path.{_≡_}
 use mathlib.Core.List.{List, _++_}
 use Prim.Native.Nat.{ℕ}

@@ -4,34 +4,32 @@ ghost use Prim.Native.Nat.{_≤_};
 ghost use lib.ListN.{length, take};
 ghost use Rattle.report.specs.Report.{report, reportOver};
 ghost use Rattle.respond.specs.Answered.{Answered};
-use report::print::put_answer;
-use report::start::machine_of;
+use report::put_result;
 use run::run_call;
-use sheet::load::read_sheet;
-use sheet::print::refuse;
-use sheet::setup::setup_values;
-use text::field::line_at;
+use setup::machine_of;
+use sheet::put_refusal;
+use sheet::read_sheet;
 
-// Room for every answer: 157 bytes for the first line, 38 for each of 32 registers.
+// Room for every report: 157 bytes for the first line, 38 for each of 32 registers.
 pub const MOST: usize = 1373;
 
-// Reads the sheet over a memory, runs it there and writes the answer, from the buffer's start on.
+// Reads the sheet over a memory, runs it there and writes the report, from the buffer's start on.
 fn respond_over(input: &[u8], output: &mut [u8], mem: &mut [u8; 65536]) -> usize
     requires { ⌜ 1373 ≤ length (now output) ⌝ }
     ensures { λ r. ⌜ Answered (now (output .entry)) (reportOver (now (mem .entry)) (now (input .entry))) (now (output .exit)) r ⌝ }
     ensures { λ r. ⌜ (r ≤ length (now (output .exit))) × (r ≡ length (take r (now (output .exit)))) ⌝ }
 {
-    let v = read_sheet(input, mem);
-    let no = v.number;
-    if no != 0 {
-        return refuse(output, no, v.line);
+    let sheet = read_sheet(input, mem);
+    let refusal = sheet.refusal;
+    if refusal.question != 0 {
+        return put_refusal(output, refusal.question, refusal.lineno);
     }
-    let setup = setup_values(line_at(input, 0));
+    let setup = sheet.setup;
     let r = run_call(machine_of(setup), mem, setup.budget);
-    put_answer(output, r)
+    put_result(output, r)
 }
 
-// The answer to a sheet, over a memory of 65,536 zero bytes. The result is the number of bytes written.
+// The report of a sheet, over a memory of 65,536 zero bytes. The result is the number of bytes written.
 // The second clause follows from the first; it is said so that a program's `&output[..r]` needs no proof.
 pub fn respond(input: &[u8], output: &mut [u8; MOST]) -> usize
     ensures { λ r. ⌜ Answered (now (output .entry)) (report (now (input .entry))) (now (output .exit)) r ⌝ }

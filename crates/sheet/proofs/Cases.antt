@@ -7,21 +7,21 @@ use lib.Dec.{eqb}
 use lib.ListN.{take, replicate}
 use Rattle.text.specs.Ascii.{ascii}
 use Rattle.text.specs.Scan.{firstThat, count}
-use Rattle.text.specs.Split.{split, allWide, fields}
+use Rattle.text.specs.Split.{split, rowOf, allWide}
 use Rattle.text.specs.Number.{spelled, digits}
-use Rattle.sheet.specs.Setup.{setupValues}
-use Rattle.sheet.specs.Questions.{fileNo, permissionsFit, setupNo, wordNo, verdict}
-use Rattle.sheet.specs.Read.{load, readLines, readSheet}
-use Rattle.sheet.specs.Print.{refusal}
+use Rattle.model.specs.Bytes.{written}
+use Rattle.setup.specs.Setup.{permissionsInRange, readSetup}
+use Rattle.sheet.specs.Words.{readWord, memoryOf}
+use Rattle.sheet.specs.Sheet.{fileNo, wordsRefusal, linesRefusal, sheetRefusal, readSheet, refusalText}
 
--- a sheet, and the number and the line that it is refused with
+-- a sheet, and the question and the line number that it is refused with
 pub record Row : Type 0 where
   pub sheet : List ℕ
-  pub number : ℕ
-  pub line : ℕ
+  pub question : ℕ
+  pub lineno : ℕ
 
 abbrev row : List ℕ → ℕ → ℕ → Row
-row s n l = record { sheet = s; number = n; line = l }
+row s n l = record { sheet = s; question = n; lineno = l }
 
 -- line 1 of the worked example
 abbrev pub lineOne : List ℕ
@@ -71,60 +71,29 @@ rows =
     ∷ row (lineOne ++ ascii "8,1\n4,1\n0\n") 35 3
     ∷ []
 
--- the verdict does not depend on what memory holds
 abbrev holds : Row → Bool
-holds r = eqb (readSheet [] (r .sheet) .verdict .number) (r .number) && eqb (readSheet [] (r .sheet) .verdict .line) (r .line)
+holds r =
+    let refusal = readSheet (r .sheet) .refusal in
+    eqb (refusal .question) (r .question) && eqb (refusal .lineno) (r .lineno)
 
 abbrev pub all : List Row → Bool
 all [] = true
 all (r ∷ rs) = holds r && all rs
 
 pub rows-hold : all rows ≡ true
-unfolding readSheet readLines load fileNo setupNo wordNo permissionsFit firstThat count split allWide spelled
+unfolding sheetRefusal linesRefusal wordsRefusal fileNo readSetup readWord rowOf permissionsInRange firstThat count split allWide spelled
 rows-hold = refl
 
--- ---- document 01's whole example: its words in memory, the values of its line 1
+-- ---- document 01's whole example: its words in memory
 abbrev pub words : List ℕ
 words = ascii "0,00500513\n4,00a001ab\n8,0400005b\n"
 
-pub example-words : take 13 (readSheet (replicate 16 0) (lineOne ++ words) .memory)
+pub example-words : take 13 (memoryOf (replicate 16 0) (readSheet (lineOne ++ words) .words))
     ≡ 0x13 ∷ 0x05 ∷ 0x50 ∷ 0x00 ∷ 0xab ∷ 0x01 ∷ 0xa0 ∷ 0x00 ∷ 0x5b ∷ 0x00 ∷ 0x00 ∷ 0x04 ∷ 0x00 ∷ []
-unfolding readSheet readLines load fileNo setupNo wordNo permissionsFit firstThat count split allWide spelled
+unfolding memoryOf written rowOf split spelled
 example-words = refl
 
-pub example-setup : setupValues (fields (ascii "0,5,100,200,10,3,0,0,0,0,fffffffffffffff0,4,a"))
-    ≡ record {
-      pc = 0;
-      options = 5;
-      handler = 0x100;
-      regions =
-          record { base = 0x200; bound = 0x10; permission = 3 }
-          ∷ record { base = 0; bound = 0; permission = 0 }
-          ∷ record { base = 0; bound = 0xfffffffffffffff0; permission = 4 }
-          ∷ [];
-      budget = 10;
-    }
-unfolding split spelled
-example-setup = refl
-
--- the digits of the budget in line 1, and the budget: "an empty budget means 1,000"
-abbrev pub budgets : List (List ℕ × ℕ)
-budgets =
-    ([], 1000)
-    ∷ (ascii "0", 0)
-    ∷ (ascii "a", 10)
-    ∷ (ascii "ffffffff", 0xffffffff)
-    ∷ []
-
-abbrev pub allBudgets : List (List ℕ × ℕ) → Bool
-allBudgets [] = true
-allBudgets (b ∷ bs) = eqb (setupValues (fields (ascii "0,5,100,200,10,3,0,0,0,0,0,4," ++ b .0)) .budget) (b .1) && allBudgets bs
-
-pub budgets-hold : allBudgets budgets ≡ true
-unfolding split spelled
-budgets-hold = refl
-
 -- document 01's example of a refusal
-pub example-refusal : refusal 33 2 ≡ ascii "sheet,33,2\n"
+pub example-refusal : refusalText 33 2 ≡ ascii "sheet,33,2\n"
 unfolding digits
 example-refusal = refl

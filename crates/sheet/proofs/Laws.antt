@@ -1,49 +1,35 @@
--- How the sheet's definitions go on, and what a passed question gives.
+-- How the lines of a sheet go on, and what a passed question gives.
 use mathlib.Core.Path.{_≡_, refl, ap, sym, _∙_}
-use mathlib.Core.Bool.{true, _&&_}
+use mathlib.Core.Bool.{_&&_}
 use mathlib.Core.List.{List, [], _∷_}
-use Prim.Native.Nat.{ℕ, suc, _+_, _-_, _/_, _%_, _<_, _≤_}
+use Prim.Native.Nat.{ℕ, _+_, _-_, _%_, _<_, _≤_}
 use native.Mathlib.Omega.{arith}
 use lib.Dec.{eqb, leb}
-use lib.ListN.{length, getD, drop, set, drop-of-length-le}
-use lib.Seq.{sets}
+use lib.ListN.{length, getD, drop, drop-of-length-le}
 use borrow.Author.Tests.{leb-true, eqb-true, eq-eqb, ne-eqb}
 use Rattle.text.specs.Scan.{newline, count, lineNumber}
-use Rattle.text.specs.Split.{lines, fields}
+use Rattle.text.specs.Split.{lines, Row, rowOf}
 use Rattle.text.proofs.Asking.{left-half, right-half, yes-at}
 use Rattle.text.proofs.Splitting.{line-more, line-ends, line-counts, lines-none}
-use Rattle.sheet.specs.Setup.{value}
-use Rattle.sheet.specs.Questions.{verdict, fileQuestions, fileNo, fileVerdict, permissionsFit, setupNo, wordQuestions, wordNo}
-use Rattle.sheet.specs.Read.{lowBytes, placed, afterLine, loaded, accepted, load, readLines, readSheet}
+use Rattle.model.specs.Bytes.{written}
+use Rattle.setup.specs.Setup.{setupFields, readSetup}
+use Rattle.sheet.specs.declared.ReadWord.{ReadWord}
+use Rattle.sheet.specs.Words.{wordFields, wordOf, wordsOf, wordQuestions, readWord, memoryOf}
+use Rattle.sheet.specs.Sheet.{refusal, fileQuestions, fileNo, fileRefusal, wordsRefusal, linesRefusal, sheetRefusal}
 
--- ---- permissions: `left` regions are not asked yet
-pub permissions-on : (fs : List (List ℕ)) (k left : ℕ) → 0 < left
-    → permissionsFit fs k left ≡ leb (value fs (k + 2)) 0xff && permissionsFit fs (k + 3) (left - 1)
-unfolding permissionsFit
-permissions-on fs k left h = let e : left ≡ suc (left - 1) = omega arith in ap (permissionsFit fs k) e
+-- a word line that is read is the word line
+read-is : (least : ℕ) (r : Row) → (readWord least r .address ≡ wordOf r .address) × (readWord least r .word ≡ wordOf r .word)
+unfolding readWord
+read-is least r = (refl, refl)
 
-pub permissions-off : (fs : List (List ℕ)) (k left : ℕ) → left ≤ 0 → permissionsFit fs k left ≡ true
-unfolding permissionsFit
-permissions-off fs k left h = let e : left ≡ 0 = omega arith in ap (permissionsFit fs k) e
-
--- ---- a word's bytes: i of n are stored, v is what is left of the word
-pub bytes-on : (mem : List ℕ) (a n i v : ℕ) → i < n
-    → sets mem (a + i) (lowBytes (n - i) v) ≡ sets (set mem (a + i) (v % 256)) (a + (i + 1)) (lowBytes (n - (i + 1)) (v / 256))
-bytes-on mem a n i v h =
-    let e : n - i ≡ suc (n - (i + 1)) = omega arith in
-    let f : suc (a + i) ≡ a + (i + 1) = omega arith in
-    ap (λ k. sets mem (a + i) (lowBytes k v)) e ∙ ap (λ k. sets (set mem (a + i) (v % 256)) k (lowBytes (n - (i + 1)) (v / 256))) f
-
-pub bytes-off : (mem : List ℕ) (at n i v : ℕ) → n ≤ i → sets mem at (lowBytes (n - i) v) ≡ mem
-bytes-off mem at n i v h = let e : n - i ≡ 0 = omega arith in ap (λ k. sets mem at (lowBytes k v)) e
-
--- ---- what a passed word line gives: its word lies in memory
-pub word-fits : (least : ℕ) (fs : List (List ℕ)) → wordNo least fs ≡ 0 → value fs 0 ≤ 0xfffc
-unfolding wordNo
-word-fits least fs e =
-    let range = yes-at 2 (wordQuestions least fs) refl e in
-    let top = right-half (eqb (value fs 0 % 4) 0) (leb (value fs 0) 0xfffc && leb (value fs 1) 0xffffffff) range in
-    leb-true (value fs 0) 0xfffc (left-half (leb (value fs 0) 0xfffc) (leb (value fs 1) 0xffffffff) top)
+-- where it passes, its word lies in memory
+pub word-fits : (least : ℕ) (r : Row) → readWord least r .question ≡ 0 → readWord least r .address ≤ 0xfffc
+unfolding readWord
+word-fits least r e =
+    let w = wordOf r in
+    let range = yes-at 2 (wordQuestions least r w) refl e in
+    let top = right-half (eqb (w .address % 4) 0) (leb (w .address) 0xfffc && leb (w .word) 0xffffffff) range in
+    leb-true (w .address) 0xfffc (left-half (leb (w .address) 0xfffc) (leb (w .word) 0xffffffff) top)
 
 -- ---- what a passed file gives
 pub file-whole : (s : List ℕ) → fileNo s ≡ 0 → (1 ≤ length s) × (length s ≤ 65536) × (getD s (length s - 1) 0 ≡ newline)
@@ -59,65 +45,75 @@ file-whole s e =
       eqb-true (getD s (length s - 1) 0) newline (right-half few ended most),
     )
 
--- ---- memory after a word line
-pub line-yes : (least : ℕ) (fs : List (List ℕ)) (mem : List ℕ) → wordNo least fs ≡ 0 → afterLine least fs mem ≡ placed mem (value fs 0) (value fs 1)
-line-yes least fs mem z = rw (eq-eqb (wordNo least fs) 0 z)
+-- ---- the word lines from position `at` on: the line there is read as w
+module _ (s line : List ℕ) (at n least : ℕ) (w : ReadWord) (e : line ≡ getD (lines (drop at s)) 0 []) (h : at < length s) (j : w ≡ readWord least (rowOf wordFields line)) where
+  refused : wordsRefusal n least (lines (drop at s)) ≡ wordsRefusal n least (line ∷ lines (drop (at + length line + 1) s))
+  refused = ap (wordsRefusal n least) (line-more s line at e h)
 
-pub line-no : (least : ℕ) (fs : List (List ℕ)) (mem : List ℕ) → (wordNo least fs ≡ 0 → ⊥) → afterLine least fs mem ≡ mem
-line-no least fs mem z = rw (ne-eqb (wordNo least fs) 0 z)
+  pub refusal-on : w .question ≡ 0 → wordsRefusal (n + 1) (w .address + 1) (lines (drop (at + length line + 1) s)) ≡ wordsRefusal n least (lines (drop at s))
+  unfolding wordsRefusal
+  refusal-on z =
+      let y : readWord least (rowOf wordFields line) .question ≡ 0 = sym (ap (λ r. r .question) j) ∙ z in
+      ap (λ r. wordsRefusal (n + 1) (r .address + 1) (lines (drop (at + length line + 1) s))) j
+      ∙ sym (refused ∙ rw (eq-eqb (readWord least (rowOf wordFields line) .question) 0 y))
 
--- ---- the word lines from place `at` on: the line there answered `no` and left the memory `next`
-module _ (s line : List ℕ) (at n least no : ℕ) (mem next : List ℕ) (e : line ≡ getD (lines (drop at s)) 0 []) (h : at < length s)
-    (j : no ≡ wordNo least (fields line)) (m : next ≡ afterLine least (fields line) mem) where
-  pub load-on : (a : ℕ) → a ≡ value (fields line) 0 → no ≡ 0
-      → load (n + 1) (a + 1) next (lines (drop (at + length line + 1) s)) ≡ load n least mem (lines (drop at s))
-  unfolding load
-  load-on a f z =
-      let y : wordNo least (fields line) ≡ 0 = sym j ∙ z in
-      ap (λ k. load (n + 1) (k + 1) next (lines (drop (at + length line + 1) s))) f
-      ∙ ap (λ k. load (n + 1) (value (fields line) 0 + 1) k (lines (drop (at + length line + 1) s))) (m ∙ line-yes least (fields line) mem y)
-      ∙ sym (ap (load n least mem) (line-more s line at e h) ∙ rw (eq-eqb (wordNo least (fields line)) 0 y))
+  pub refusal-stop : (w .question ≡ 0 → ⊥) → refusal (w .question) n ≡ wordsRefusal n least (lines (drop at s))
+  unfolding wordsRefusal
+  refusal-stop z =
+      let y : readWord least (rowOf wordFields line) .question ≡ 0 → ⊥ = λ u. z (ap (λ r. r .question) j ∙ u) in
+      ap (λ r. refusal (r .question) n) j ∙ sym (refused ∙ rw (ne-eqb (readWord least (rowOf wordFields line) .question) 0 y))
 
-  pub load-stop : (no ≡ 0 → ⊥) → loaded (verdict no n) next ≡ load n least mem (lines (drop at s))
-  unfolding load
-  load-stop z =
-      let y : wordNo least (fields line) ≡ 0 → ⊥ = λ u. z (j ∙ u) in
-      ap (λ k. loaded (verdict k n) next) j
-      ∙ ap (loaded (verdict (wordNo least (fields line)) n)) (m ∙ line-no least (fields line) mem y)
-      ∙ sym (ap (load n least mem) (line-more s line at e h) ∙ rw (ne-eqb (wordNo least (fields line)) 0 y))
+  pub memory-on : (mem next : List ℕ) → next ≡ written mem (w .address) 0 4 (w .word)
+      → memoryOf next (wordsOf (lines (drop (at + length line + 1) s))) ≡ memoryOf mem (wordsOf (lines (drop at s)))
+  unfolding memoryOf
+  memory-on mem next m =
+      let a : w .address ≡ wordOf (rowOf wordFields line) .address = ap (λ r. r .address) j ∙ read-is least (rowOf wordFields line) .0 in
+      let b : w .word ≡ wordOf (rowOf wordFields line) .word = ap (λ r. r .word) j ∙ read-is least (rowOf wordFields line) .1 in
+      ap (λ k. memoryOf k (wordsOf (lines (drop (at + length line + 1) s))))
+      (m ∙ ap (λ k. written mem k 0 4 (w .word)) a ∙ ap (written mem (wordOf (rowOf wordFields line) .address) 0 4) b)
+      ∙ sym (ap (λ ls. memoryOf mem (wordsOf ls)) (line-more s line at e h))
 
-pub load-off : (s : List ℕ) (at n least : ℕ) (mem : List ℕ) → length s ≤ at → load n least mem (lines (drop at s)) ≡ loaded accepted mem
-unfolding load
-load-off s at n least mem h = ap (load n least mem) (ap lines (drop-of-length-le s h) ∙ lines-none)
+pub refusal-off : (s : List ℕ) (at n least : ℕ) → length s ≤ at → wordsRefusal n least (lines (drop at s)) ≡ refusal 0 0
+unfolding wordsRefusal
+refusal-off s at n least h = ap (wordsRefusal n least) (ap lines (drop-of-length-le s h) ∙ lines-none)
+
+pub memory-off : (s : List ℕ) (at : ℕ) (mem : List ℕ) → length s ≤ at → memoryOf mem (wordsOf (lines (drop at s))) ≡ mem
+unfolding memoryOf
+memory-off s at mem h = ap (λ ls. memoryOf mem (wordsOf ls)) (ap lines (drop-of-length-le s h) ∙ lines-none)
 
 -- ---- the whole sheet: refused as a file, refused at line 1, or read on from line 2
-module _ (s line mem : List ℕ) where
-  pub read-file : (fileNo s ≡ 0 → ⊥) → readSheet mem s ≡ loaded (fileVerdict s) mem
-  unfolding readSheet
-  read-file h = rw (ne-eqb (fileNo s) 0 h)
+pub sheet-file : (s : List ℕ) → (fileNo s ≡ 0 → ⊥) → sheetRefusal s ≡ fileRefusal s
+unfolding sheetRefusal
+sheet-file s h = rw (ne-eqb (fileNo s) 0 h)
 
-  first-line : line ≡ getD (lines (drop 0 s)) 0 [] → 0 < length s → lines s ≡ line ∷ lines (drop (length line + 1) s)
-  first-line e h =
+module _ (s line : List ℕ) (h : fileNo s ≡ 0) (e : line ≡ getD (lines s) 0 []) where
+  first-line : lines s ≡ line ∷ lines (drop (length line + 1) s)
+  first-line =
       let z : 0 + length line + 1 ≡ length line + 1 = omega arith in
-      line-more s line 0 e h ∙ ap (λ k. line ∷ lines (drop k s)) z
+      line-more s line 0 e (file-whole s h .0) ∙ ap (λ k. line ∷ lines (drop k s)) z
 
-  pub read-setup : fileNo s ≡ 0 → line ≡ getD (lines (drop 0 s)) 0 [] → (setupNo (fields line) ≡ 0 → ⊥)
-      → readSheet mem s ≡ loaded (verdict (setupNo (fields line)) 1) mem
-  unfolding readSheet readLines
-  read-setup h e j = rw (eq-eqb (fileNo s) 0 h) (ap (readLines mem) (first-line e (file-whole s h .0)) ∙ rw (ne-eqb _ 0 j))
+  refused-lines : sheetRefusal s ≡ linesRefusal (line ∷ lines (drop (length line + 1) s))
+  unfolding sheetRefusal
+  refused-lines = rw (eq-eqb (fileNo s) 0 h) (ap linesRefusal first-line)
 
-  pub read-words : fileNo s ≡ 0 → line ≡ getD (lines (drop 0 s)) 0 [] → setupNo (fields line) ≡ 0
-      → readSheet mem s ≡ load 2 0 mem (lines (drop (length line + 1) s))
-  unfolding readSheet readLines
-  read-words h e j = rw (eq-eqb (fileNo s) 0 h) (ap (readLines mem) (first-line e (file-whole s h .0)) ∙ rw (eq-eqb _ 0 j))
+  pub sheet-setup : (readSetup (rowOf setupFields line) .question ≡ 0 → ⊥) → sheetRefusal s ≡ refusal (readSetup (rowOf setupFields line) .question) 1
+  unfolding linesRefusal
+  sheet-setup j = refused-lines ∙ rw (ne-eqb _ 0 j)
+
+  pub sheet-words : readSetup (rowOf setupFields line) .question ≡ 0 → sheetRefusal s ≡ wordsRefusal 2 0 (lines (drop (length line + 1) s))
+  unfolding linesRefusal
+  sheet-words j = refused-lines ∙ rw (eq-eqb _ 0 j)
+
+  pub word-lines : drop 1 (lines s) ≡ lines (drop (length line + 1) s)
+  word-lines = ap (drop 1) first-line
 
   no-lines : lineNumber s 0 ≡ 1
   unfolding count
   no-lines = refl
 
   -- line 2 begins after the end of line 1
-  pub second-line : fileNo s ≡ 0 → line ≡ getD (lines (drop 0 s)) 0 [] → (length line + 1 ≤ length s) × (2 ≡ lineNumber s (length line + 1))
-  second-line h e =
+  pub second-line : (length line + 1 ≤ length s) × (2 ≡ lineNumber s (length line + 1))
+  second-line =
       let w = file-whole s h in
       let k : 0 + length line < length s = line-ends s line 0 e (w .0) (w .2) in
       let z : 0 + length line + 1 ≡ length line + 1 = omega arith in

@@ -7,13 +7,13 @@ use Rattle.text.specs.Scan.{count, newline, comma}
 use Rattle.text.specs.Split.{joinRows}
 use Rattle.text.specs.Number.{decimal}
 use Rattle.text.proofs.RoundTrip.{Clean, rows-same, decimal-free, decimal-same}
-use Rattle.sheet.specs.Print.{sheetWord, refusal}
+use Rattle.sheet.specs.Sheet.{sheetWord, refusalText}
 
 -- the line is one row of three fields
 abbrev pub row : ℕ → ℕ → List (List ℕ)
 row n l = sheetWord ∷ decimal n ∷ decimal l ∷ []
 
-pub refusal-row : (n l : ℕ) → refusal n l ≡ joinRows (row n l ∷ [])
+pub refusal-row : (n l : ℕ) → refusalText n l ≡ joinRows (row n l ∷ [])
 refusal-row n l = simp append-assoc
 
 word-free : (count comma sheetWord ≡ 0) × (count newline sheetWord ≡ 0)
@@ -26,7 +26,7 @@ row-clean n l =
     let b = decimal-free l in
     (lit≤ tt, (word-free .0, (a .0, (b .0, tt))), (word-free .1, (a .1, (b .1, tt))), tt)
 
-pub refusal-same : (n l m k : ℕ) → n < 2 ^ 64 → l < 2 ^ 64 → m < 2 ^ 64 → k < 2 ^ 64 → refusal n l ≡ refusal m k → (n ≡ m) × (l ≡ k)
+pub refusal-same : (n l m k : ℕ) → n < 2 ^ 64 → l < 2 ^ 64 → m < 2 ^ 64 → k < 2 ^ 64 → refusalText n l ≡ refusalText m k → (n ≡ m) × (l ≡ k)
 refusal-same n l m k hn hl hm hk e =
     let f : row n l ∷ [] ≡ row m k ∷ [] =
     rows-same (row n l ∷ []) (row m k ∷ []) (row-clean n l) (row-clean m k) (sym (refusal-row n l) ∙ e ∙ refusal-row m k) in

@@ -1,4 +1,2 @@
-pub mod Questions
-pub mod Setup
-pub mod Read
-pub mod Print
+pub mod Words
+pub mod Sheet

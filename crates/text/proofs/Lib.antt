@@ -1,6 +1,7 @@
 pub mod Scanning
 pub mod Splitting
 pub mod Numbers
+pub mod Rows
 pub mod Writing
 pub mod RoundTrip
 pub mod Asking

@@ -14,7 +14,7 @@ use Rattle.text.specs.Scan.{count}
 use Rattle.text.specs.Number.{digitValue, spelled, digitByte, digits}
 use Rattle.text.proofs.Scanning.{count-append}
 
--- ---- reading: v is spelled by the digits before place i
+-- ---- reading: v is spelled by the digits before position i
 pub spelled-on : (s : List ℕ) (i base v : ℕ) → i < length s
     → spelled base v (drop i s) ≡ spelled base (v * base + digitValue (getD s i 0)) (drop (i + 1) s)
 unfolding spelled
@@ -54,7 +54,7 @@ unfolding digits
 digits-none base k n e = ap (λ j. digits base j n) e
 
 -- What holds of the digits of every number: it holds of no digits, of one digit, and of one digit more.
--- P k n s speaks of the digits s of n, for which k places are given. All laws below are cases of this one induction.
+-- P k n s speaks of the digits s of n, for which k positions are given. All laws below are cases of this one induction.
 module _ (base : ℕ) (P : ℕ → ℕ → List ℕ → Type 0)
     (none : (n : ℕ) → P 0 n [])
     (one : (k n : ℕ) → n < base → P (suc k) n (digitByte n ∷ []))
@@ -156,21 +156,6 @@ spelled-digits base k n p q =
     ∙ ap (λ v. n / base * base + v) (value-byte (n % base) d)
     ∙ div-add-mod' n base)
     k n
-
--- ---- no digit too many: j + 1 digits for a number below base ^ (j + 1)
-short-more : (base n j b : ℕ) (s : List ℕ) → 0 < base → base ≤ n → ((i : ℕ) → n / base < base ^ suc i → length s ≤ suc i)
-    → n < base ^ suc j → length (s ++ (b ∷ [])) ≤ suc j
-short-more base n zero b s z l r h = let g : n < base = rw (pow-succ', pow-zero, mul-one) at h in let y : ⊥ = omega arith in absurd y
-short-more base n (suc j) b s z l r h = rw length-append (omega (arith, r j (fewer base (suc j) n z h)))
-
-pub digits-short : (base k j n : ℕ) → 1 < base → n < base ^ suc j → length (digits base k n) ≤ suc j
-digits-short base k j n p h =
-    let z : 0 < base = omega arith in
-    digits-ind base (λ k n s. (j : ℕ) → n < base ^ suc j → length s ≤ suc j)
-    (λ n j h. omega arith)
-    (λ k n l j h. omega arith)
-    (λ k n s l r j h. short-more base n j (digitByte (n % base)) s z l r h)
-    k n j h
 
 -- no leading zero: a number that is not 0 has a first digit, and that is not 0
 byte-zero : (t : Bool) (d : ℕ) → 0 < d → cond t (48 + d) (87 + d) ≡ 48 → ⊥

@@ -8,11 +8,11 @@ use lib.Dec.{eqb, lit<, lit≤}
 use lib.ListN.{length, getD}
 use borrow.Author.Tests.{eq-eqb, ne-eqb, le-leb}
 use Rattle.text.specs.Scan.{count, newline, comma}
-use Rattle.text.specs.Split.{push, split, lines, fields, joinLines, joinFields, joinRow, joinRows, rowsOf, wide}
+use Rattle.text.specs.Split.{push, split, lines, fields, joinFields, joinRow, joinRows, wide}
 use Rattle.text.specs.Number.{spelled, number, decimal, hexadecimal}
 use Rattle.text.proofs.Scanning.{count-append}
 use Rattle.text.proofs.Splitting.{lines-none}
-use Rattle.text.proofs.Numbers.{spelled-digits, digits-le, digits-some, digits-short, digits-without, digits-lead}
+use Rattle.text.proofs.Numbers.{spelled-digits, digits-le, digits-some, digits-without, digits-lead}
 
 -- ---- numbers: every 64-bit number reads back, in base 10 and in base 16
 pub decimal-back : (n : ℕ) → n < 2 ^ 64 → spelled 10 0 (decimal n) ≡ n
@@ -22,13 +22,10 @@ pub hexadecimal-back : (n : ℕ) → n < 2 ^ 64 → spelled 16 0 (hexadecimal n)
 hexadecimal-back n h = spelled-digits 16 16 n (lit< tt) (lit≤ tt) (omega arith)
 
 -- as the field of a line, which has at most 16 digits
-pub decimal-number : (n : ℕ) → n < 10 ^ 16 → number 10 (decimal n) ≡ n
-decimal-number n h = rw (le-leb (length (decimal n)) 16 (digits-short 10 20 15 n (lit< tt) h)) (decimal-back n (omega arith))
-
 pub hexadecimal-number : (n : ℕ) → n < 2 ^ 64 → number 16 (hexadecimal n) ≡ n
 hexadecimal-number n h = rw (le-leb (length (hexadecimal n)) 16 (digits-le 16 16 n)) (hexadecimal-back n h)
 
-pub hexadecimal-wide : (n : ℕ) → wide (hexadecimal n) ≡ true
+pub hexadecimal-wide : (n : ℕ) → wide (length (hexadecimal n)) ≡ true
 hexadecimal-wide n =
     rw (le-leb 1 (length (hexadecimal n)) (digits-some 16 16 n (lit< tt))) (le-leb (length (hexadecimal n)) 16 (digits-le 16 16 n))
 
@@ -81,21 +78,9 @@ field-alone (b ∷ bs) h = by (eqb b comma) h (λ k. field-alone bs k)
 pub line-then : (l s : List ℕ) → count newline l ≡ 0 → lines (l ++ (newline ∷ s)) ≡ l ∷ lines s
 line-then l s h = split-piece newline [] l s h
 
-pub lines-back : (ls : List (List ℕ)) → Free newline ls → lines (joinLines ls) ≡ ls
-unfolding split
-lines-back [] h = refl
-lines-back (l ∷ ls) h = line-then l (joinLines ls) (h .0) ∙ ap (λ k. l ∷ k) (lines-back ls (h .1))
-
 pub fields-back : (f : List ℕ) (gs : List (List ℕ)) → Free comma (f ∷ gs) → fields (joinFields f gs) ≡ f ∷ gs
 fields-back f [] h = field-alone f (h .0)
 fields-back f (g ∷ gs) h = split-piece comma ([] ∷ []) f (joinFields g gs) (h .0) ∙ ap (λ k. f ∷ k) (fields-back g gs (h .1))
-
--- so two lists of lines, or of fields, never join to the same bytes
-pub lines-same : (ls ms : List (List ℕ)) → Free newline ls → Free newline ms → joinLines ls ≡ joinLines ms → ls ≡ ms
-lines-same ls ms h k e = sym (lines-back ls h) ∙ ap lines e ∙ lines-back ms k
-
-pub fields-same : (f g : List ℕ) (fs gs : List (List ℕ)) → Free comma (f ∷ fs) → Free comma (g ∷ gs) → joinFields f fs ≡ joinFields g gs → f ∷ fs ≡ g ∷ gs
-fields-same f g fs gs h k e = sym (fields-back f fs h) ∙ ap fields e ∙ fields-back g gs k
 
 -- ---- rows: a text of lines, each of fields, reads back as its rows
 comma-without : (c : ℕ) (s : List ℕ) → (comma ≡ c → ⊥) → count c (comma ∷ s) ≡ count c s
@@ -119,6 +104,11 @@ row-free (f ∷ fs) z h = joined-free newline f fs (λ e. omega arith) h
 row-back : (r : List (List ℕ)) → 1 ≤ length r → Free comma r → fields (joinRow r) ≡ r
 row-back [] z h = let y : ⊥ = omega arith in absurd y
 row-back (f ∷ fs) z h = fields-back f fs h
+
+-- the rows of a text: the fields of each of its lines
+abbrev pub rowsOf : List (List ℕ) → List (List (List ℕ))
+rowsOf [] = []
+rowsOf (l ∷ ls) = fields l ∷ rowsOf ls
 
 pub rows-back : (rs : List (List (List ℕ))) → Clean rs → rowsOf (lines (joinRows rs)) ≡ rs
 rows-back [] h = ap rowsOf lines-none

@@ -1,4 +1,4 @@
--- Scanning a text. A loop at place i speaks of what is left, `drop i s`: each definition has a law for the next byte and one for the end.
+-- Scanning a text. A loop at position i speaks of what is left, `drop i s`: each definition has a law for the next byte and one for the end.
 use mathlib.Core.Path.{_≡_, refl}
 use mathlib.Core.Bool.{Bool, true, false, cond}
 use mathlib.Core.List.{List, [], _∷_, _++_}
@@ -8,7 +8,11 @@ use native.Mathlib.Omega.{arith}
 use lib.Dec.{lit≤}
 use lib.ListN.{length, getD, drop, take, length-drop, drop-of-length-le}
 use lib.Seq.{drop-cons, take-all}
-use Rattle.text.specs.Scan.{firstThat, is, place, count}
+use Rattle.text.specs.Scan.{firstThat, is, count}
+
+-- the position of the first c; the length where there is none
+abbrev pub position : ℕ → List ℕ → ℕ
+position c s = firstThat (is c) s
 
 module _ (s : List ℕ) (i : ℕ) where
   pub first-on : (test : ℕ → Bool) → i < length s
@@ -68,16 +72,16 @@ count-append c [] t = omega arith
 count-append c (b ∷ bs) t = omega (arith, count-append c bs t)
 
 -- up to the first c and with it there is one c
-pub count-first : (c : ℕ) (s : List ℕ) → place c s < length s → count c (take (place c s + 1) s) ≡ 1
+pub count-first : (c : ℕ) (s : List ℕ) → position c s < length s → count c (take (position c s + 1) s) ≡ 1
 unfolding count firstThat
 count-first c [] h = omega arith
 count-first c (b ∷ bs) h = by (is c b) refl h (count-first c bs)
   where
-    by : (t : Bool) → is c b ≡ t → cond t 0 (suc (place c bs)) < suc (length bs)
-        → (place c bs < length bs → count c (take (place c bs + 1) bs) ≡ 1)
-        → count c (take (cond t 0 (suc (place c bs)) + 1) (b ∷ bs)) ≡ 1
+    by : (t : Bool) → is c b ≡ t → cond t 0 (suc (position c bs)) < suc (length bs)
+        → (position c bs < length bs → count c (take (position c bs + 1) bs) ≡ 1)
+        → count c (take (cond t 0 (suc (position c bs)) + 1) (b ∷ bs)) ≡ 1
     by true f g k = rw f
     by false f g k =
-        let e : suc (place c bs) + 1 ≡ suc (place c bs + 1) = omega arith in
-        let n : place c bs < length bs = omega arith in
+        let e : suc (position c bs) + 1 ≡ suc (position c bs + 1) = omega arith in
+        let n : position c bs < length bs = omega arith in
         rw (e, f) (omega (arith, k n))

@@ -1,6 +1,6 @@
 -- The pieces of a text: the first of them, and those that follow.
 use mathlib.Core.Path.{_≡_, refl, ap, sym, _∙_}
-use mathlib.Core.Bool.{Bool, true, false, cond, _&&_}
+use mathlib.Core.Bool.{Bool, true, false, cond}
 use mathlib.Core.List.{List, [], _∷_}
 use Prim.Native.Nat.{ℕ, zero, suc, _+_, _-_, _<_, _≤_}
 use native.Mathlib.Omega.{arith}
@@ -8,30 +8,30 @@ use lib.Dec.{eqb, leb}
 use lib.ListN.{length, getD, drop, take, length-drop, drop-of-length-le}
 use lib.Seq.{take-all, take-add, drop-drop, getD-drop, length-take-le}
 use borrow.Author.Tests.{eq-eqb, leb-true, leb-false}
-use Rattle.text.specs.Scan.{firstThat, is, place, count, newline, comma, lineNumber}
-use Rattle.text.specs.Split.{push, split, lines, fields, wide, allWide}
-use Rattle.text.proofs.Scanning.{first-le, first-before, count-append, count-first}
+use Rattle.text.specs.Scan.{firstThat, is, count, newline, comma, lineNumber}
+use Rattle.text.specs.Split.{push, split, lines, fields}
+use Rattle.text.proofs.Scanning.{position, first-le, first-before, count-append, count-first}
 
 -- ---- one piece of a list: the first w bytes, and the pieces from w + 1 on
 abbrev pub Piece : ℕ → List (List ℕ) → List ℕ → ℕ → Type 0
 Piece c last s w = split c last s ≡ take w s ∷ split c last (drop (w + 1) s)
 
-pub split-more : (c : ℕ) (last : List (List ℕ)) (s : List ℕ) → place c s < length s → Piece c last s (place c s)
+pub split-more : (c : ℕ) (last : List (List ℕ)) (s : List ℕ) → position c s < length s → Piece c last s (position c s)
 unfolding split firstThat
 split-more c last [] h = let z : ⊥ = omega arith in absurd z
 split-more c last (b ∷ bs) h = by (eqb b c) h (λ k. split-more c last bs k)
   where
-    by : (t : Bool) → cond t 0 (suc (place c bs)) < suc (length bs) → (place c bs < length bs → Piece c last bs (place c bs))
+    by : (t : Bool) → cond t 0 (suc (position c bs)) < suc (length bs) → (position c bs < length bs → Piece c last bs (position c bs))
         → cond t ([] ∷ split c last bs) (push b (split c last bs))
-        ≡ take (cond t 0 (suc (place c bs))) (b ∷ bs) ∷ split c last (drop (cond t 0 (suc (place c bs)) + 1) (b ∷ bs))
+        ≡ take (cond t 0 (suc (position c bs))) (b ∷ bs) ∷ split c last (drop (cond t 0 (suc (position c bs)) + 1) (b ∷ bs))
     by true g f = refl
     by false g f =
-        let k : place c bs < length bs = omega arith in
-        let e : suc (place c bs) + 1 ≡ suc (place c bs + 1) = omega arith in
+        let k : position c bs < length bs = omega arith in
+        let e : suc (position c bs) + 1 ≡ suc (position c bs + 1) = omega arith in
         rw e (ap (push b) (f k))
 
 -- without c a text is one piece
-pub split-none : (c : ℕ) (last : List (List ℕ)) (s : List ℕ) → push 0 last ≡ (0 ∷ []) ∷ [] → 0 < length s → length s ≤ place c s → split c last s ≡ s ∷ []
+pub split-none : (c : ℕ) (last : List (List ℕ)) (s : List ℕ) → push 0 last ≡ (0 ∷ []) ∷ [] → 0 < length s → length s ≤ position c s → split c last s ≡ s ∷ []
 unfolding split firstThat
 split-none c last [] z h k = let y : ⊥ = omega arith in absurd y
 split-none c last (b ∷ []) z h k = by (eqb b c) k
@@ -48,13 +48,13 @@ split-none c last (b ∷ []) z h k = by (eqb b c) k
     by false g = one last z
 split-none c last (b ∷ d ∷ bs) z h k = by (eqb b c) k (λ u. split-none c last (d ∷ bs) z (omega arith) u)
   where
-    by : (t : Bool) → suc (suc (length bs)) ≤ cond t 0 (suc (place c (d ∷ bs))) → (suc (length bs) ≤ place c (d ∷ bs) → split c last (d ∷ bs) ≡ (d ∷ bs) ∷ [])
+    by : (t : Bool) → suc (suc (length bs)) ≤ cond t 0 (suc (position c (d ∷ bs))) → (suc (length bs) ≤ position c (d ∷ bs) → split c last (d ∷ bs) ≡ (d ∷ bs) ∷ [])
         → cond t ([] ∷ split c last (d ∷ bs)) (push b (split c last (d ∷ bs))) ≡ (b ∷ d ∷ bs) ∷ []
     by true g f = let y : ⊥ = omega arith in absurd y
-    by false g f = let u : suc (length bs) ≤ place c (d ∷ bs) = omega arith in ap (push b) (f u)
+    by false g f = let u : suc (length bs) ≤ position c (d ∷ bs) = omega arith in ap (push b) (f u)
 
 -- the first piece ends at the first c
-pub split-first : (c : ℕ) (last : List (List ℕ)) (s : List ℕ) → getD last 0 [] ≡ [] → getD (split c last s) 0 [] ≡ take (place c s) s
+pub split-first : (c : ℕ) (last : List (List ℕ)) (s : List ℕ) → getD last 0 [] ≡ [] → getD (split c last s) 0 [] ≡ take (position c s) s
 unfolding split firstThat
 split-first c last [] e = e
 split-first c last (b ∷ bs) e = by (eqb b c) (split-first c last bs e)
@@ -63,17 +63,33 @@ split-first c last (b ∷ bs) e = by (eqb b c) (split-first c last bs e)
     pushed [] = refl
     pushed (p ∷ ps) = refl
 
-    by : (t : Bool) → getD (split c last bs) 0 [] ≡ take (place c bs) bs
-        → getD (cond t ([] ∷ split c last bs) (push b (split c last bs))) 0 [] ≡ take (cond t 0 (suc (place c bs))) (b ∷ bs)
+    by : (t : Bool) → getD (split c last bs) 0 [] ≡ take (position c bs) bs
+        → getD (cond t ([] ∷ split c last bs) (push b (split c last bs))) 0 [] ≡ take (cond t 0 (suc (position c bs))) (b ∷ bs)
     by true f = refl
     by false f = pushed (split c last bs) ∙ ap (λ l. b ∷ l) f
+
+-- the piece p begins at position `at` of a text
+module _ (c : ℕ) (last : List (List ℕ)) (z : getD last 0 [] ≡ []) (s p : List ℕ) (at : ℕ) (e : p ≡ getD (split c last (drop at s)) 0 []) where
+  piece-is : p ≡ take (position c (drop at s)) (drop at s)
+  piece-is = e ∙ split-first c last (drop at s) z
+
+  piece-width : length p ≡ position c (drop at s)
+  piece-width = ap length piece-is ∙ length-take-le (position c (drop at s)) (drop at s) (first-le (is c) (drop at s))
+
+  piece-more : Piece c last (drop at s) (position c (drop at s)) → split c last (drop at s) ≡ p ∷ split c last (drop (at + length p + 1) s)
+  piece-more h =
+      let g : at + (length p + 1) ≡ at + length p + 1 = omega arith in
+      h
+      ∙ ap (λ l. l ∷ split c last (drop (position c (drop at s) + 1) (drop at s))) (sym piece-is)
+      ∙ ap (λ n. p ∷ split c last (drop (n + 1) (drop at s))) (sym piece-width)
+      ∙ ap (λ l. p ∷ split c last l) (drop-drop (length p + 1) at s ∙ ap (λ n. drop n s) g)
 
 -- ---- fields
 fields-none : split comma ([] ∷ []) [] ≡ [] ∷ []
 unfolding split
 fields-none = refl
 
-fields-last : (s : List ℕ) → length s ≤ place comma s → fields s ≡ s ∷ []
+fields-last : (s : List ℕ) → length s ≤ position comma s → fields s ≡ s ∷ []
 fields-last [] h = fields-none
 fields-last (b ∷ bs) h = split-none comma ([] ∷ []) (b ∷ bs) refl (omega arith) h
 
@@ -92,60 +108,38 @@ fields-count (b ∷ bs) = by (eqb b comma) (fields-count bs)
     by true e = omega arith
     by false e = pushed (fields bs) (0 + count comma bs) (omega arith)
 
-first-of : (ps : List (List ℕ)) → 0 < length ps → ps ≡ getD ps 0 [] ∷ drop 1 ps
-first-of [] h = let z : ⊥ = omega arith in absurd z
-first-of (p ∷ ps) h = refl
+-- the field f begins at position `at` of a line
+module _ (line f : List ℕ) (at : ℕ) (e : f ≡ getD (fields (drop at line)) 0 []) where
+  field-is : f ≡ take (position comma (drop at line)) (drop at line)
+  field-is = piece-is comma ([] ∷ []) refl line f at e
 
--- a walk along a line: the field that begins at place `at` is w bytes wide
-module _ (line : List ℕ) (at w : ℕ) (e : w ≡ place comma (drop at line)) where
-  pub field-more : at + w < length line → fields (drop at line) ≡ take w (drop at line) ∷ fields (drop (at + w + 1) line)
+  field-width : length f ≡ position comma (drop at line)
+  field-width = piece-width comma ([] ∷ []) refl line f at e
+
+  pub field-fits : at ≤ length line → at + length f ≤ length line
+  field-fits h = omega (arith, field-width, first-le (is comma) (drop at line), length-drop at line)
+
+  pub field-more : at + length f < length line → fields (drop at line) ≡ f ∷ fields (drop (at + length f + 1) line)
   field-more h =
-      let k : place comma (drop at line) < length (drop at line) = omega (arith, length-drop at line) in
-      let f : at + (w + 1) ≡ at + w + 1 = omega arith in
-      split-more comma ([] ∷ []) (drop at line) k
-      ∙ ap (λ n. take n (drop at line) ∷ fields (drop (n + 1) (drop at line))) (sym e)
-      ∙ ap (λ s. take w (drop at line) ∷ fields s) (drop-drop (w + 1) at line ∙ ap (λ n. drop n line) f)
+      let k : position comma (drop at line) < length (drop at line) = omega (arith, field-width, length-drop at line) in
+      piece-more comma ([] ∷ []) refl line f at e (split-more comma ([] ∷ []) (drop at line) k)
 
-  pub field-last : length line ≤ at + w → fields (drop at line) ≡ take w (drop at line) ∷ []
+  pub field-last : length line ≤ at + length f → fields (drop at line) ≡ f ∷ []
   field-last h =
-      let k : length (drop at line) ≤ w = omega (arith, length-drop at line) in
-      let g : length (drop at line) ≤ place comma (drop at line) = omega arith in
-      fields-last (drop at line) g ∙ ap (λ s. s ∷ []) (sym (take-all w (drop at line) k))
+      let k : length (drop at line) ≤ position comma (drop at line) = omega (arith, field-width, length-drop at line) in
+      fields-last (drop at line) k ∙ ap (λ s. s ∷ []) (sym (field-is ∙ take-all (position comma (drop at line)) (drop at line) k))
 
-  pub field-first : getD (fields (drop at line)) 0 [] ≡ take w (drop at line)
-  field-first = split-first comma ([] ∷ []) (drop at line) refl ∙ ap (λ n. take n (drop at line)) (sym e)
-
-  -- field k of what is left is field k - 1 of what is left after one field
-  pub field-later : (k : ℕ) → 0 < k → at + w < length line → getD (fields (drop at line)) k [] ≡ getD (fields (drop (at + w + 1) line)) (k - 1) []
+  -- field k of the rest of the line is field k - 1 of what follows the field f
+  pub field-later : (k : ℕ) → 0 < k → at + length f < length line
+      → getD (fields (drop at line)) k [] ≡ getD (fields (drop (at + length f + 1) line)) (k - 1) []
   field-later k z h =
-      let f : k ≡ suc (k - 1) = omega arith in
-      ap (λ fs. getD fs k []) (field-more h) ∙ ap (λ n. getD (take w (drop at line) ∷ fields (drop (at + w + 1) line)) n []) f
+      let g : k ≡ suc (k - 1) = omega arith in
+      ap (λ fs. getD fs k []) (field-more h) ∙ ap (λ n. getD (f ∷ fields (drop (at + length f + 1) line)) n []) g
 
-  pub field-none : (k : ℕ) → 0 < k → length line ≤ at + w → getD (fields (drop at line)) k [] ≡ []
+  pub field-none : (k : ℕ) → 0 < k → length line ≤ at + length f → getD (fields (drop at line)) k [] ≡ []
   field-none k z h =
-      let f : k ≡ suc (k - 1) = omega arith in
-      ap (λ fs. getD fs k []) (field-last h) ∙ ap (λ n. getD (take w (drop at line) ∷ []) n []) f
-
-  -- k fields are wide when the first is and the k - 1 after it are
-  pub wide-on : (k : ℕ) → 0 < k → allWide (take k (fields (drop at line))) ≡ (leb 1 w && leb w 16) && allWide (take (k - 1) (drop 1 (fields (drop at line))))
-  unfolding allWide
-  wide-on k z =
-      let f : k ≡ suc (k - 1) = omega arith in
-      let n : w ≤ length (drop at line) = omega (arith, first-le (is comma) (drop at line)) in
-      let g : 0 < length (fields (drop at line)) = omega (arith, fields-count (drop at line)) in
-      ap (λ fs. allWide (take k fs)) (first-of (fields (drop at line)) g)
-      ∙ ap (λ n. allWide (take n (getD (fields (drop at line)) 0 [] ∷ drop 1 (fields (drop at line))))) f
-      ∙ ap (λ p. wide p && allWide (take (k - 1) (drop 1 (fields (drop at line))))) field-first
-      ∙ ap (λ n. (leb 1 n && leb n 16) && allWide (take (k - 1) (drop 1 (fields (drop at line))))) (length-take-le w (drop at line) n)
-
-pub wide-none : (ps : List (List ℕ)) (k : ℕ) → k ≤ 0 → allWide (take k ps) ≡ true
-unfolding allWide
-wide-none ps k h = let e : k ≡ 0 = omega arith in ap (λ n. allWide (take n ps)) e
-
-pub wide-nil : (k : ℕ) → allWide (take k []) ≡ true
-unfolding allWide
-wide-nil zero = refl
-wide-nil (suc k) = refl
+      let g : k ≡ suc (k - 1) = omega arith in
+      ap (λ fs. getD fs k []) (field-last h) ∙ ap (λ n. getD (f ∷ []) n []) g
 
 -- ---- lines
 pub lines-none : lines [] ≡ []
@@ -153,35 +147,25 @@ unfolding split
 lines-none = refl
 
 -- the last line may lack its end
-lines-more : (s : List ℕ) → 0 < length s → Piece newline [] s (place newline s)
-lines-more s h = by (leb (length s) (place newline s)) refl
+lines-more : (s : List ℕ) → 0 < length s → Piece newline [] s (position newline s)
+lines-more s h = by (leb (length s) (position newline s)) refl
   where
-    by : (t : Bool) → leb (length s) (place newline s) ≡ t → Piece newline [] s (place newline s)
+    by : (t : Bool) → leb (length s) (position newline s) ≡ t → Piece newline [] s (position newline s)
     by true f =
-        let k : length s ≤ place newline s = leb-true (length s) (place newline s) f in
-        let g : length s ≤ place newline s + 1 = omega arith in
+        let k : length s ≤ position newline s = leb-true (length s) (position newline s) f in
+        let g : length s ≤ position newline s + 1 = omega arith in
         split-none newline [] s refl h k
-        ∙ ap (λ l. l ∷ []) (sym (take-all (place newline s) s k))
-        ∙ ap (λ l. take (place newline s) s ∷ l) (sym (ap lines (drop-of-length-le s g) ∙ lines-none))
-    by false f = split-more newline [] s (leb-false (length s) (place newline s) f)
+        ∙ ap (λ l. l ∷ []) (sym (take-all (position newline s) s k))
+        ∙ ap (λ l. take (position newline s) s ∷ l) (sym (ap lines (drop-of-length-le s g) ∙ lines-none))
+    by false f = split-more newline [] s (leb-false (length s) (position newline s) f)
 
--- the line that begins at place `at`
+-- the line that begins at position `at`
 module _ (s line : List ℕ) (at : ℕ) (e : line ≡ getD (lines (drop at s)) 0 []) where
-  line-is : line ≡ take (place newline (drop at s)) (drop at s)
-  line-is = e ∙ split-first newline [] (drop at s) refl
-
-  pub line-width : length line ≡ place newline (drop at s)
-  line-width = ap length line-is ∙ length-take-le (place newline (drop at s)) (drop at s) (first-le (is newline) (drop at s))
+  pub line-width : length line ≡ position newline (drop at s)
+  line-width = piece-width newline [] refl s line at e
 
   pub line-more : at < length s → lines (drop at s) ≡ line ∷ lines (drop (at + length line + 1) s)
-  line-more h =
-      let k : 0 < length (drop at s) = omega (arith, length-drop at s) in
-      let f : place newline (drop at s) + 1 ≡ length line + 1 = ap (λ n. n + 1) (sym line-width) in
-      let g : at + (length line + 1) ≡ at + length line + 1 = omega arith in
-      lines-more (drop at s) k
-      ∙ ap (λ l. l ∷ lines (drop (place newline (drop at s) + 1) (drop at s))) (sym line-is)
-      ∙ ap (λ n. line ∷ lines (drop n (drop at s))) f
-      ∙ ap (λ l. line ∷ lines l) (drop-drop (length line + 1) at s ∙ ap (λ n. drop n s) g)
+  line-more h = let k : 0 < length (drop at s) = omega (arith, length-drop at s) in piece-more newline [] refl s line at e (lines-more (drop at s) k)
 
   -- where the text ends in 0a, so does every line
   pub line-ends : at < length s → getD s (length s - 1) 0 ≡ newline → at + length line < length s
@@ -194,7 +178,7 @@ module _ (s line : List ℕ) (at : ℕ) (e : line ≡ getD (lines (drop at s)) 0
   -- the next line's number is one more: Job 3's running line number
   pub line-counts : at + length line < length s → lineNumber s (at + length line + 1) ≡ lineNumber s at + 1
   line-counts h =
-      let w = place newline (drop at s) in
+      let w = position newline (drop at s) in
       let f : at + length line + 1 ≡ at + (w + 1) = omega (arith, line-width) in
       let k : w < length (drop at s) = omega (arith, length-drop at s, line-width) in
       let n : count newline (take (at + length line + 1) s) ≡ count newline (take at s) + 1 =

@@ -1,4 +1,4 @@
--- A quoted text as the bytes of its characters, for texts that document 01 or a case spells out.
+-- A quoted text as the bytes of its characters, for texts that document 01 or a case spells out. Assumes nothing.
 use mathlib.Core.List.{List, [], _∷_}
 use Prim.Native.Nat.{ℕ}
 use Prim.Native.Char.{code}

@@ -1,4 +1,4 @@
--- Numbers as digits: "lower-case hexadecimal", and decimal where document 01 says so.
+-- Numbers as digits: "lower-case hexadecimal", and decimal where document 01 says so. Assumes nothing.
 use mathlib.Core.Bool.{Bool, cond, _&&_, _||_}
 use mathlib.Core.List.{List, [], _∷_, _++_}
 use Prim.Native.Nat.{ℕ, zero, suc, _+_, _*_, _-_, _/_, _%_}

@@ -1,4 +1,4 @@
--- Questions in their order: "The first no is printed" (01).
+-- Questions in their order: "The first no is printed" (01). Assumes nothing.
 use mathlib.Core.Bool.{Bool, cond}
 use mathlib.Core.List.{List, [], _∷_}
 use Prim.Native.Nat.{ℕ}

@@ -1,4 +1,4 @@
--- Where bytes stand in a text. A text is a list of bytes, and places count from 0.
+-- Where bytes stand in a text. A text is a list of bytes, and positions count from 0. Assumes nothing.
 use mathlib.Core.Bool.{Bool, cond}
 use mathlib.Core.List.{List, [], _∷_}
 use Prim.Native.Nat.{ℕ, suc, _+_}
@@ -12,7 +12,7 @@ newline = 10
 abbrev pub comma : ℕ
 comma = 44
 
--- the place of the first byte that passes a test; the length where none does
+-- the position of the first byte that passes a test; the length where none does
 unfoldable pub firstThat : (ℕ → Bool) → List ℕ → ℕ
 firstThat test [] = 0
 firstThat test (b ∷ bs) = cond (test b) 0 (suc (firstThat test bs))
@@ -21,15 +21,11 @@ firstThat test (b ∷ bs) = cond (test b) 0 (suc (firstThat test bs))
 abbrev pub is : ℕ → ℕ → Bool
 is c b = eqb b c
 
--- the place of the first c; the length where there is none
-abbrev pub place : ℕ → List ℕ → ℕ
-place c s = firstThat (is c) s
-
 -- how many c there are: one for each
 unfoldable pub count : ℕ → List ℕ → ℕ
 count c [] = 0
 count c (b ∷ bs) = cond (is c b) 1 0 + count c bs
 
--- the number of the line that place `at` lies in: one more than the 0a bytes before it ("Lines count from 1", 01)
+-- the number of the line that position `at` lies in: one more than the 0a bytes before it ("Lines count from 1", 01)
 abbrev pub lineNumber : List ℕ → ℕ → ℕ
 lineNumber s at = count newline (take at s) + 1

@@ -1,10 +1,12 @@
--- A text cut into pieces at a byte, and pieces joined to a text.
+-- A text cut into pieces at a byte, a line as a row of numbers, and rows joined to a text. Assumes nothing.
 use mathlib.Core.Bool.{Bool, true, cond, _&&_}
-use mathlib.Core.List.{List, [], _∷_, _++_}
+use mathlib.Core.List.{List, [], _∷_, _++_, map}
 use Prim.Native.Nat.{ℕ}
 use lib.Dec.{eqb, leb}
-use lib.ListN.{length}
+use lib.ListN.{length, replicate}
+use lib.Seq.{sets}
 use Rattle.text.specs.Scan.{newline, comma}
+use Rattle.text.specs.Number.{number}
 
 -- b in front of the first piece
 abbrev pub push : ℕ → List (List ℕ) → List (List ℕ)
@@ -24,10 +26,36 @@ lines s = split newline [] s
 abbrev pub fields : List ℕ → List (List ℕ)
 fields s = split comma ([] ∷ []) s
 
--- lines one after another, each with its 0a
-abbrev pub joinLines : List (List ℕ) → List ℕ
-joinLines [] = []
-joinLines (l ∷ ls) = l ++ (newline ∷ joinLines ls)
+-- ---- a line as a row: how many fields it has, and the value and the width of each
+
+pub record Row : Type 0 where
+  pub count : ℕ
+  pub values : List ℕ
+  pub widths : List ℕ
+
+-- the count that a call answers, with the slots that it leaves
+abbrev pub rowWith : ℕ → List ℕ → List ℕ → Row
+rowWith n vs ws = record { count = n; values = vs; widths = ws }
+
+-- the values, "lower-case hexadecimal", and the widths of the fields, one after another (`sets`) in as many slots as there are;
+-- a slot past the last field keeps what it held
+abbrev pub rowOver : List ℕ → List ℕ → List ℕ → Row
+rowOver vs ws line =
+    rowWith (length (fields line)) (sets vs 0 (map (number 16) (fields line))) (sets ws 0 (map length (fields line)))
+
+-- a line in n slots: a field that it lacks has the value 0 and the width 0
+unfoldable pub rowOf : ℕ → List ℕ → Row
+rowOf n line = rowOver (replicate n 0) (replicate n 0) line
+
+-- "has each field 1 to 16 digits" (01, question 33)
+abbrev pub wide : ℕ → Bool
+wide w = leb 1 w && leb w 16
+
+unfoldable pub allWide : List ℕ → Bool
+allWide [] = true
+allWide (w ∷ ws) = wide w && allWide ws
+
+-- ---- rows printed
 
 -- a field and those after it, with commas between
 abbrev pub joinFields : List ℕ → List (List ℕ) → List ℕ
@@ -42,16 +70,3 @@ joinRow (f ∷ fs) = joinFields f fs
 abbrev pub joinRows : List (List (List ℕ)) → List ℕ
 joinRows [] = []
 joinRows (r ∷ rs) = joinRow r ++ (newline ∷ joinRows rs)
-
--- the rows of a text: the fields of each of its lines
-abbrev pub rowsOf : List (List ℕ) → List (List (List ℕ))
-rowsOf [] = []
-rowsOf (l ∷ ls) = fields l ∷ rowsOf ls
-
--- "has each field 1 to 16 digits" (01, question 33)
-abbrev pub wide : List ℕ → Bool
-wide f = leb 1 (length f) && leb (length f) 16
-
-unfoldable pub allWide : List (List ℕ) → Bool
-allWide [] = true
-allWide (f ∷ fs) = wide f && allWide fs

@@ -2,6 +2,7 @@
 pub mod field;
 pub mod number;
 pub mod print;
+pub mod row;
 pub mod scan;
 
 ghost use mathlib.Core.Path.{_≡_};

@@ -1,4 +1,4 @@
-// Writing into a lent buffer. Each function answers the place after what it wrote.
+// Writing into a lent buffer. Each function answers the position after what it wrote.
 ghost use mathlib.Core.Path.{_≡_};
 ghost use mathlib.Core.List.{[], _∷_};
 ghost use Prim.Native.Nat.{_+_, _<_, _≤_};
@@ -37,7 +37,7 @@ fn digit_byte(d: u64) -> u8
     if d < 10 { 48 + b } else { 87 + b }
 }
 
-// The digits of n in a base, in at most `room` places. The higher digits come first: they are the digits of n / base.
+// The digits of n in a base, in at most `room` positions. The higher digits come first: they are the digits of n / base.
 pub fn put_digits(buffer: &mut [u8], at: usize, n: u64, base: u64, room: usize) -> usize
     requires { ⌜ (1 < base) × (base ≤ 16) × (at + room ≤ length (now buffer)) ⌝ }
     ensures { λ r. ⌜ Wrote (now (buffer .entry)) at (digits base room n) (now (buffer .exit)) r ⌝ }

@@ -1,12 +1,12 @@
-// Places in a text, and the parts of it before and after a place.
+// Places in a text, and the parts of it before and after a position.
 ghost use mathlib.Core.Path.{_≡_};
 ghost use Prim.Native.Nat.{_-_, _≤_};
 ghost use lib.ListN.{length, getD, take, drop};
-ghost use Rattle.text.specs.Scan.{place as Scan·place, count as Scan·count};
+ghost use Rattle.text.specs.Scan.{firstThat, is, count as Scan·count};
 
-// The place of the first c, or the length.
-pub fn place(s: &[u8], c: u8) -> usize
-    ensures { λ r. ⌜ (r ≡ Scan·place c (now (s .entry))) × (r ≤ length (now (s .entry))) ⌝ }
+// The position of the first c, or the length.
+pub fn position(s: &[u8], c: u8) -> usize
+    ensures { λ r. ⌜ (r ≡ firstThat (is c) (now (s .entry))) × (r ≤ length (now (s .entry))) ⌝ }
 {
     let mut i = 0;
     while i < s.len() {
@@ -40,7 +40,7 @@ pub fn last_byte(s: &[u8]) -> u8
     if s.len() == 0 { 0 } else { s[s.len() - 1] }
 }
 
-// What stands from a place on, nothing past the end.
+// What stands from a position on, nothing past the end.
 pub fn rest(s: &[u8], at: usize) -> &[u8]
     ensures { λ r. ⌜ (now r ≡ drop at (now (s .entry))) × (length (now r) ≡ length (now (s .entry)) - at) ⌝ }
 {
@@ -50,7 +50,7 @@ pub fn rest(s: &[u8], at: usize) -> &[u8]
     &s[..0]
 }
 
-// What stands before a place, the whole past the end.
+// What stands before a position, the whole past the end.
 pub fn front(s: &[u8], end: usize) -> &[u8]
     ensures { λ r. ⌜ now r ≡ take end (now (s .entry)) ⌝ }
 {

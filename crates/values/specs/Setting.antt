@@ -27,7 +27,7 @@ machineAt x pc =
           };
     }
 
--- word k of a record: 8 hexadecimal digits, the first of word 0 at place `from`
+-- word k of a record: 8 hexadecimal digits, the first of word 0 at position `from`
 abbrev pub wordAt : List ℕ → ℕ → ℕ → ℕ
 wordAt r from k = number 16 (take 8 (drop (from + 8 * k) r))
 

@@ -3,8 +3,8 @@ use borrow.Author.Needs.{needs}
 use Rattle.columns.proofs.unpadded.Statement.{statement}
 use Rattle.columns.proofs.unpadded.Tie as tie
 
-place-requires : tie.Need-place-requires
-place-requires c κs = search needs
+position-requires : tie.Need-position-requires
+position-requires c κs = search needs
 
 front-requires : tie.Need-front-requires
 front-requires c κs = search needs
@@ -13,4 +13,4 @@ returns : tie.Need-returns
 returns c = cc
 
 pub unpadded-spec : {M : Type 1} → statement M
-unpadded-spec = tie.close (tie.spec place-requires front-requires returns)
+unpadded-spec = tie.close (tie.spec position-requires front-requires returns)

@@ -1,6 +1,6 @@
 -- `respond` meets its contract: the memory is blank.
 use borrow.Author.Needs.{needs}
-use Rattle.sheet.specs.Read.{blank}
+use Rattle.sheet.specs.Words.{blank}
 use Rattle.report.specs.Report.{report}
 use Rattle.respond.proofs.respond.Statement.{statement}
 use Rattle.respond.proofs.respond.Tie as tie

@@ -1,4 +1,4 @@
--- `number::number` meets its contract: v is what the digits before place i spell, below 16 ^ i.
+-- `number::number` meets its contract: v is what the digits before position i spell, below 16 ^ i.
 use mathlib.Core.Path.{_≡_, refl, ap, sym, _∙_}
 use Prim.Native.Nat.{_+_, _-_, _*_, _^_, _<_, _≤_}
 use native.Mathlib.Omega.{arith}

@@ -1,4 +1,4 @@
--- `print::put_text` meets its contract: storing the bytes from place i on comes to storing them all.
+-- `print::put_text` meets its contract: storing the bytes from position i on comes to storing them all.
 use mathlib.Core.Path.{_≡_, ap, sym, _∙_}
 use Prim.Native.Nat.{_+_, _-_, _≤_}
 use native.Mathlib.Omega.{arith}

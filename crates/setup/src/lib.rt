@@ -1,0 +1,126 @@
+// Line 1 of a sheet: its values, questions 32 to 34 of it, and the machine that a run of the sheet starts from.
+ghost use mathlib.Core.Path.{_≡_};
+ghost use Prim.Native.Nat.{_≤_};
+ghost use lib.ListN.{length};
+ghost use Rattle.text.specs.Split.{rowOf};
+ghost use Rattle.model.specs.Machine.{lastRegion};
+ghost use Rattle.setup.specs.Setup.{setupFields, regionsFrom, permissionsInRange, readSetup, machineOf};
+use model::Fault;
+use model::HfiState;
+use model::Machine;
+use model::REGIONS;
+use model::Region;
+use text::ask;
+use text::row::all_wide;
+use text::row::read_row;
+
+// The fields of line 1: pc, options, handler, three for each region, and the budget.
+const SETUP_FIELDS: usize = 4 + 3 * REGIONS;
+
+const BUDGET: usize = SETUP_FIELDS - 1;
+
+// What an empty budget means.
+const DEFAULT_BUDGET: u64 = 1000;
+
+// The values of line 1.
+pub struct Setup {
+    pub pc: u64,
+    pub options: u64,
+    pub handler: u64,
+    pub regions: [Region; REGIONS],
+    pub budget: u64,
+}
+
+// Line 1 as read: the question of 32 to 34 that it fails first, 0 where it fails none, and its values.
+pub struct ReadSetup {
+    pub question: u64,
+    pub setup: Setup,
+}
+
+// The regions, whose fields begin at field 3.
+fn regions_of(values: &[u64]) -> [Region; REGIONS]
+    requires { ⌜ setupFields ≤ length (now values) ⌝ }
+    ensures { λ r. ⌜ r ≡ regionsFrom (now (values .entry)) 3 lastRegion ⌝ }
+{
+    let none = Region {
+        base: 0,
+        bound: 0,
+        permission: 0,
+    };
+    let mut regions = [none; REGIONS];
+    let mut i = 0;
+    while i < REGIONS {
+        let k = 3 + 3 * i;
+        regions[i] = Region {
+            base: values[k],
+            bound: values[k + 1],
+            permission: values[k + 2],
+        };
+        i += 1;
+    }
+    regions
+}
+
+// Are all permissions at most ff?
+fn permissions_in_range(rs: [Region; REGIONS]) -> bool
+    ensures { λ r. ⌜ r ≡ permissionsInRange rs ⌝ }
+{
+    let mut i = 0;
+    while i < REGIONS {
+        let r = rs[i];
+        if 0xff < r.permission {
+            return false;
+        }
+        i += 1;
+    }
+    true
+}
+
+// The line is taken apart once. Every test is worked out, and the first no is picked from the answers.
+pub fn read_setup(line: &[u8]) -> ReadSetup
+    ensures { λ r. ⌜ r ≡ readSetup (rowOf setupFields (now (line .entry))) ⌝ }
+{
+    let mut values = [0u64; SETUP_FIELDS];
+    let mut widths = [0u64; SETUP_FIELDS];
+    let count = read_row(line, &mut values, &mut widths);
+    let regions = regions_of(&values);
+    let budget = ask(widths[BUDGET] == 0, values[BUDGET], DEFAULT_BUDGET);
+    let wide = all_wide(&widths[..BUDGET]) & (widths[BUDGET] <= 16);
+    let range = (values[1] <= 0xff) & (permissions_in_range(regions) & (budget <= 0xffffffff));
+    let setup = Setup {
+        pc: values[0],
+        options: values[1],
+        handler: values[2],
+        regions,
+        budget,
+    };
+    ReadSetup {
+        question: ask(count == SETUP_FIELDS, 32, ask(wide, 33, ask(range, 34, 0))),
+        setup,
+    }
+}
+
+// The machine in HFI mode, with the values of line 1; all else is 0.
+pub fn machine_of(s: Setup) -> Machine
+    ensures { λ r. ⌜ r ≡ machineOf s ⌝ }
+{
+    let regions = s.regions;
+    let fault = Fault {
+        occurred: 0,
+        region: 0,
+        op: 0,
+        address: 0,
+    };
+    let hfi = HfiState {
+        mode: 1,
+        reason: 0,
+        epc: 0,
+        options: s.options,
+        handler: s.handler,
+        selector: 0,
+        regions,
+        fault,
+    };
+    let x = [0u64; 32];
+    Machine { x, pc: s.pc, hfi }
+}

@@ -1,0 +1,85 @@
+-- A sheet as read: whether it is refused, its setup and its word lines (01, The run sheet).
+-- Refusal is declared in src/lib.rt, Setup in setup/src/lib.rt, WordLine in Words.antt. Assumes nothing.
+use mathlib.Core.Bool.{Bool, cond, not, _&&_, _||_}
+use mathlib.Core.List.{List, [], _∷_, _++_}
+use Prim.Native.Nat.{ℕ, _+_, _-_}
+use lib.Dec.{eqb, leb}
+use lib.ListN.{length, getD, drop}
+use Rattle.text.specs.Ascii.{ascii}
+use Rattle.text.specs.Scan.{newline, comma, firstThat, lineNumber}
+use Rattle.text.specs.Number.{isDigit, decimal}
+use Rattle.text.specs.Split.{lines, rowOf}
+use Rattle.text.specs.Questions.{firstNo}
+use Rattle.setup.specs.declared.Setup.{Setup}
+use Rattle.setup.specs.Setup.{setupFields, readSetup}
+use Rattle.sheet.specs.declared.Refusal.{Refusal}
+use Rattle.sheet.specs.Words.{WordLine, wordFields, wordsOf, readWord}
+
+-- a question that is answered no, and the line that it is asked of; the question 0 refuses nothing
+abbrev pub refusal : ℕ → ℕ → Refusal
+refusal question lineno = record { question = question; lineno = lineno }
+
+-- ---- the whole file
+
+-- "is the length 1 to 65,536 with last byte 0a?"
+abbrev pub whole : List ℕ → Bool
+whole s = leb 1 (length s) && (leb (length s) 65536 && eqb (getD s (length s - 1) 0) newline)
+
+-- "a digit 0-9, a-f, comma or 0a", or else foreign to a sheet
+abbrev pub foreign : ℕ → Bool
+foreign b = not (isDigit b || (eqb b comma || eqb b newline))
+
+-- 31 asks whether the first foreign byte stands past the end
+abbrev pub fileQuestions : List ℕ → List (Bool × ℕ)
+fileQuestions s = (whole s, 30) ∷ (eqb (firstThat foreign s) (length s), 31) ∷ []
+
+unfoldable pub fileNo : List ℕ → ℕ
+fileNo s = firstNo (fileQuestions s)
+
+-- "0 for 30; for 31 the line of the first such byte"
+abbrev pub fileRefusal : List ℕ → Refusal
+fileRefusal s = refusal (fileNo s) (cond (eqb (fileNo s) 31) (lineNumber s (firstThat foreign s)) 0)
+
+-- ---- "Then line by line"
+
+-- the word lines from line n on: 32 to 35 of one line, then the next line
+unfoldable pub wordsRefusal : ℕ → ℕ → List (List ℕ) → Refusal
+wordsRefusal n least [] = refusal 0 0
+wordsRefusal n least (l ∷ ls) =
+    let w = readWord least (rowOf wordFields l) in
+    cond (eqb (w .question) 0) (wordsRefusal (n + 1) (w .address + 1) ls) (refusal (w .question) n)
+
+-- line 1, then the word lines
+unfoldable pub linesRefusal : List (List ℕ) → Refusal
+linesRefusal [] = refusal 0 0
+linesRefusal (l ∷ ls) =
+    let h = readSetup (rowOf setupFields l) in
+    cond (eqb (h .question) 0) (wordsRefusal 2 0 ls) (refusal (h .question) 1)
+
+unfoldable pub sheetRefusal : List ℕ → Refusal
+sheetRefusal s = cond (eqb (fileNo s) 0) (linesRefusal (lines s)) (fileRefusal s)
+
+-- ---- the sheet; what a refused one has for a setup and for words is never used
+
+pub record Sheet : Type 0 where
+  pub refusal : Refusal
+  pub setup : Setup
+  pub words : List WordLine
+
+abbrev pub readSheet : List ℕ → Sheet
+readSheet s =
+    record {
+      refusal = sheetRefusal s;
+      setup = readSetup (rowOf setupFields (getD (lines s) 0 [])) .setup;
+      words = wordsOf (drop 1 (lines s));
+    }
+
+-- ---- what is printed of a sheet that is refused
+
+-- "beginning with the word itself"
+abbrev pub sheetWord : List ℕ
+sheetWord = ascii "sheet"
+
+-- "sheet, number, line number in decimal", for example `sheet,33,2`; "every printed line ends in 0a"
+abbrev pub refusalText : ℕ → ℕ → List ℕ
+refusalText question lineno = (sheetWord ++ (comma ∷ [])) ++ decimal question ++ (comma ∷ []) ++ decimal lineno ++ (newline ∷ [])
