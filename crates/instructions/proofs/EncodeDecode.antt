@@ -24,7 +24,6 @@ use Rattle.instructions.specs.declared.kind.ShiftKind.{ShiftKind}
 use Rattle.instructions.specs.declared.kind.ShiftWordKind.{ShiftWordKind}
 use Rattle.instructions.specs.declared.kind.RegisterKind.{RegisterKind}
 use Rattle.instructions.specs.declared.kind.RegisterWordKind.{RegisterWordKind}
-use Rattle.instructions.specs.declared.kind.SystemKind.{SystemKind}
 use Rattle.instructions.specs.declared.kind.HfiKind.{HfiKind}
 use Rattle.instructions.specs.declared.instruction.Instruction.{Instruction}
 use Rattle.instructions.specs.declared.instruction.Instruction.the-variants.{Jalr, Branch, Load, Store, Immediate, Shift, ShiftWord, Register, RegisterWord, Fence, System, HLoad, HStore, Hfi}

@@ -68,7 +68,7 @@ hfiAt code rd rs1 rs2 = ofCode hfiCode (λ k. Legal (Hfi k rd rs1 rs2)) Illegal 
 abbrev pub namedAt : ℕ → ℕ → ℕ → ℕ → Bool
 namedAt funct7 rd rs1 rs2 = ofCode hfiCode (λ k. named (hfiRow k) rd rs1 rs2) false hfiKinds funct7
 
--- ---- the groups whose opcode and code are not all
+-- ---- groups that ask more than a code
 
 -- legal only where the test holds
 abbrev pub provided : Bool → Decoded → Decoded
