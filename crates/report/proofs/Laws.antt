@@ -36,8 +36,8 @@ pub record Remaining (old : List ℕ) (start : ℕ) (whole new : List ℕ) (at :
 pub remaining-all : {old whole : List ℕ} {start : ℕ} → Remaining old start whole old start whole
 remaining-all = record { stores = refl; ends = refl }
 
-pub remaining-on : {old whole new next rest s t : List ℕ} {start at end : ℕ} → Remaining old start whole new at rest → rest ≡ s ++ t
-    → Wrote new at s next end → Remaining old start whole next end t
+pub remaining-on : {old whole new later rest s t : List ℕ} {start at end : ℕ} → Remaining old start whole new at rest → rest ≡ s ++ t
+    → Wrote new at s later end → Remaining old start whole later end t
 remaining-on {new = new} {s = s} {t = t} {at = at} l e w =
     record {
       stores = wrote-on w t ∙ ap (sets new at) (sym e) ∙ l .stores;

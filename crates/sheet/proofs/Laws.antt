@@ -9,12 +9,12 @@ use lib.ListN.{length, getD, drop, drop-of-length-le}
 use borrow.Author.Tests.{leb-true, eqb-true, eq-eqb, ne-eqb}
 use Rattle.text.specs.Scan.{newline, count, lineNumber}
 use Rattle.text.specs.Split.{lines, Row, rowOf}
-use Rattle.text.proofs.Asking.{left-half, right-half, yes-at}
+use Rattle.text.proofs.Asking.{first-half, second-half, yes-at}
 use Rattle.text.proofs.Splitting.{line-more, line-ends, line-counts, lines-none}
 use Rattle.model.specs.Bytes.{written}
 use Rattle.setup.specs.Setup.{setupFields, readSetup}
 use Rattle.sheet.specs.declared.ReadWord.{ReadWord}
-use Rattle.sheet.specs.Words.{wordFields, wordOf, wordsOf, wordQuestions, readWord, memoryOf}
+use Rattle.sheet.specs.Words.{wordOf, wordsOf, wordQuestions, readWord, memoryOf}
 use Rattle.sheet.specs.Sheet.{refusal, fileQuestions, fileNo, fileRefusal, wordsRefusal, linesRefusal, sheetRefusal}
 
 -- a word line that is read is the word line
@@ -28,8 +28,8 @@ unfolding readWord
 word-fits least r e =
     let w = wordOf r in
     let range = yes-at 2 (wordQuestions least r w) refl e in
-    let top = right-half (eqb (w .address % 4) 0) (leb (w .address) 0xfffc && leb (w .word) 0xffffffff) range in
-    leb-true (w .address) 0xfffc (left-half (leb (w .address) 0xfffc) (leb (w .word) 0xffffffff) top)
+    let top = second-half (eqb (w .address % 4) 0) (leb (w .address) 0xfffc && leb (w .word) 0xffffffff) range in
+    leb-true (w .address) 0xfffc (first-half (leb (w .address) 0xfffc) (leb (w .word) 0xffffffff) top)
 
 -- ---- what a passed file gives
 pub file-whole : (s : List ℕ) → fileNo s ≡ 0 → (1 ≤ length s) × (length s ≤ 65536) × (getD s (length s - 1) 0 ≡ newline)
@@ -39,38 +39,38 @@ file-whole s e =
     let few = leb (length s) 65536 in
     let ended = eqb (getD s (length s - 1) 0) newline in
     let all = yes-at 0 (fileQuestions s) refl e in
-    let most = right-half some (few && ended) all in (
-      leb-true 1 (length s) (left-half some (few && ended) all),
-      leb-true (length s) 65536 (left-half few ended most),
-      eqb-true (getD s (length s - 1) 0) newline (right-half few ended most),
+    let most = second-half some (few && ended) all in (
+      leb-true 1 (length s) (first-half some (few && ended) all),
+      leb-true (length s) 65536 (first-half few ended most),
+      eqb-true (getD s (length s - 1) 0) newline (second-half few ended most),
     )
 
 -- ---- the word lines from position `at` on: the line there is read as w
-module _ (s line : List ℕ) (at n least : ℕ) (w : ReadWord) (e : line ≡ getD (lines (drop at s)) 0 []) (h : at < length s) (j : w ≡ readWord least (rowOf wordFields line)) where
+module _ (s line : List ℕ) (at n least : ℕ) (w : ReadWord) (e : line ≡ getD (lines (drop at s)) 0 []) (h : at < length s) (j : w ≡ readWord least (rowOf 2 line)) where
   refused : wordsRefusal n least (lines (drop at s)) ≡ wordsRefusal n least (line ∷ lines (drop (at + length line + 1) s))
   refused = ap (wordsRefusal n least) (line-more s line at e h)
 
   pub refusal-on : w .question ≡ 0 → wordsRefusal (n + 1) (w .address + 1) (lines (drop (at + length line + 1) s)) ≡ wordsRefusal n least (lines (drop at s))
   unfolding wordsRefusal
   refusal-on z =
-      let y : readWord least (rowOf wordFields line) .question ≡ 0 = sym (ap (λ r. r .question) j) ∙ z in
+      let y : readWord least (rowOf 2 line) .question ≡ 0 = sym (ap (λ r. r .question) j) ∙ z in
       ap (λ r. wordsRefusal (n + 1) (r .address + 1) (lines (drop (at + length line + 1) s))) j
-      ∙ sym (refused ∙ rw (eq-eqb (readWord least (rowOf wordFields line) .question) 0 y))
+      ∙ sym (refused ∙ rw (eq-eqb (readWord least (rowOf 2 line) .question) 0 y))
 
   pub refusal-stop : (w .question ≡ 0 → ⊥) → refusal (w .question) n ≡ wordsRefusal n least (lines (drop at s))
   unfolding wordsRefusal
   refusal-stop z =
-      let y : readWord least (rowOf wordFields line) .question ≡ 0 → ⊥ = λ u. z (ap (λ r. r .question) j ∙ u) in
-      ap (λ r. refusal (r .question) n) j ∙ sym (refused ∙ rw (ne-eqb (readWord least (rowOf wordFields line) .question) 0 y))
+      let y : readWord least (rowOf 2 line) .question ≡ 0 → ⊥ = λ u. z (ap (λ r. r .question) j ∙ u) in
+      ap (λ r. refusal (r .question) n) j ∙ sym (refused ∙ rw (ne-eqb (readWord least (rowOf 2 line) .question) 0 y))
 
-  pub memory-on : (mem next : List ℕ) → next ≡ written mem (w .address) 0 4 (w .word)
-      → memoryOf next (wordsOf (lines (drop (at + length line + 1) s))) ≡ memoryOf mem (wordsOf (lines (drop at s)))
+  pub memory-on : (mem after : List ℕ) → after ≡ written mem (w .address) 0 4 (w .word)
+      → memoryOf after (wordsOf (lines (drop (at + length line + 1) s))) ≡ memoryOf mem (wordsOf (lines (drop at s)))
   unfolding memoryOf
-  memory-on mem next m =
-      let a : w .address ≡ wordOf (rowOf wordFields line) .address = ap (λ r. r .address) j ∙ read-is least (rowOf wordFields line) .0 in
-      let b : w .word ≡ wordOf (rowOf wordFields line) .word = ap (λ r. r .word) j ∙ read-is least (rowOf wordFields line) .1 in
+  memory-on mem after m =
+      let a : w .address ≡ wordOf (rowOf 2 line) .address = ap (λ r. r .address) j ∙ read-is least (rowOf 2 line) .0 in
+      let b : w .word ≡ wordOf (rowOf 2 line) .word = ap (λ r. r .word) j ∙ read-is least (rowOf 2 line) .1 in
       ap (λ k. memoryOf k (wordsOf (lines (drop (at + length line + 1) s))))
-      (m ∙ ap (λ k. written mem k 0 4 (w .word)) a ∙ ap (written mem (wordOf (rowOf wordFields line) .address) 0 4) b)
+      (m ∙ ap (λ k. written mem k 0 4 (w .word)) a ∙ ap (written mem (wordOf (rowOf 2 line) .address) 0 4) b)
       ∙ sym (ap (λ ls. memoryOf mem (wordsOf ls)) (line-more s line at e h))
 
 pub refusal-off : (s : List ℕ) (at n least : ℕ) → length s ≤ at → wordsRefusal n least (lines (drop at s)) ≡ refusal 0 0

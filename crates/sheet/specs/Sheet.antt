@@ -13,7 +13,7 @@ use Rattle.text.specs.Questions.{firstNo}
 use Rattle.setup.specs.declared.Setup.{Setup}
 use Rattle.setup.specs.Setup.{setupFields, readSetup}
 use Rattle.sheet.specs.declared.Refusal.{Refusal}
-use Rattle.sheet.specs.Words.{WordLine, wordFields, wordsOf, readWord}
+use Rattle.sheet.specs.Words.{WordLine, wordsOf, readWord}
 
 -- a question that is answered no, and the line that it is asked of; the question 0 refuses nothing
 abbrev pub refusal : ℕ → ℕ → Refusal
@@ -46,7 +46,7 @@ fileRefusal s = refusal (fileNo s) (cond (eqb (fileNo s) 31) (lineNumber s (firs
 unfoldable pub wordsRefusal : ℕ → ℕ → List (List ℕ) → Refusal
 wordsRefusal n least [] = refusal 0 0
 wordsRefusal n least (l ∷ ls) =
-    let w = readWord least (rowOf wordFields l) in
+    let w = readWord least (rowOf 2 l) in
     cond (eqb (w .question) 0) (wordsRefusal (n + 1) (w .address + 1) ls) (refusal (w .question) n)
 
 -- line 1, then the word lines

@@ -14,15 +14,12 @@ pub record WordLine : Type 0 where
   pub address : ℕ
   pub word : ℕ
 
-abbrev pub wordFields : ℕ
-wordFields = 2
-
 abbrev pub wordOf : Row → WordLine
 wordOf r = record { address = getD (r .values) 0 0; word = getD (r .values) 1 0 }
 
 abbrev pub wordsOf : List (List ℕ) → List WordLine
 wordsOf [] = []
-wordsOf (l ∷ ls) = wordOf (rowOf wordFields l) ∷ wordsOf ls
+wordsOf (l ∷ ls) = wordOf (rowOf 2 l) ∷ wordsOf ls
 
 -- memory with a word placed in it, "32-bit words, little-endian"; with all of them, one after another
 abbrev pub placed : List ℕ → WordLine → List ℕ
@@ -41,7 +38,7 @@ blank = replicate 65536 0
 -- where there is none before
 abbrev pub wordQuestions : ℕ → Row → WordLine → List (Bool × ℕ)
 wordQuestions least r w =
-    ((eqb (r .count) wordFields, 32)
+    ((eqb (r .count) 2, 32)
     ∷ (allWide (r .widths), 33)
     ∷ (eqb (w .address % 4) 0 && (leb (w .address) 0xfffc && leb (w .word) 0xffffffff), 34)
     ∷ (leb least (w .address), 35)

@@ -5,7 +5,7 @@ ghost use lib.ListN.{length, drop, getD};
 ghost use Rattle.text.specs.Scan.{newline, firstThat, lineNumber};
 ghost use Rattle.text.specs.Split.{lines, rowOf};
 ghost use Rattle.text.specs.Write.{Wrote};
-ghost use Rattle.sheet.specs.Words.{wordFields, readWord, wordsOf, memoryOf};
+ghost use Rattle.sheet.specs.Words.{readWord, wordsOf, memoryOf};
 ghost use Rattle.sheet.specs.Sheet.{foreign as Sheet·foreign, fileRefusal, wordsRefusal, readSheet, refusalText};
 use memory::bytes::write;
 use setup::Setup;
@@ -82,7 +82,7 @@ fn file_refusal(s: &[u8]) -> Refusal
 
 // One word line, whose address is to be at least `least`. Every test is worked out, and the first no is picked from the answers.
 fn read_word(line: &[u8], least: u64) -> ReadWord
-    ensures { λ r. ⌜ r ≡ readWord least (rowOf wordFields (now (line .entry))) ⌝ }
+    ensures { λ r. ⌜ r ≡ readWord least (rowOf 2 (now (line .entry))) ⌝ }
 {
     let mut values = [0u64; 2];
     let mut widths = [0u64; 2];

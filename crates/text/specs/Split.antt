@@ -55,8 +55,6 @@ unfoldable pub allWide : List ℕ → Bool
 allWide [] = true
 allWide (w ∷ ws) = wide w && allWide ws
 
--- ---- rows printed
-
 -- a field and those after it, with commas between
 abbrev pub joinFields : List ℕ → List (List ℕ) → List ℕ
 joinFields f [] = f

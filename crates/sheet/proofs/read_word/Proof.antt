@@ -2,7 +2,7 @@
 use mathlib.Core.Path.{_≡_, ap}
 use Rattle.text.specs.Split.{rowWith, rowOf}
 use Rattle.text.proofs.Rows.{row-in}
-use Rattle.sheet.specs.Words.{wordFields, readWord}
+use Rattle.sheet.specs.Words.{readWord}
 use borrow.Author.Needs.{needs}
 use Rattle.sheet.proofs.read_word.Statement.{statement}
 use Rattle.sheet.proofs.read_word.Tie as tie
@@ -46,7 +46,7 @@ returns c =
     let r = c .before .before .before .before .before .before .before .before .read-row in
     let a = c .before .before .before .before .before .before .before .before .before .before .before .before .args in
     let row = rowWith (r .result) (r .last .1 .0) (r .last .1 .1 .0) in
-    let same : readWord (a .least) row ≡ readWord (a .least) (rowOf wordFields (a .line .now)) = ap (readWord (a .least)) (row-in wordFields (a .line .now) row (r .ensures)) in
+    let same : readWord (a .least) row ≡ readWord (a .least) (rowOf 2 (a .line .now)) = ap (readWord (a .least)) (row-in 2 (a .line .now) row (r .ensures)) in
     cc
 
 pub read-word-spec : {M : Type 1} → statement M

@@ -8,7 +8,7 @@ use Rattle.text.proofs.Splitting.{line-ends, line-counts}
 use Rattle.text.proofs.Scanning.{count-le}
 use Rattle.text.specs.Scan.{newline, lineNumber}
 use Rattle.text.specs.Split.{lines, rowOf}
-use Rattle.sheet.specs.Words.{wordFields, wordsOf, memoryOf, readWord}
+use Rattle.sheet.specs.Words.{wordsOf, memoryOf, readWord}
 use Rattle.sheet.specs.Sheet.{wordsRefusal}
 use Rattle.sheet.proofs.Laws.{word-fits, refusal-on, refusal-stop, refusal-off, memory-on, memory-off}
 use borrow.Author.Needs.{needs}
@@ -48,8 +48,8 @@ write-requires c κs =
     let s = c .before .before .before .before .before .before .before .before .before .args .s .now in
     let line = c .before .before .before .before .line-at in
     let w = c .before .before .before .read-word in
-    let passed : readWord (l .least) (rowOf wordFields (line .result .now)) .question ≡ 0 = sym (ap (λ r. r .question) (w .ensures)) ∙ c .before .if1 .left in
-    let low = word-fits (l .least) (rowOf wordFields (line .result .now)) passed in
+    let passed : readWord (l .least) (rowOf 2 (line .result .now)) .question ≡ 0 = sym (ap (λ r. r .question) (w .ensures)) ∙ c .before .if1 .left in
+    let low = word-fits (l .least) (rowOf 2 (line .result .now)) passed in
     (search needs, omega (arith, low, ap (λ r. r .address) (w .ensures), l .inv .0))
 
 add-least : tie.Need-add-least Inv-loop μ-loop
@@ -58,8 +58,8 @@ add-least c =
     let s = c .before .before .before .before .before .before .before .before .before .before .before .before .before .args .s .now in
     let line = c .before .before .before .before .before .before .before .before .line-at in
     let w = c .before .before .before .before .before .before .before .read-word in
-    let passed : readWord (l .least) (rowOf wordFields (line .result .now)) .question ≡ 0 = sym (ap (λ r. r .question) (w .ensures)) ∙ c .before .before .before .before .before .if1 .left in
-    omega (arith, word-fits (l .least) (rowOf wordFields (line .result .now)) passed, ap (λ r. r .address) (w .ensures))
+    let passed : readWord (l .least) (rowOf 2 (line .result .now)) .question ≡ 0 = sym (ap (λ r. r .question) (w .ensures)) ∙ c .before .before .before .before .before .if1 .left in
+    omega (arith, word-fits (l .least) (rowOf 2 (line .result .now)) passed, ap (λ r. r .address) (w .ensures))
 
 add-lineno : tie.Need-add-lineno Inv-loop μ-loop
 add-lineno c =
