@@ -10,15 +10,16 @@ use memory::bytes::write;
 use model::Fault;
 use model::HfiState;
 use model::Machine;
+use model::REGIONS;
 use model::Ran;
 use model::Region;
 use model::Stepped;
-use text::field::field;
-use text::field::field_count;
-use text::field::field_number;
+use setup::regions_from;
+use text::field::field_at;
 use text::field::line_at;
 use text::number::number;
 use text::print::put_hexadecimal;
+use text::row::read_row;
 use text::scan::position;
 use text::scan::rest;
 
@@ -29,16 +30,30 @@ fn print_field(n: u64) {
     print(&room[..end]);
 }
 
+// What follows the first c from a position on; the text's end where there is none.
+fn after(s: &[u8], at: usize, c: u8) -> usize
+    ensures { λ r. ⌜ (r ≤ length (now (s .entry))) × (at ≤ length (now (s .entry)) → at ≤ r) × (at < length (now (s .entry)) → at < r) ⌝ }
+{
+    let part = rest(s, at);
+    let n = position(part, c);
+    if n < part.len() {
+        return at + n + 1;
+    }
+    s.len()
+}
+
 // Where the line after the one at a position begins; the text's end where there is none.
 fn next_line(s: &[u8], at: usize) -> usize
     ensures { λ r. ⌜ (r ≤ length (now (s .entry))) × (at ≤ length (now (s .entry)) → at ≤ r) × (at < length (now (s .entry)) → at < r) ⌝ }
 {
-    let line = rest(s, at);
-    let n = position(line, b'\n');
-    if n < line.len() {
-        return at + n + 1;
-    }
-    s.len()
+    after(s, at, b'\n')
+}
+
+// The same of fields.
+fn next_field(line: &[u8], at: usize) -> usize
+    ensures { λ r. ⌜ (r ≤ length (now (line .entry))) × (at ≤ length (now (line .entry)) → at ≤ r) × (at < length (now (line .entry)) → at < r) ⌝ }
+{
+    after(line, at, b',')
 }
 
 // How many bytes are lent of those that there is room for.
@@ -51,39 +66,37 @@ fn lent(length: u64) -> usize
     65536
 }
 
-// The region whose three numbers stand from field k on.
-fn region_at(line: &[u8], k: usize) -> Region
-    requires { ⌜ k ≤ 100 ⌝ }
-{
-    Region {
-        base: field_number(line, k),
-        bound: field_number(line, k + 1),
-        permission: field_number(line, k + 2),
-    }
+// The numbers of a line of at most 21 fields; the first field is a word.
+fn numbers(line: &[u8]) -> [u64; 21] {
+    let mut values = [0u64; 21];
+    let mut widths = [0u64; 21];
+    read_row(line, &mut values, &mut widths);
+    values
 }
 
 // The machine with these registers and the rest as a state line has it.
 fn machine(line: &[u8], x: [u64; 32]) -> Machine {
-    let regions = [region_at(line, 8), region_at(line, 11), region_at(line, 14)];
+    let v = numbers(line);
+    let regions = regions_from(&v, 8);
     let fault = Fault {
-        occurred: field_number(line, 17),
-        region: field_number(line, 18),
-        op: field_number(line, 19),
-        address: field_number(line, 20),
+        occurred: v[17],
+        region: v[18],
+        op: v[19],
+        address: v[20],
     };
     let hfi = HfiState {
-        mode: field_number(line, 2),
-        reason: field_number(line, 3),
-        epc: field_number(line, 4),
-        options: field_number(line, 5),
-        handler: field_number(line, 6),
-        selector: field_number(line, 7),
+        mode: v[2],
+        reason: v[3],
+        epc: v[4],
+        options: v[5],
+        handler: v[6],
+        selector: v[7],
         regions: regions,
         fault: fault,
     };
     Machine {
         x: x,
-        pc: field_number(line, 1),
+        pc: v[1],
         hfi: hfi,
     }
 }
@@ -91,14 +104,14 @@ fn machine(line: &[u8], x: [u64; 32]) -> Machine {
 // The registers of a line of pairs, number and value; the others are 0.
 fn registers(line: &[u8]) -> [u64; 32] {
     let mut x = [0u64; 32];
-    let pairs = field_count(line) / 2;
-    let mut p = 0;
-    while p < pairs {
-        let i = number(field(line, 2 * p + 1), 10) as usize;
+    let mut at = next_field(line, 0);
+    while at < line.len() {
+        let value = next_field(line, at);
+        let i = number(field_at(line, at), 10) as usize;
         if i < 32 {
-            x[i] = field_number(line, 2 * p + 2);
+            x[i] = number(field_at(line, value), 16);
         }
-        p += 1;
+        at = next_field(line, value);
     }
     x
 }
@@ -118,15 +131,15 @@ fn fill(line: &[u8], mem: &mut [u8])
     requires { ⌜ length (now mem) ≡ 65536 ⌝ }
     ensures { λ _. ⌜ length (now (mem .exit)) ≡ 65536 ⌝ }
 {
-    let pairs = field_count(line) / 2;
-    let mut p = 0;
-    while p < pairs {
+    let mut at = next_field(line, 0);
+    while at < line.len() {
+        let value = next_field(line, at);
         put(
             mem,
-            field_number(line, 2 * p + 1),
-            field_number(line, 2 * p + 2),
+            number(field_at(line, at), 16),
+            number(field_at(line, value), 16),
         );
-        p += 1;
+        at = next_field(line, value);
     }
 }
 
@@ -150,10 +163,15 @@ fn make(call: u64, argument: u64, m: Machine, mem: &mut [u8]) -> Ran {
     }
 }
 
-fn print_region(r: Region) {
-    print_field(r.base);
-    print_field(r.bound);
-    print_field(r.permission);
+fn print_regions(regions: [Region; REGIONS]) {
+    let mut i = 0;
+    while i < REGIONS {
+        let r = regions[i];
+        print_field(r.base);
+        print_field(r.bound);
+        print_field(r.permission);
+        i += 1;
+    }
 }
 
 // The state line: pc and the HFI state.
@@ -167,9 +185,7 @@ fn print_state(pc: u64, h: HfiState) {
     print_field(h.handler);
     print_field(h.selector);
     let regions = h.regions;
-    print_region(regions[0]);
-    print_region(regions[1]);
-    print_region(regions[2]);
+    print_regions(regions);
     let f = h.fault;
     print_field(f.occurred);
     print_field(f.region);
@@ -226,14 +242,9 @@ fn show(s: &[u8], at: usize) {
     let mut mem = [0u8; 65536];
     fill(line_at(s, next_line(s, x)), &mut mem);
     let m = machine(line_at(s, state), registers(line_at(s, x)));
-    let call = line_at(s, at);
-    let n = lent(field_number(call, 3));
-    print_answer(make(
-        field_number(call, 1),
-        field_number(call, 2),
-        m,
-        &mut mem[..n],
-    ));
+    let call = numbers(line_at(s, at));
+    let n = lent(call[3]);
+    print_answer(make(call[1], call[2], m, &mut mem[..n]));
     print_memory(&mem);
 }
 

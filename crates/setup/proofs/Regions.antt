@@ -13,23 +13,23 @@ use Rattle.model.specs.declared.Region.{Region}
 use Rattle.setup.specs.Setup.{regionsFrom, permissionsInRange}
 
 -- ---- storing the regions from index i on, of n
-module _ (vs : List ℕ) (n i : ℕ) where
+module _ (vs : List ℕ) (first n i : ℕ) where
   abbrev pub storedFrom : List Region → List Region
-  storedFrom rs = sets rs i (regionsFrom vs (3 + 3 * i) (n - i))
+  storedFrom rs = sets rs i (regionsFrom vs (first + 3 * i) (n - i))
 
   pub regions-on : (rs : List Region) → i < n
-      → storedFrom rs ≡ sets (set rs i (getD (regionsFrom vs (3 + 3 * i) 1) 0 noRegion)) (i + 1) (regionsFrom vs (3 + 3 * (i + 1)) (n - (i + 1)))
+      → storedFrom rs ≡ sets (set rs i (getD (regionsFrom vs (first + 3 * i) 1) 0 noRegion)) (i + 1) (regionsFrom vs (first + 3 * (i + 1)) (n - (i + 1)))
   regions-on rs h =
       let e : n - i ≡ suc (n - (i + 1)) = omega arith in
       let f : suc i ≡ i + 1 = omega arith in
-      let g : 3 + 3 * i + 3 ≡ 3 + 3 * (i + 1) = omega arith in
-      let one = getD (regionsFrom vs (3 + 3 * i) 1) 0 noRegion in
-      ap (λ k. sets rs i (regionsFrom vs (3 + 3 * i) k)) e
-      ∙ ap (λ k. sets (set rs i one) k (regionsFrom vs (3 + 3 * i + 3) (n - (i + 1)))) f
+      let g : first + 3 * i + 3 ≡ first + 3 * (i + 1) = omega arith in
+      let one = getD (regionsFrom vs (first + 3 * i) 1) 0 noRegion in
+      ap (λ k. sets rs i (regionsFrom vs (first + 3 * i) k)) e
+      ∙ ap (λ k. sets (set rs i one) k (regionsFrom vs (first + 3 * i + 3) (n - (i + 1)))) f
       ∙ ap (λ k. sets (set rs i one) (i + 1) (regionsFrom vs k (n - (i + 1)))) g
 
   pub regions-off : (rs : List Region) → n ≤ i → storedFrom rs ≡ rs
-  regions-off rs h = let e : n - i ≡ 0 = omega arith in ap (λ k. sets rs i (regionsFrom vs (3 + 3 * i) k)) e
+  regions-off rs h = let e : n - i ≡ 0 = omega arith in ap (λ k. sets rs i (regionsFrom vs (first + 3 * i) k)) e
 
 -- ---- the permissions of the regions before index i are in range
 pub permissions-on : (rs : List Region) (i : ℕ) → i < length rs

@@ -1,6 +1,6 @@
 // Line 1 of a sheet: its values, questions 32 to 34 of it, and the machine that a run of the sheet starts from.
 ghost use mathlib.Core.Path.{_≡_};
-ghost use Prim.Native.Nat.{_≤_};
+ghost use Prim.Native.Nat.{_+_, _*_, _≤_};
 ghost use lib.ListN.{length};
 ghost use Rattle.text.specs.Split.{rowOf};
 ghost use Rattle.model.specs.Machine.{lastRegion};
@@ -37,10 +37,10 @@ pub struct ReadSetup {
     pub setup: Setup,
 }
 
-// The regions, whose fields begin at field 3.
-fn regions_of(values: &[u64]) -> [Region; REGIONS]
-    requires { ⌜ setupFields ≤ length (now values) ⌝ }
-    ensures { λ r. ⌜ r ≡ regionsFrom (now (values .entry)) 3 lastRegion ⌝ }
+// The regions, whose fields begin at field `first`.
+pub fn regions_from(values: &[u64], first: usize) -> [Region; REGIONS]
+    requires { ⌜ first + 3 * lastRegion ≤ length (now values) ⌝ }
+    ensures { λ r. ⌜ r ≡ regionsFrom (now (values .entry)) first lastRegion ⌝ }
 {
     let none = Region {
         base: 0,
@@ -50,7 +50,7 @@ fn regions_of(values: &[u64]) -> [Region; REGIONS]
     let mut regions = [none; REGIONS];
     let mut i = 0;
     while i < REGIONS {
-        let k = 3 + 3 * i;
+        let k = first + 3 * i;
         regions[i] = Region {
             base: values[k],
             bound: values[k + 1],
@@ -83,7 +83,7 @@ pub fn read_setup(line: &[u8]) -> ReadSetup
     let mut values = [0u64; SETUP_FIELDS];
     let mut widths = [0u64; SETUP_FIELDS];
     let count = read_row(line, &mut values, &mut widths);
-    let regions = regions_of(&values);
+    let regions = regions_from(&values, 3);
     let budget = ask(widths[BUDGET] == 0, values[BUDGET], DEFAULT_BUDGET);
     let wide = all_wide(&widths[..BUDGET]) & (widths[BUDGET] <= 16);
     let range = (values[1] <= 0xff) & (permissions_in_range(regions) & (budget <= 0xffffffff));

@@ -93,21 +93,6 @@ fields-last : (s : List ℕ) → length s ≤ position comma s → fields s ≡ 
 fields-last [] h = fields-none
 fields-last (b ∷ bs) h = split-none comma ([] ∷ []) (b ∷ bs) refl (omega arith) h
 
--- commas stand between fields, so there is one less of them
-pub fields-count : (s : List ℕ) → length (fields s) ≡ count comma s + 1
-unfolding split count
-fields-count [] = refl
-fields-count (b ∷ bs) = by (eqb b comma) (fields-count bs)
-  where
-    pushed : (ps : List (List ℕ)) (n : ℕ) → length ps ≡ n + 1 → length (push b ps) ≡ n + 1
-    pushed [] n e = let z : _≡_ {A = ℕ} 0 (n + 1) = e in omega arith
-    pushed (p ∷ ps) n e = e
-
-    by : (t : Bool) → length (fields bs) ≡ count comma bs + 1
-        → length (cond t ([] ∷ fields bs) (push b (fields bs))) ≡ cond t 1 0 + count comma bs + 1
-    by true e = omega arith
-    by false e = pushed (fields bs) (0 + count comma bs) (omega arith)
-
 -- the field f begins at position `at` of a line
 module _ (line f : List ℕ) (at : ℕ) (e : f ≡ getD (fields (drop at line)) 0 []) where
   field-is : f ≡ take (position comma (drop at line)) (drop at line)
@@ -128,18 +113,6 @@ module _ (line f : List ℕ) (at : ℕ) (e : f ≡ getD (fields (drop at line)) 
   field-last h =
       let k : length (drop at line) ≤ position comma (drop at line) = omega (arith, field-width, length-drop at line) in
       fields-last (drop at line) k ∙ ap (λ s. s ∷ []) (sym (field-is ∙ take-all (position comma (drop at line)) (drop at line) k))
-
-  -- field k of the rest of the line is field k - 1 of what follows the field f
-  pub field-later : (k : ℕ) → 0 < k → at + length f < length line
-      → getD (fields (drop at line)) k [] ≡ getD (fields (drop (at + length f + 1) line)) (k - 1) []
-  field-later k z h =
-      let g : k ≡ suc (k - 1) = omega arith in
-      ap (λ fs. getD fs k []) (field-more h) ∙ ap (λ n. getD (f ∷ fields (drop (at + length f + 1) line)) n []) g
-
-  pub field-none : (k : ℕ) → 0 < k → length line ≤ at + length f → getD (fields (drop at line)) k [] ≡ []
-  field-none k z h =
-      let g : k ≡ suc (k - 1) = omega arith in
-      ap (λ fs. getD fs k []) (field-last h) ∙ ap (λ n. getD (f ∷ []) n []) g
 
 -- ---- lines
 pub lines-none : lines [] ≡ []

@@ -6,7 +6,7 @@ use crate::field::field_at;
 use crate::number::number;
 
 // A number in slot k, where there is such a slot.
-fn store(slots: &mut [u64], k: usize, n: u64)
+fn fill(slots: &mut [u64], k: usize, n: u64)
     ensures { λ _. ⌜ now (slots .exit) ≡ set (now (slots .entry)) k n ⌝ }
 {
     if slots.len() <= k {
@@ -23,8 +23,8 @@ pub fn read_row(line: &[u8], values: &mut [u64], widths: &mut [u64]) -> usize
     let mut count = 0;
     loop {
         let f = field_at(line, at);
-        store(values, count, number(f, 16));
-        store(widths, count, f.len() as u64);
+        fill(values, count, number(f, 16));
+        fill(widths, count, f.len() as u64);
         count += 1;
         at = at + f.len();
         if at == line.len() {

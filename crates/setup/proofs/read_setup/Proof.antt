@@ -19,11 +19,11 @@ slice-aggregate-read-row-2 c = search needs
 read-row-requires : tie.Need-read-row-requires
 read-row-requires c κs = search needs
 
-slice-aggregate-regions-of : tie.Need-slice-aggregate-regions-of
-slice-aggregate-regions-of c = search needs
+slice-aggregate-regions-from : tie.Need-slice-aggregate-regions-from
+slice-aggregate-regions-from c = search needs
 
-regions-of-requires : tie.Need-regions-of-requires
-regions-of-requires c κs = search needs
+regions-from-requires : tie.Need-regions-from-requires
+regions-from-requires c κs = search needs
 
 array-read-ask : tie.Need-array-read-ask
 array-read-ask c = search needs
@@ -85,7 +85,7 @@ returns c =
       c .before .before .before .permissions-in-range .ensures,
       c .before .before .before .before .all-wide .ensures,
       c .before .before .before .before .before .before .ask .ensures,
-      c .before .before .before .before .before .before .before .regions-of .ensures,
+      c .before .before .before .before .before .before .before .regions-from .ensures,
     )
     (ap readSetup (row-in setupFields (c .before .before .before .before .before .before .before .before .before .before .before .before .before .before .before .args .line .now) row (r .ensures)))
 
@@ -96,8 +96,8 @@ read-setup-spec =
     slice-aggregate-read-row
     slice-aggregate-read-row-2
     read-row-requires
-    slice-aggregate-regions-of
-    regions-of-requires
+    slice-aggregate-regions-from
+    regions-from-requires
     array-read-ask
     array-read-ask-2
     ask-requires

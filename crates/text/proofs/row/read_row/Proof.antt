@@ -25,11 +25,11 @@ field-at-requires c κs = search needs
 number-requires : tie.Need-number-requires Inv-loop μ-loop
 number-requires c κs = search needs
 
-store-requires : tie.Need-store-requires Inv-loop μ-loop
-store-requires c κs = search needs
+fill-requires : tie.Need-fill-requires Inv-loop μ-loop
+fill-requires c κs = search needs
 
-store-requires-2 : tie.Need-store-requires-2 Inv-loop μ-loop
-store-requires-2 c κs = search needs
+fill-requires-2 : tie.Need-fill-requires-2 Inv-loop μ-loop
+fill-requires-2 c κs = search needs
 
 add-count : tie.Need-add-count Inv-loop μ-loop
 add-count c = search needs
@@ -57,7 +57,7 @@ loop-again c =
     let f = c .before .before .before .before .before .before .before .before .before .before .field-at in
     let v = c .before .before .before .before .before .before .before .before .number in
     let short : l .at + length (f .result .now) < length line = omega (arith, field-fits line (f .result .now) (l .at) (f .ensures) (l .inv .0), c .if1 .left) in
-    let more = row-more line (f .result .now) (l .at) (l .count) (v .result) (l .values) (l .widths) _ _ (f .ensures) (v .ensures) (c .before .before .before .before .before .before .before .store .ensures) (c .before .before .before .store2 .ensures) short in
+    let more = row-more line (f .result .now) (l .at) (l .count) (v .result) (l .values) (l .widths) _ _ (f .ensures) (v .ensures) (c .before .before .before .before .before .before .before .fill .ensures) (c .before .before .before .fill2 .ensures) short in
     (omega arith, omega arith, search needs, search needs, more ∙ l .inv .4)
 
 same-length : tie.Need-same-length Inv-loop μ-loop
@@ -71,7 +71,7 @@ returns c =
     let l = c .before .before .before .before .before .before .before .before .before .before .before .loop in
     let f = c .before .before .before .before .before .before .before .before .before .before .field-at in
     let v = c .before .before .before .before .before .before .before .before .number in
-    let last = row-last (c .before .before .before .before .before .before .before .before .before .before .before .before .before .before .before .args .line .now) (f .result .now) (l .at) (l .count) (v .result) (l .values) (l .widths) _ _ (f .ensures) (v .ensures) (c .before .before .before .before .before .before .before .store .ensures) (c .before .before .before .store2 .ensures) (omega (arith, c .if1 .taken)) in
+    let last = row-last (c .before .before .before .before .before .before .before .before .before .before .before .before .before .before .before .args .line .now) (f .result .now) (l .at) (l .count) (v .result) (l .values) (l .widths) _ _ (f .ensures) (v .ensures) (c .before .before .before .before .before .before .before .fill .ensures) (c .before .before .before .fill2 .ensures) (omega (arith, c .if1 .taken)) in
     last ∙ l .inv .4
 
 pub read-row-spec : {M : Type 1} → statement M
@@ -83,8 +83,8 @@ read-row-spec =
     loop-holds
     field-at-requires
     number-requires
-    store-requires
-    store-requires-2
+    fill-requires
+    fill-requires-2
     add-count
     add-at
     add-at-2

@@ -1,9 +1,9 @@
--- `row::store` meets its contract: past the end nothing is set.
+-- `row::fill` meets its contract: past the end nothing is set.
 use mathlib.Core.Path.{sym}
 use lib.Seq.{set-out}
 use borrow.Author.Needs.{needs}
-use Rattle.text.proofs.row.store.Statement.{statement}
-use Rattle.text.proofs.row.store.Tie as tie
+use Rattle.text.proofs.row.fill.Statement.{statement}
+use Rattle.text.proofs.row.fill.Tie as tie
 
 returns : tie.Need-returns
 returns c = sym (set-out _ _ _ (c .if1 .taken))
@@ -20,5 +20,5 @@ same-length c = search needs
 returns-2 : tie.Need-returns-2
 returns-2 c = search needs
 
-pub store-spec : {M : Type 1} → statement M
-store-spec = tie.close (tie.spec returns mul-slots slice-write-slots same-length returns-2)
+pub fill-spec : {M : Type 1} → statement M
+fill-spec = tie.close (tie.spec returns mul-slots slice-write-slots same-length returns-2)
