@@ -1,7 +1,6 @@
 -- What a step with the registers in place answers, as an outcome of the model.
 -- No promise rests on this file: it pairs what the code answers with the registers and the memory beside it. Effect is
--- declared in src/effect.rt.
--- Assumes nothing.
+-- declared in src/effect.rt. Assumes nothing.
 use mathlib.Core.List.{List}
 use Prim.Native.Nat.{ℕ}
 use Rattle.model.specs.Machine.{machine}
@@ -10,4 +9,4 @@ use Rattle.hart.specs.declared.effect.Effect.{Effect}
 
 -- the answer, the registers and the memory after it
 abbrev pub effectWith : Effect → List ℕ → List ℕ → Outcome
-effectWith d x mem = outcome (d .stop) (d .address) (machine x (d .pc) (d .hfi)) mem
+effectWith e x mem = outcome (e .stop) (e .address) (machine x (e .pc) (e .hfi)) mem

@@ -2,7 +2,7 @@
 ghost use mathlib.Core.Path.{_≡_};
 ghost use mathlib.Core.Bool.{false, cond};
 ghost use Prim.Native.Nat.{_-_, _<_};
-ghost use Rattle.model.specs.Machine.{inside as isInside, bit, locked as isLocked, redirectsCalls, region, setRegion, entered as enteredOf, exited as exitedOf};
+ghost use Rattle.model.specs.Machine.{inside as isInside, bit, locked as isLocked, redirectsCalls, redirectsExits, region, setRegion, entered as enteredOf, exited as exitedOf};
 use model::HfiState;
 use model::REGIONS;
 use model::Region;
@@ -39,6 +39,13 @@ pub fn redirects_calls(h: HfiState) -> bool
     ensures { λ r. ⌜ r ≡ redirectsCalls h ⌝ }
 {
     inside_with(h, 1)
+}
+
+// Are exits redirected?
+pub fn redirects_exits(h: HfiState) -> bool
+    ensures { λ r. ⌜ r ≡ redirectsExits h ⌝ }
+{
+    bits(h.options, 2, 1) == 1
 }
 
 // In HFI mode with new options; the fault record keeps all but `occurred`.

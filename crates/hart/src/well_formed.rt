@@ -2,7 +2,7 @@
 ghost use mathlib.Core.Path.{_≡_};
 ghost use Rattle.model.specs.Regions.{regionKind, permissionBits, permissionFits};
 ghost use Rattle.model.specs.WellFormed.{clearHandler, permissionsFit, faultFits, stateFits, wellFormed};
-use model::FETCH;
+use model::FETCH_OP;
 use model::Fault;
 use model::HfiState;
 use model::LARGEST_OPTIONS;
@@ -53,7 +53,7 @@ fn permissions_fit(rs: [Region; REGIONS]) -> bool
 fn fault_fits(f: Fault) -> bool
     ensures { λ r. ⌜ r ≡ faultFits f ⌝ }
 {
-    (f.occurred <= 1) & ((f.region <= LAST_REGION) & (f.op <= FETCH))
+    (f.occurred <= 1) & ((f.region <= LAST_REGION) & (f.op <= FETCH_OP))
 }
 
 pub fn state_fits(h: HfiState) -> bool

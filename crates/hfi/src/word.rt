@@ -19,6 +19,7 @@ use hart::state::entered;
 use hart::state::exited;
 use hart::state::inside;
 use hart::state::locked;
+use hart::state::redirects_exits;
 use hart::state::region_at;
 use hart::state::with_region;
 use hart::well_formed::clear_handler;
@@ -29,7 +30,6 @@ use model::LARGEST_OPTIONS;
 use model::LAST_REGION;
 use model::REGIONS;
 use model::Region;
-use words::bits;
 
 // Does the mode forbid the word?
 fn mode_forbids(h: HfiState, k: HfiKind) -> bool
@@ -171,7 +171,7 @@ fn enter_jump(pc: u64, h: HfiState, options: u64, target: u64) -> Effect
 fn exit(pc: u64, h: HfiState, next: u64) -> Effect
     ensures { λ r. ⌜ ((x : List ℕ) (mem : List ℕ) → effectWith r x mem ≡ completedOf (machine x (cond (redirectsExits h) (h .handler) next) (exitedOf h 1 pc)) mem) ⌝ }
 {
-    if bits(h.options, 2, 1) == 1 {
+    if redirects_exits(h) {
         return completed(h.handler, exited(h, 1, pc));
     }
     completed(next, exited(h, 1, pc))

@@ -1,6 +1,6 @@
 -- Another number in each place of the machine's record, and what stands in each place. Places count the record's 64-bit words.
 -- No promise rests on this file: it serves the test of the record's layout (c/try).
--- Region, Fault and Machine are declared in model/src/lib.rt.
+-- Region, Fault and Machine are declared in model/src/lib.rt. Assumes nothing.
 use mathlib.Core.Bool.{cond}
 use mathlib.Core.List.{List, [], _∷_}
 use Prim.Native.Nat.{ℕ, zero, suc, _+_, _-_, _*_, _/_, _%_}

@@ -36,12 +36,13 @@ pub extern "C" fn koubospar_probe() -> Machine
     let mut x = [0u64; 32];
     x[0] = 1000;
     x[31] = 1031;
-    let regions = [numbered(1039), numbered(1042), numbered(1045)];
+    let first = 1000 + FIRST_REGION;
+    let regions = [numbered(first), numbered(first + 3), numbered(first + 6)];
     let fault = Fault {
-        occurred: 1048,
-        region: 1049,
-        op: 1050,
-        address: 1051,
+        occurred: 1000 + FIRST_FAULT,
+        region: 1001 + FIRST_FAULT,
+        op: 1002 + FIRST_FAULT,
+        address: 1003 + FIRST_FAULT,
     };
     let hfi = HfiState {
         mode: 1033,

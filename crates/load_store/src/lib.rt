@@ -27,9 +27,9 @@ use memory::bytes::write;
 use memory::width::load_width;
 use memory::width::store_width;
 use model::HfiState;
-use model::LOAD;
+use model::LOAD_OP;
 use model::READ;
-use model::STORE;
+use model::STORE_OP;
 use model::Verdict;
 use model::WRITE;
 
@@ -50,7 +50,7 @@ fn finish_load(
 {
     match v {
         Verdict::Passed => write_back(x, hfi, next, rd, extended(k, read(mem, a, load_width(k)))),
-        Verdict::Refused(at, region) => faulted(16, pc, hfi, LOAD, at, region),
+        Verdict::Refused(at, region) => faulted(16, pc, hfi, LOAD_OP, at, region),
         Verdict::Absent(at) => absent(17, pc, hfi, at),
     }
 }
@@ -113,7 +113,7 @@ fn finish_store(
             write(mem, a, store_width(k), value);
             completed(next, hfi)
         }
-        Verdict::Refused(at, region) => faulted(16, pc, hfi, STORE, at, region),
+        Verdict::Refused(at, region) => faulted(16, pc, hfi, STORE_OP, at, region),
         Verdict::Absent(at) => absent(17, pc, hfi, at),
     }
 }

@@ -54,10 +54,10 @@ first-grants rs n ns b a h = go (matches (region rs n) a)
     go false = refl
 
 -- and is the fault region
-pub first-blamed : (rs : List Region) (n : ℕ) (ns : List ℕ) (a : ℕ) {at : ℕ} {matched t : Bool} → matched ≡ matches (region rs n) at → at ≡ a → matched ≡ t
+pub first-recorded : (rs : List Region) (n : ℕ) (ns : List ℕ) (a : ℕ) {at : ℕ} {matched t : Bool} → matched ≡ matches (region rs n) at → at ≡ a → matched ≡ t
     → cond t n (firstMatch rs ns a) ≡ firstMatch rs (n ∷ ns) a
 unfolding firstMatch
-first-blamed rs n ns a e p q = ap (λ (b : Bool). cond b n (firstMatch rs ns a)) (sym q ∙ e ∙ ap (matches (region rs n)) p)
+first-recorded rs n ns a e p q = ap (λ (b : Bool). cond b n (firstMatch rs ns a)) (sym q ∙ e ∙ ap (matches (region rs n)) p)
 
 -- so the loop over it finds what the access asks, where the others match nothing
 pub first-refused : (mode : ℕ) (rs : List Region) (n : ℕ) (ns : List ℕ) (wanted a count : ℕ) {i : ℕ} → 0 < n → ((b : ℕ) → firstMatch rs ns b ≡ 0)
@@ -70,8 +70,8 @@ first-refused mode rs n ns wanted a count h none e =
 
 -- ---- the verdict, from what the loops find
 
-pub refused-verdict : (mode length : ℕ) (a : Access) {i at blamed : ℕ} → i ≡ firstRefused mode a → i < a .count
-    → at ≡ byteOf (a .first) i → blamed ≡ a .faultRegion i → Refused at blamed ≡ verdict mode length a
+pub refused-verdict : (mode length : ℕ) (a : Access) {i at recorded : ℕ} → i ≡ firstRefused mode a → i < a .count
+    → at ≡ byteOf (a .first) i → recorded ≡ a .faultRegion i → Refused at recorded ≡ verdict mode length a
 unfolding verdict
 refused-verdict mode length a {i} e p q b = rw (← e) (rw (lt-ltb i (a .count) p, q, b) refl)
 

@@ -1,6 +1,5 @@
 -- What the loops of `access` find. No promise rests on this file: each of these is proved to be what model's definitions ask.
--- Region and Verdict are declared in model/src/lib.rt.
--- Assumes nothing.
+-- Region and Verdict are declared in model/src/lib.rt. Assumes nothing.
 use mathlib.Core.Bool.{true, false, cond}
 use mathlib.Core.List.{List}
 use Prim.Native.Nat.{ℕ}

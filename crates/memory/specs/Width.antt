@@ -1,5 +1,4 @@
--- The widths of an access in bytes. No promise rests on this file: it is what `bytes` asks of its callers.
--- Assumes nothing.
+-- The widths of an access in bytes. No promise rests on this file: it is what `bytes` asks of its callers. Assumes nothing.
 use mathlib.Core.Path.{_≡_}
 use mathlib.Core.Bool.{true}
 use mathlib.Core.List.{[], _∷_}

@@ -98,8 +98,8 @@ fn check_implicit(
     let i = first_refused_implicit(mode, r, wanted, a, n);
     if i < n {
         let at = std::num::wrapping_add_u64(a, i);
-        let blamed = if matches(r, at) { number } else { 0 };
-        return Verdict::Refused(at, blamed);
+        let region = if matches(r, at) { number } else { 0 };
+        return Verdict::Refused(at, region);
     }
     presence(len, a, n)
 }

@@ -40,7 +40,7 @@ use Rattle.model.proofs.Intervals.{both, explicit-ends}
 abbrev pub farthest : ℕ
 farthest = 2054
 
--- an explicit region's bytes that h-words with permission p reach
+-- an explicit region's bytes that h-words that want p reach
 pub record InExplicit (r : Region) (p b : ℕ) : Type 0 where
   pub rule : explicitRule r ≡ true
   pub permitted : permits p r ≡ true

@@ -1,5 +1,6 @@
 -- The words of opcode 5b: what question 8 forbids, and what each does. Document 01, the list after the table, and question 8.
--- Region, HfiState and Machine are declared in src/lib.rt, HfiKind in instructions/src/kind.rt. Assumes nothing.
+-- Region, HfiState and Machine are declared in src/lib.rt, HfiKind in instructions/src/kind.rt, Outcome in
+-- Outcome.antt. Assumes nothing.
 use mathlib.Core.Bool.{Bool, false, cond, not, _&&_, _||_}
 use mathlib.Core.List.{List}
 use Prim.Native.Nat.{ℕ}

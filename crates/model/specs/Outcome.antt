@@ -42,7 +42,7 @@ withPc m next = machine (m .x) next (m .hfi)
 
 -- "8. Does HFI allow it? No: 14", by the number that the rules give: 0 where HFI allows the instruction
 unfoldable pub allowed : Machine → List ℕ → ℕ → Outcome → Outcome
-allowed m mem forbidden rest = cond (eqb forbidden 0) rest (stopped forbidden m mem)
+allowed m mem stop rest = cond (eqb stop 0) rest (stopped stop m mem)
 
 -- "9. Is the target of a taken branch, a jump or an enter with jump a multiple of 4? No: 15."
 unfoldable pub aligned : Machine → List ℕ → ℕ → Outcome → Outcome

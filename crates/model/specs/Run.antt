@@ -1,5 +1,5 @@
 -- A run: steps until one of document 01's questions stops it.
--- Machine and Ran are declared in src/lib.rt. Assumes nothing.
+-- Machine and Ran are declared in src/lib.rt, Outcome in Outcome.antt. Assumes nothing.
 use mathlib.Core.Bool.{Bool, cond, not, _&&_}
 use mathlib.Core.List.{List}
 use Prim.Native.Nat.{ℕ, zero, suc}

@@ -1,5 +1,6 @@
 -- One step: document 01, "Questions a call puts", and the effect of each instruction.
--- Machine and Stepped are declared in src/lib.rt, the instructions in instructions/src/instruction.rt. Assumes nothing.
+-- Machine and Stepped are declared in src/lib.rt, the instructions and their kinds in instructions/src. Assumes
+-- nothing.
 use mathlib.Core.Bool.{Bool, cond}
 use mathlib.Core.List.{List}
 use Prim.Native.Nat.{ℕ, _*_, _/_, _%_}

@@ -23,11 +23,11 @@ pub const EXECUTE: u64 = 2;
 pub const LARGE: u64 = 3;
 
 // The fault record's ops.
-pub const LOAD: u64 = 1;
+pub const LOAD_OP: u64 = 1;
 
-pub const STORE: u64 = 2;
+pub const STORE_OP: u64 = 2;
 
-pub const FETCH: u64 = 3;
+pub const FETCH_OP: u64 = 3;
 
 // The largest options: 4 bits.
 pub const LARGEST_OPTIONS: u64 = 15;

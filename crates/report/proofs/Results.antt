@@ -28,7 +28,7 @@ pub record Held (r : Ran) : Type 0 where
   pub region : r .machine .hfi .fault .region < 2 ^ 64
   pub op : r .machine .hfi .fault .op < 2 ^ 64
   pub address : r .machine .hfi .fault .address < 2 ^ 64
-  pub long : length (r .machine .x) ≡ 32
+  pub registers-count : length (r .machine .x) ≡ 32
   pub registers : (i : ℕ) → getD (r .machine .x) i 0 < 2 ^ 64
 
 -- ---- everything that is printed of two results is the same
@@ -144,7 +144,7 @@ results-same r q h k e =
       epc = hexadecimal-same (r .machine .hfi .epc) (q .machine .hfi .epc) (h .epc) (k .epc) (ap (at 4) row);
       fault = fault-same (r .machine .hfi .fault) (q .machine .hfi .fault) occurred region op address;
       registers =
-          registers-same 0 (r .machine .x) (q .machine .x) (h .long ∙ sym (k .long)) (omega (arith, h .long)) (h .registers) (k .registers) others;
+          registers-same 0 (r .machine .x) (q .machine .x) (h .registers-count ∙ sym (k .registers-count)) (omega (arith, h .registers-count)) (h .registers) (k .registers) others;
     }
 
 -- ---- and no result prints as a refusal: the first line of a result has nine fields, that of a refusal has three

@@ -1,4 +1,4 @@
--- Demand 3 read off the contract of the code's run, so that nobody has to join the two: two calls of `run`, each of which
+-- Demand 3 read off the contract of the code's run, so that nobody has to join the two: two calls of `run_call`, each of which
 -- met its contract, from one machine in HFI mode with regions locked, over memories of one length that agree wherever it may
 -- read or execute.
 -- Assumes nothing.
@@ -8,16 +8,15 @@ use Prim.Native.Nat.{ℕ, _≤_}
 use lib.ListN.{length, getD}
 use Rattle.words.specs.Word.{field}
 use Rattle.model.specs.Reach.{Readable, Writable, Executable}
-use Rattle.model.specs.Run.{Ended, runCall}
+use Rattle.model.specs.Run.{Ended, ranWith, runCall}
 use Rattle.model.specs.Isolation.{Locked}
 use Rattle.model.specs.declared.Machine.{Machine}
 use Rattle.model.specs.declared.Ran.{Ran}
 use Rattle.model.proofs.Moves.{settings}
 use Rattle.model.proofs.Isolation.{runs-isolated}
 use Rattle.model.proofs.Runs.{count-at-most, locked-keeps}
-use Rattle.model.specs.Run.{ranWith}
 
--- what `run` promises of a call on m and the memory s: the ranWith r, and the memory s′ after it
+-- what `run_call` promises of a call on m and the memory s: the answer r, and the memory s′ after it
 abbrev pub Called : Machine → List ℕ → ℕ → Ran → List ℕ → Type 0
 Called m s budget r s′ = ranWith r s′ ≡ runCall m s budget
 

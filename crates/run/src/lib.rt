@@ -50,11 +50,11 @@ fn run(m: Machine, mem: &mut [u8], budget: u64) -> Ran
     let began = inside(hfi);
     let mut count: u64 = 0;
     while count < budget {
-        let d = step(&mut x, pc, hfi, mem);
-        pc = d.pc;
-        hfi = d.hfi;
-        if d.stop != 0 {
-            return ended(d.stop, count, d.address, x, pc, hfi);
+        let e = step(&mut x, pc, hfi, mem);
+        pc = e.pc;
+        hfi = e.hfi;
+        if e.stop != 0 {
+            return ended(e.stop, count, e.address, x, pc, hfi);
         }
         count += 1;
         if began & !inside(hfi) {

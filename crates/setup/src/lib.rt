@@ -17,7 +17,7 @@ use text::row::read_row;
 // The fields of line 1: pc, options, handler, three for each region, and the budget.
 const SETUP_FIELDS: usize = 4 + 3 * REGIONS;
 
-const BUDGET: usize = SETUP_FIELDS - 1;
+const BUDGET_FIELD: usize = SETUP_FIELDS - 1;
 
 // What an empty budget means.
 const DEFAULT_BUDGET: u64 = 1000;
@@ -84,8 +84,12 @@ pub fn read_setup(line: &[u8]) -> ReadSetup
     let mut widths = [0u64; SETUP_FIELDS];
     let count = read_row(line, &mut values, &mut widths);
     let regions = regions_from(&values, 3);
-    let budget = ask(widths[BUDGET] == 0, values[BUDGET], DEFAULT_BUDGET);
-    let wide = all_wide(&widths[..BUDGET]) & (widths[BUDGET] <= 16);
+    let budget = ask(
+        widths[BUDGET_FIELD] == 0,
+        values[BUDGET_FIELD],
+        DEFAULT_BUDGET,
+    );
+    let wide = all_wide(&widths[..BUDGET_FIELD]) & (widths[BUDGET_FIELD] <= 16);
     let range = (values[1] <= 0xff) & (permissions_in_range(regions) & (budget <= 0xffffffff));
     let setup = Setup {
         pc: values[0],

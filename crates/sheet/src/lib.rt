@@ -22,6 +22,9 @@ use text::scan::count;
 use text::scan::front;
 use text::scan::last_byte;
 
+// The fields of a word line: address and word.
+const WORD_FIELDS: usize = 2;
+
 // The question that a sheet fails first, 0 where it fails none, and the number of the line that it is asked of.
 pub struct Refusal {
     pub question: u64,
@@ -84,29 +87,29 @@ fn file_refusal(s: &[u8]) -> Refusal
 fn read_word(line: &[u8], least: u64) -> ReadWord
     ensures { λ r. ⌜ r ≡ readWord least (rowOf 2 (now (line .entry))) ⌝ }
 {
-    let mut values = [0u64; 2];
-    let mut widths = [0u64; 2];
+    let mut values = [0u64; WORD_FIELDS];
+    let mut widths = [0u64; WORD_FIELDS];
     let count = read_row(line, &mut values, &mut widths);
     let address = values[0];
     let word = values[1];
     let range = (address % 4 == 0) & ((address <= 0xfffc) & (word <= 0xffffffff));
     let order = ask(range, 34, ask(least <= address, 35, 0));
     ReadWord {
-        question: ask(count == 2, 32, ask(all_wide(&widths), 33, order)),
+        question: ask(count == WORD_FIELDS, 32, ask(all_wide(&widths), 33, order)),
         address,
         word,
     }
 }
 
-// The word lines from a position on, where the line with the number `first` begins, and their words placed in memory. The line
+// The word lines from a position on, where the line numbered `start_lineno` begins, and their words placed in memory. The line
 // number runs along. Where a line is refused, memory is left free: no refused sheet is run.
-fn read_words(s: &[u8], start: usize, first: u64, mem: &mut [u8]) -> Refusal
-    requires { ⌜ (length (now mem) ≡ 65536) × (start ≤ length (now s)) × (length (now s) ≤ 65536) × (getD (now s) (length (now s) - 1) 0 ≡ newline) × (first ≡ lineNumber (now s) start) ⌝ }
-    ensures { λ r. ⌜ r ≡ wordsRefusal first 0 (lines (drop start (now (s .entry)))) ⌝ }
+fn read_words(s: &[u8], start: usize, start_lineno: u64, mem: &mut [u8]) -> Refusal
+    requires { ⌜ (length (now mem) ≡ 65536) × (start ≤ length (now s)) × (length (now s) ≤ 65536) × (getD (now s) (length (now s) - 1) 0 ≡ newline) × (start_lineno ≡ lineNumber (now s) start) ⌝ }
+    ensures { λ r. ⌜ r ≡ wordsRefusal start_lineno 0 (lines (drop start (now (s .entry)))) ⌝ }
     ensures { λ r. ⌜ (r .question ≡ 0 → now (mem .exit) ≡ memoryOf (now (mem .entry)) (wordsOf (lines (drop start (now (s .entry)))))) ⌝ }
 {
     let mut at = start;
-    let mut lineno = first;
+    let mut lineno = start_lineno;
     let mut least: u64 = 0;
     while at < s.len() {
         let line = line_at(s, at);
@@ -128,20 +131,20 @@ fn read_words(s: &[u8], start: usize, first: u64, mem: &mut [u8]) -> Refusal
     }
 }
 
-// The refusal, the setup and, where the sheet is not refused, its words in memory.
+// The refusal, the setup and, where the sheet is not refused, its words in memory; where it is, memory is left free.
 pub fn read_sheet(s: &[u8], mem: &mut [u8]) -> ReadSheet
     requires { ⌜ length (now mem) ≡ 65536 ⌝ }
     ensures { λ r. ⌜ (r .refusal ≡ readSheet (now (s .entry)) .refusal) × (r .setup ≡ readSheet (now (s .entry)) .setup) ⌝ }
     ensures { λ r. ⌜ (r .refusal .question ≡ 0 → now (mem .exit) ≡ memoryOf (now (mem .entry)) (readSheet (now (s .entry)) .words)) ⌝ }
 {
     let line = line_at(s, 0);
-    let first = read_setup(line);
-    let setup = first.setup;
+    let head = read_setup(line);
+    let setup = head.setup;
     let refusal = file_refusal(s);
     if refusal.question != 0 {
         return ReadSheet { refusal, setup };
     }
-    let question = first.question;
+    let question = head.question;
     if question != 0 {
         let refusal = Refusal {
             question,

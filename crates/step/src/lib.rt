@@ -15,7 +15,7 @@ use hart::effect::stopped;
 use instructions::instruction::Decoded;
 use memory::access::check_fetch;
 use memory::bytes::read;
-use model::FETCH;
+use model::FETCH_OP;
 use model::HfiState;
 use model::Verdict;
 use std::num::wrapping_add_u64;
@@ -45,7 +45,7 @@ pub fn step(x: &mut [u64; 32], pc: u64, hfi: HfiState, mem: &mut [u8]) -> Effect
     let v = check_fetch(hfi.mode, rs, mem.len() as u64, pc);
     match v {
         Verdict::Passed => execute_word(x, pc, hfi, mem, read(mem, pc, 4)),
-        Verdict::Refused(at, region) => faulted(11, pc, hfi, FETCH, at, region),
+        Verdict::Refused(at, region) => faulted(11, pc, hfi, FETCH_OP, at, region),
         Verdict::Absent(at) => absent(12, pc, hfi, at),
     }
 }

@@ -1,4 +1,4 @@
-// Places in a text, and the parts of it before and after a position.
+// Positions in a text, and the parts of it before and after a position.
 ghost use mathlib.Core.Path.{_≡_};
 ghost use Prim.Native.Nat.{_-_, _≤_};
 ghost use lib.ListN.{length, getD, take, drop};

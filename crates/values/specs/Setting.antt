@@ -1,10 +1,10 @@
--- What a case starts from.
--- Assumes nothing.
-use mathlib.Core.List.{List, [], _∷_}
+-- What a case starts from. No promise rests on this file: it serves the program `values`.
+-- Machine is declared in model/src/lib.rt. Assumes nothing.
+use mathlib.Core.List.{List}
 use Prim.Native.Nat.{ℕ, zero, suc, _+_, _*_}
 use lib.ListN.{take, drop}
 use Rattle.model.specs.declared.Machine.{Machine}
-use Rattle.model.specs.Machine.{noRegion}
+use Rattle.model.specs.Machine.{zeroRegions}
 use Rattle.model.specs.Bytes.{written}
 use Rattle.text.specs.Number.{number}
 
@@ -22,7 +22,7 @@ machineAt x pc =
             options = 0;
             handler = 0;
             selector = 0;
-            regions = noRegion ∷ noRegion ∷ noRegion ∷ [];
+            regions = zeroRegions;
             fault = record { occurred = 0; region = 0; op = 0; address = 0 };
           };
     }

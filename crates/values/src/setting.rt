@@ -8,6 +8,7 @@ use memory::bytes::write;
 use model::Fault;
 use model::HfiState;
 use model::Machine;
+use model::REGIONS;
 use model::Region;
 
 // All zero but the registers and pc.
@@ -25,7 +26,7 @@ pub fn machine(x: [u64; 32], pc: u64) -> Machine
         op: 0,
         address: 0,
     };
-    let regions = [none, none, none];
+    let regions = [none; REGIONS];
     let hfi = HfiState {
         mode: 0,
         reason: 0,

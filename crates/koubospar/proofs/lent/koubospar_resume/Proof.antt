@@ -1,4 +1,4 @@
--- `koubospar_resume` meets its contract: the walk of `koubospar_step` without the slice, over `step::call::resume`.
+-- `koubospar_resume` meets its contract: the walk of `koubospar_step` without the slice, over `step::call::resume_call`.
 -- Assumes nothing.
 use mathlib.Core.Path.{_≡_, refl, ap}
 use Prim.Native.Nat.{ℕ, _<_, _^_}
@@ -40,7 +40,7 @@ use denote.Triple.Table.{entered, cited}
 use denote.Triple.Walked.{says, Stays, stay-ref, stay-none, goes-none, walkOf, goes-ref, Walks, ends-at, walked, walk-meets}
 use Rattle.model.specs.declared.Machine.{Machine}
 use Rattle.model.specs.declared.Stepped.{Stepped}
-use Rattle.model.specs.Step.{resumeCall as resumeOf}
+use Rattle.model.specs.Step.{resumeCall}
 use Rattle.model.proofs.Machine as T
 use Rattle.model.proofs.Machine.Laws as T′
 use Rattle.model.proofs.Stepped as S
@@ -102,7 +102,7 @@ module _ {M : Type 1} (𝓤 : URA M) (H : Heap 𝓤) (A : Atoms 𝓤) (W : Given
       owned ! R (Is R) (LL.makes T.the-type T′.the-plain 𝓤 H A) h _ g $ fjoin ! $ move ! (1 ∷ 0 ∷ []) $ join ! $ frame ! $ done !
 
   abbrev said : Stepped → Type 0
-  said r = r ≡ resumeOf h n
+  said r = r ≡ resumeCall h n
 
   said-of : (r : Stepped) → ent 𝓤 (ensured 𝓤 H A callee.ended (callee.clauses 𝓤 H A at-mem run) tt (h, (n, tt)) tt r) (fact 𝓤 (said r))
   said-of r = exE 𝓤 _ (λ ws. snd∗ 𝓤 (sem 𝓤 H A (lasts callee.ended tt (h, (n, tt)) ws)) (fact 𝓤 (said r)))
@@ -134,7 +134,7 @@ module _ {M : Type 1} (𝓤 : URA M) (H : Heap 𝓤) (A : Atoms 𝓤) (W : Given
         use1 W (later (some (λ (r : Stepped). (‵ ftrue ⊛ ‵ (S.the-row .own r (w ∷ []))) ⊛ raw (ensured 𝓤 H A callee.ended (callee.clauses 𝓤 H A at-mem run) tt (h, (n, tt)) tt r)))) (id⊢ 𝓤 _) $ await ! tt $ pick ! (λ r.
         split ! $ move ! (1 ∷ []) $ use1 W (raw (fact 𝓤 (said r))) (said-of r) $ heard ! (said r) (λ e. split ! $ drop ! $
         peeks ! S.the-row (Is S.the-row) (shows 𝓤 H A S.the-row) r (w ∷ []) (λ is.
-        -- [what the shown owns; the machine's cell; …; _4 at 7; …; _3 at 9; …; _1 at 13; …; room for _0 at 15]
+        -- [what the answer owns; the machine's cell; …; _4 at 7; …; _3 at 9; …; _1 at 13; …; room for _0 at 15]
         land ! (from ! (stop !)) (init ! 9 refl (LL.lawful S.the-type S′.the-laws 𝓤 H A W .typed r _ is .0)) $
         rewrite ! 9 (λ (u : Val). ‵ (fat fullShare S′.mir l₃ 0 u)) (ap only (LL.tells S.the-type S′.the-laws r _ is)) refl $
         assigns ! (of-opd ! (load ! (from ! (fld ! refl (stop !))) (look-in ! 9 (sub ! 2 refl (whole !))))) (from ! (hop ! (look ! 13 refl) (stop !))) (store-raw ! 1 refl (LL.lawful T.the-type T′.the-laws 𝓤 H A W .typed (r .machine) _ (machine-is r _ is) .0)) $

@@ -74,7 +74,7 @@ mach = LL.val T.the-type T′.the-laws
 abbrev shown : Ran → RunStop
 shown r = record { stop = r .stop; count = r .count; address = r .address }
 
--- the shown's machine and numbers are values of their types, since the callee's shown is one
+-- the answer's machine and numbers are values of their types, since the callee's answer is one
 machine-is : (r : Ran) (vs : List Val) → Is S.the-row r vs → Is T.the-row (r .machine) (mach (r .machine) ∷ [])
 machine-is r vs g = LL.owed S.the-type S′.the-laws r vs g .1 .1 .1 .0
 
@@ -141,11 +141,11 @@ module _ {M : Type 1} (𝓤 : URA M) (H : Heap 𝓤) (A : Atoms 𝓤) (W : Given
         use1 W (later (some (λ (r : Ran). ((‵ (flft κ′ q′) ⊛ ‵ ftrue) ⊛ ‵ (S.the-row .own r (w ∷ []))) ⊛ raw (ensured 𝓤 H A callee.ended (callee.clauses 𝓤 H A at-mem run) (κ′, tt) (h, (x, (n, tt))) tt r)))) (id⊢ 𝓤 _) $ await ! tt $ pick ! (λ r.
         split ! $ move ! (1 ∷ []) $ use1 W (some (λ (zs : Unit {0} × (List ℕ × (Unit {0} × Unit {0}))). ‵ (lasts callee.ended (κ′, tt) (h, (x, (n, tt))) zs) ⊛ raw (fact 𝓤 (said r (zs .1 .0))))) (id⊢ 𝓤 _) $ pick ! (λ zs.
         split ! $ move ! (1 ∷ []) $ heard ! (said r (zs .1 .0)) (λ e. fsplit ! $ move ! (1 ∷ []) $ fsplit ! $ fsplit ! $ move ! (1 ∷ []) $ feqL ! (λ l.
-        -- [the last list; nothing of the number; nothing of the machine; the token and the shown; what the number owned; the machine's cell; …]
+        -- [the last list; nothing of the number; nothing of the machine; the token and the answer; what the number owned; the machine's cell; …]
         move ! (3 ∷ []) $ split ! $ move ! (1 ∷ []) $ peeks ! S.the-row (Is S.the-row) (shows 𝓤 H A S.the-row) r (w ∷ []) (λ is.
         land ! (from ! (stop !)) (init ! 17 refl (LL.lawful S.the-type S′.the-laws 𝓤 H A W .typed r _ is .0)) $
         rewrite ! 17 (λ (u : Val). ‵ (fat fullShare S′.mir l₄ 0 u)) (ap only (LL.tells S.the-type S′.the-laws r _ is)) refl $
-        -- [what the shown owns; the token; the last list; …; the machine's cell at 6; …; _4 at 17; …; _1 at 23; …; room for _0 at 25]
+        -- [what the answer owns; the token; the last list; …; the machine's cell at 6; …; _4 at 17; …; _1 at 23; …; room for _0 at 25]
         assigns ! (of-opd ! (load ! (from ! (fld ! refl (stop !))) (look-in ! 17 (sub ! 3 refl (whole !))))) (from ! (hop ! (look ! 23 refl) (stop !))) (store-raw ! 6 refl (LL.lawful T.the-type T′.the-laws 𝓤 H A W .typed (r .machine) _ (machine-is r _ is) .0)) $
         assigns ! (agg ! (and-then ! (load ! (from ! (fld ! refl (stop !))) (look-in ! 17 (sub ! 0 refl (whole !)))) (and-then ! (load ! (from ! (fld ! refl (stop !))) (look-in ! 17 (sub ! 1 refl (whole !)))) (and-then ! (load ! (from ! (fld ! refl (stop !))) (look-in ! 17 (sub ! 2 refl (whole !)))) (no-more !))))) (from ! (stop !)) (init ! 25 refl (LL.lawful P.the-type P′.the-laws 𝓤 H A W .typed (shown r) _ (shown-is r _ is) .0)) $
         -- the borrow is closed at the new machine

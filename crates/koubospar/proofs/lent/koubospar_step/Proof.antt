@@ -1,5 +1,5 @@
 -- `koubospar_step` meets its contract, by a walk of its code: the borrow of the machine is opened and the machine read out
--- whole; `single_step` gets this copy, and the slice with its own lifetime and name; the machine of the shown is
+-- whole; `single_step` gets this copy, and the slice with its own lifetime and name; the machine of the answer is
 -- written back whole, and the borrow closed there. Of `single_step` the proof uses its contract alone, and of Machine no field.
 -- Assumes nothing.
 use mathlib.Core.Path.{_≡_, refl, ap}
@@ -42,7 +42,7 @@ use denote.Triple.Table.{entered, cited}
 use denote.Triple.Walked.{says, Stays, stay-ref, gave-slice, walkOf, goes-ref, goes-gave-slice, Walks, ends-at, walked, walk-meets}
 use Rattle.model.specs.declared.Machine.{Machine}
 use Rattle.model.specs.declared.Stepped.{Stepped}
-use Rattle.model.specs.Step.{stepCall as stepOf}
+use Rattle.model.specs.Step.{stepCall}
 use Rattle.model.specs.Outcome.{steppedWith}
 use Rattle.model.proofs.Machine as T
 use Rattle.model.proofs.Machine.Laws as T′
@@ -74,7 +74,7 @@ mach = LL.val T.the-type T′.the-laws
 abbrev shown : Stepped → Stop
 shown r = record { stop = r .stop; address = r .address }
 
--- the shown's machine and numbers are values of their types, since the callee's shown is one
+-- the answer's machine and numbers are values of their types, since the callee's answer is one
 machine-is : (r : Stepped) (vs : List Val) → Is S.the-row r vs → Is T.the-row (r .machine) (mach (r .machine) ∷ [])
 machine-is r vs g = LL.owed S.the-type S′.the-laws r vs g .1 .1 .0
 
@@ -110,7 +110,7 @@ module _ {M : Type 1} (𝓤 : URA M) (H : Heap 𝓤) (A : Atoms 𝓤) (W : Given
       owned ! R (Is R) (LL.makes T.the-type T′.the-plain 𝓤 H A) h _ g $ fjoin ! $ move ! (1 ∷ 0 ∷ []) $ join ! $ frame ! $ done !
 
   abbrev said : Stepped → List ℕ → Type 0
-  said r zs = steppedWith r zs ≡ stepOf h (x .now)
+  said r zs = steppedWith r zs ≡ stepCall h (x .now)
 
   exits : (r : Stepped) (vs : List Val) (zs : List ℕ) → Is S.the-row r vs → said r zs → length zs ≡ length (x .now)
       → ent 𝓤 (⋆ 𝓤 H A (‵ (fobs γ (R .coded .code (r .machine))) ∷ ‵ (fbor κ (Body (mem R) b o γ)) ∷ ‵ (flft κ q) ∷ (‵ (flft κ′ q′) ⊛ ‵ ftrue) ∷ ‵ (finally u8 (x .name) zs) ∷ [])) (Post (LL.val P.the-type P′.the-laws (shown r)))
@@ -141,11 +141,11 @@ module _ {M : Type 1} (𝓤 : URA M) (H : Heap 𝓤) (A : Atoms 𝓤) (W : Given
         use1 W (later (some (λ (r : Stepped). ((‵ (flft κ′ q′) ⊛ ‵ ftrue) ⊛ ‵ (S.the-row .own r (w ∷ []))) ⊛ raw (ensured 𝓤 H A callee.ended (callee.clauses 𝓤 H A at-mem run) (κ′, tt) (h, (x, tt)) tt r)))) (id⊢ 𝓤 _) $ await ! tt $ pick ! (λ r.
         split ! $ move ! (1 ∷ []) $ use1 W (some (λ (zs : Unit {0} × (List ℕ × Unit {0})). ‵ (lasts callee.ended (κ′, tt) (h, (x, tt)) zs) ⊛ raw (fact 𝓤 (said r (zs .1 .0))))) (id⊢ 𝓤 _) $ pick ! (λ zs.
         split ! $ move ! (1 ∷ []) $ heard ! (said r (zs .1 .0)) (λ e. fsplit ! $ move ! (1 ∷ []) $ fsplit ! $ fsplit ! $ move ! (1 ∷ []) $ feqL ! (λ l.
-        -- [the last list; true; nothing of the machine; the token and the shown; true; the machine's cell; …]
+        -- [the last list; true; nothing of the machine; the token and the answer; true; the machine's cell; …]
         move ! (3 ∷ []) $ split ! $ move ! (1 ∷ []) $ peeks ! S.the-row (Is S.the-row) (shows 𝓤 H A S.the-row) r (w ∷ []) (λ is.
         land ! (from ! (stop !)) (init ! 17 refl (LL.lawful S.the-type S′.the-laws 𝓤 H A W .typed r _ is .0)) $
         rewrite ! 17 (λ (u : Val). ‵ (fat fullShare S′.mir l₃ 0 u)) (ap only (LL.tells S.the-type S′.the-laws r _ is)) refl $
-        -- [what the shown owns; the token; the last list; …; the machine's cell at 6; …; _3 at 17; …; _1 at 21; …; room for _0 at 23]
+        -- [what the answer owns; the token; the last list; …; the machine's cell at 6; …; _3 at 17; …; _1 at 21; …; room for _0 at 23]
         assigns ! (of-opd ! (load ! (from ! (fld ! refl (stop !))) (look-in ! 17 (sub ! 2 refl (whole !))))) (from ! (hop ! (look ! 21 refl) (stop !))) (store-raw ! 6 refl (LL.lawful T.the-type T′.the-laws 𝓤 H A W .typed (r .machine) _ (machine-is r _ is) .0)) $
         assigns ! (agg ! (and-then ! (load ! (from ! (fld ! refl (stop !))) (look-in ! 17 (sub ! 0 refl (whole !)))) (and-then ! (load ! (from ! (fld ! refl (stop !))) (look-in ! 17 (sub ! 1 refl (whole !)))) (no-more !)))) (from ! (stop !)) (init ! 23 refl (LL.lawful P.the-type P′.the-laws 𝓤 H A W .typed (shown r) _ (shown-is r _ is) .0)) $
         -- the borrow is closed at the new machine

@@ -3,7 +3,7 @@ use mathlib.Core.List.{[], _∷_}
 use Rattle.model.specs.Regions.{firstMatch}
 use Rattle.model.specs.Access.{implicitAccess}
 use Rattle.model.specs.Bytes.{byteOf}
-use Rattle.memory.proofs.Loops.{first-refused, first-blamed, refused-verdict, granted-verdict}
+use Rattle.memory.proofs.Loops.{first-refused, first-recorded, refused-verdict, granted-verdict}
 use borrow.Author.Needs.{needs}
 use Rattle.memory.proofs.access.check_implicit.Statement.{statement}
 use Rattle.memory.proofs.access.check_implicit.Tie as tie
@@ -35,7 +35,7 @@ returns c =
     let at = c .before .before .wrapping-add-u64 in
     refused-verdict (a .mode) (a .len) (implicitAccess (a .t2) (a .number ∷ []) (a .wanted) (a .a) (a .n))
     (first-refused (a .mode) (a .t2) (a .number) [] (a .wanted) (a .a) (a .n) (s .pre .0) (λ b. refl) (refused .ensures)) (c .before .before .before .if1 .taken) (at .ensures)
-    (first-blamed (a .t2) (a .number) [] (byteOf (a .a) (refused .result)) (c .before .matches .ensures) (at .ensures) (c .if2 .taken))
+    (first-recorded (a .t2) (a .number) [] (byteOf (a .a) (refused .result)) (c .before .matches .ensures) (at .ensures) (c .if2 .taken))
 
 returns-2 : tie.Need-returns-2
 unfolding firstMatch
@@ -46,7 +46,7 @@ returns-2 c =
     let at = c .before .before .wrapping-add-u64 in
     refused-verdict (a .mode) (a .len) (implicitAccess (a .t2) (a .number ∷ []) (a .wanted) (a .a) (a .n))
     (first-refused (a .mode) (a .t2) (a .number) [] (a .wanted) (a .a) (a .n) (s .pre .0) (λ b. refl) (refused .ensures)) (c .before .before .before .if1 .taken) (at .ensures)
-    (first-blamed (a .t2) (a .number) [] (byteOf (a .a) (refused .result)) (c .before .matches .ensures) (at .ensures) (c .if2 .left))
+    (first-recorded (a .t2) (a .number) [] (byteOf (a .a) (refused .result)) (c .before .matches .ensures) (at .ensures) (c .if2 .left))
 
 presence-requires : tie.Need-presence-requires
 presence-requires c κs = search needs
