@@ -1,5 +1,5 @@
--- What is said of a reading. Which bytes were read is left free: nothing here can speak of what a descriptor holds. No promise
--- rests on this file. Input is declared in src/lib.rt. Assumes nothing.
+-- What is said of a reading. Which bytes were read is left free: nothing here can speak of what a descriptor holds.
+-- No promise rests on this file. Input is declared in src/lib.rt. Assumes nothing.
 use mathlib.Core.List.{List}
 use Prim.Native.Nat.{ℕ}
 use Rattle.io.specs.Counts.{Counts}

@@ -101,15 +101,15 @@ fn read_word(line: &[u8], least: u64) -> ReadWord
     }
 }
 
-// The word lines from a position on, where the line numbered `start_lineno` begins, and their words placed in memory. The line
+// The word lines from a position on, where the line numbered `startline` begins, and their words placed in memory. The line
 // number runs along. Where a line is refused, memory is left free: no refused sheet is run.
-fn read_words(s: &[u8], start: usize, start_lineno: u64, mem: &mut [u8]) -> Refusal
-    requires { ⌜ (length (now mem) ≡ 65536) × (start ≤ length (now s)) × (length (now s) ≤ 65536) × (getD (now s) (length (now s) - 1) 0 ≡ newline) × (start_lineno ≡ lineNumber (now s) start) ⌝ }
-    ensures { λ r. ⌜ r ≡ wordsRefusal start_lineno 0 (lines (drop start (now (s .entry)))) ⌝ }
+fn read_words(s: &[u8], start: usize, startline: u64, mem: &mut [u8]) -> Refusal
+    requires { ⌜ (length (now mem) ≡ 65536) × (start ≤ length (now s)) × (length (now s) ≤ 65536) × (getD (now s) (length (now s) - 1) 0 ≡ newline) × (startline ≡ lineNumber (now s) start) ⌝ }
+    ensures { λ r. ⌜ r ≡ wordsRefusal startline 0 (lines (drop start (now (s .entry)))) ⌝ }
     ensures { λ r. ⌜ (r .question ≡ 0 → now (mem .exit) ≡ memoryOf (now (mem .entry)) (wordsOf (lines (drop start (now (s .entry)))))) ⌝ }
 {
     let mut at = start;
-    let mut lineno = start_lineno;
+    let mut lineno = startline;
     let mut least: u64 = 0;
     while at < s.len() {
         let line = line_at(s, at);
