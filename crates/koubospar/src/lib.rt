@@ -3,5 +3,5 @@
 // pointers, no overlap.
 pub mod lent;
 pub mod probe;
-pub mod sheet;
+pub mod sheet_call;
 pub mod single;
