@@ -32,6 +32,10 @@ rows =
     ∷ (ascii "4,5,100,200,10,3,0,0,0,0,fffffffffffffff0,4,f4241\n", ascii "2,0,4,0,0,0,0,0,0\n")
     -- options 10
     ∷ (ascii "0,10,100,200,10,3,0,0,0,0,fffffffffffffff0,4,a\n", ascii "3,0,0,0,0,0,0,0,0\n")
+    -- a fetch past the code region: the fault record, op and address in their places
+    ∷ (ascii "10,5,100,200,10,3,0,0,0,0,fffffffffffffff0,4,a\n", ascii "11,0,10,0,0,1,0,3,10\n")
+    -- sixteen steps of a jump to itself, printed in hexadecimal
+    ∷ (ascii "0,5,100,200,10,3,0,0,0,0,fffffffffffffff0,4,10\n0,0000006f\n", ascii "21,10,0,0,0,0,0,0,0\n")
     -- document 01's example of a refusal
     ∷ (lineOne ++ ascii "0,\n", ascii "sheet,33,2\n")
     ∷ []

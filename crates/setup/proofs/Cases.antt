@@ -5,9 +5,9 @@ use mathlib.Core.List.{List, [], _∷_, _++_}
 use Prim.Native.Nat.{ℕ}
 use lib.Dec.{eqb}
 use Rattle.text.specs.Ascii.{ascii}
-use Rattle.text.specs.Split.{split, rowOf}
+use Rattle.text.specs.Split.{split, rowOf, allWide}
 use Rattle.text.specs.Number.{spelled}
-use Rattle.setup.specs.Setup.{setupFields, readSetup}
+use Rattle.setup.specs.Setup.{setupFields, permissionsInRange, readSetup}
 
 pub example-setup : readSetup (rowOf setupFields (ascii "0,5,100,200,10,3,0,0,0,0,fffffffffffffff0,4,a")) .setup
     ≡ record {
@@ -40,3 +40,8 @@ allBudgets (b ∷ bs) = eqb (readSetup (rowOf setupFields (ascii "0,5,100,200,10
 pub budgets-hold : allBudgets budgets ≡ true
 unfolding readSetup rowOf split spelled
 budgets-hold = refl
+
+-- 33 is asked before 34: options of 100 and an empty field
+pub order-holds : readSetup (rowOf setupFields (ascii "0,100,100,200,10,3,0,0,0,0,,4,a")) .question ≡ 33
+unfolding readSetup rowOf split spelled allWide permissionsInRange
+order-holds = refl

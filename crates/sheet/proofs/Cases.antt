@@ -69,6 +69,8 @@ rows =
     ∷ row (lineOne ++ ascii "4,1\n4,1\n") 35 3
     -- falling addresses, before the fields of line 4 are counted
     ∷ row (lineOne ++ ascii "8,1\n4,1\n0\n") 35 3
+    -- an address that falls and is no multiple of 4
+    ∷ row (lineOne ++ ascii "8,1\n2,1\n") 34 3
     ∷ []
 
 abbrev holds : Row → Bool
