@@ -67,9 +67,9 @@ struct koubospar_machine {
 /* ---- stack and cost -------------------------------------------------------------------------------------------- */
 
 /* The bytes of stack that a call takes, what it is called with included: measured by painting, over every stop and every
- * kind of word, and rounded up. `c/try` measures them again and fails where a call takes more. Measured were 2,464 for a
- * step, 2,096 for a run, 16 for a resumption, 68,048 for a sheet, 336 and 368 for decoding and encoding, 432 for the
- * probe and a place. No call's stack grows with the memory, the budget or the sheet. */
+ * kind of word, and rounded up. `c/try` measures them again and fails where a call takes more. Measured were 2,368 for a
+ * step, 2,000 for a run, 16 for a resumption, 67,824 for a sheet, 336 and 384 for decoding and encoding, 432 for the
+ * probe and 552 for a place. No call's stack grows with the memory, the budget or the sheet. */
 #define KOUBOSPAR_STACK_STEP 3072
 #define KOUBOSPAR_STACK_RUN 2560
 #define KOUBOSPAR_STACK_RESUME 256

@@ -49,13 +49,6 @@ fn next_line(s: &[u8], at: usize) -> usize
     after(s, at, b'\n')
 }
 
-// The same of fields.
-fn next_field(line: &[u8], at: usize) -> usize
-    ensures { λ r. ⌜ (r ≤ length (now (line .entry))) × (at ≤ length (now (line .entry)) → at ≤ r) × (at < length (now (line .entry)) → at < r) ⌝ }
-{
-    after(line, at, b',')
-}
-
 // How many bytes are lent of those that there is room for.
 fn lent(length: u64) -> usize
     ensures { λ r. ⌜ r ≤ 65536 ⌝ }
@@ -104,14 +97,14 @@ fn machine(line: &[u8], x: [u64; 32]) -> Machine {
 // The registers of a line of pairs, number and value; the others are 0.
 fn registers(line: &[u8]) -> [u64; 32] {
     let mut x = [0u64; 32];
-    let mut at = next_field(line, 0);
+    let mut at = after(line, 0, b',');
     while at < line.len() {
-        let value = next_field(line, at);
+        let value = after(line, at, b',');
         let i = number(field_at(line, at), 10) as usize;
         if i < 32 {
             x[i] = number(field_at(line, value), 16);
         }
-        at = next_field(line, value);
+        at = after(line, value, b',');
     }
     x
 }
@@ -131,15 +124,15 @@ fn fill(line: &[u8], mem: &mut [u8])
     requires { ⌜ length (now mem) ≡ 65536 ⌝ }
     ensures { λ _. ⌜ length (now (mem .exit)) ≡ 65536 ⌝ }
 {
-    let mut at = next_field(line, 0);
+    let mut at = after(line, 0, b',');
     while at < line.len() {
-        let value = next_field(line, at);
+        let value = after(line, at, b',');
         put(
             mem,
             number(field_at(line, at), 16),
             number(field_at(line, value), 16),
         );
-        at = next_field(line, value);
+        at = after(line, value, b',');
     }
 }
 
