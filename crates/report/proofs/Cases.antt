@@ -21,7 +21,7 @@ use Rattle.setup.specs.Setup.{permissionsInRange, readSetup}
 use Rattle.sheet.specs.Words.{readWord, memoryOf, blank}
 use Rattle.sheet.specs.Sheet.{fileNo, wordsRefusal, linesRefusal, sheetRefusal}
 use Rattle.sheet.proofs.Cases.{lineOne, words}
-use Rattle.report.specs.Report.{registerRows, reportOver, report}
+use Rattle.report.specs.Report.{registerLines, reportOver, report}
 
 -- a sheet, and what is printed of it
 abbrev pub rows : List (List ℕ × List ℕ)
@@ -49,5 +49,5 @@ expected [] = []
 expected (r ∷ rs) = r .1 ∷ expected rs
 
 pub rows-hold : reported rows ≡ expected rows
-unfolding report reportOver registerRows sheetRefusal linesRefusal wordsRefusal readWord rowOf memoryOf blank fileNo permissionsInRange readSetup split allWide firstThat count spelled digits runCall runBy step executeWord perform branch jump store load stateFits wellFormed explicitRule matches firstMatch implicitGrants explicitGrants allowed aligned settle hfiStop hWordStop hfiPerform value written scan firstRefused firstAbsent verdict decodeWord sext trailingZeros
+unfolding report reportOver registerLines sheetRefusal linesRefusal wordsRefusal readWord rowOf memoryOf blank fileNo permissionsInRange readSetup split allWide firstThat count spelled digits runCall runBy step executeWord perform branch jump store load stateFits wellFormed explicitRule matches firstMatch implicitGrants explicitGrants allowed aligned settle hfiStop hWordStop hfiPerform value written scan firstRefused firstAbsent verdict decodeWord sext trailingZeros
 rows-hold = refl

@@ -7,26 +7,26 @@ use native.Mathlib.Omega.{arith}
 use lib.ListN.{length, getD, drop, drop-of-length-le, length-append}
 use lib.Seq.{drop-cons, sets}
 use Rattle.text.specs.Scan.{newline}
-use Rattle.text.specs.Split.{joinRow, joinRows}
+use Rattle.text.specs.Split.{joinLine, joinLines}
 use Rattle.text.specs.Write.{Wrote}
 use Rattle.text.proofs.Writing.{wrote-on}
-use Rattle.report.specs.Report.{registerRow, registerRows}
+use Rattle.report.specs.Report.{registerLine, registerLines}
 
-pub rows-append : (rs qs : List (List (List ℕ))) → joinRows (rs ++ qs) ≡ joinRows rs ++ joinRows qs
+pub rows-append : (rs qs : List (List (List ℕ))) → joinLines (rs ++ qs) ≡ joinLines rs ++ joinLines qs
 rows-append [] qs = refl
-rows-append (r ∷ rs) qs = ap (λ t. joinRow r ++ (newline ∷ t)) (rows-append rs qs) ∙ sym (append-assoc (joinRow r) (newline ∷ joinRows rs) (joinRows qs))
+rows-append (r ∷ rs) qs = ap (λ t. joinLine r ++ (newline ∷ t)) (rows-append rs qs) ∙ sym (append-assoc (joinLine r) (newline ∷ joinLines rs) (joinLines qs))
 
 -- ---- the lines of the registers from register i on
 pub registers-on : (i : ℕ) (x : List ℕ) → i < length x
-    → joinRows (registerRows i (drop i x)) ≡ joinRows (registerRow i (getD x i 0)) ++ joinRows (registerRows (i + 1) (drop (i + 1) x))
-unfolding registerRows
+    → joinLines (registerLines i (drop i x)) ≡ joinLines (registerLine i (getD x i 0)) ++ joinLines (registerLines (i + 1) (drop (i + 1) x))
+unfolding registerLines
 registers-on i x h =
     let e : drop i x ≡ getD x i 0 ∷ drop (i + 1) x = rw (drop-cons x i 0 h, add-one i) in
-    ap (λ l. joinRows (registerRows i l)) e ∙ rows-append (registerRow i (getD x i 0)) (registerRows (i + 1) (drop (i + 1) x))
+    ap (λ l. joinLines (registerLines i l)) e ∙ rows-append (registerLine i (getD x i 0)) (registerLines (i + 1) (drop (i + 1) x))
 
-pub registers-off : (i : ℕ) (x : List ℕ) → length x ≤ i → joinRows (registerRows i (drop i x)) ≡ []
-unfolding registerRows
-registers-off i x h = ap (λ l. joinRows (registerRows i l)) (drop-of-length-le x h)
+pub registers-off : (i : ℕ) (x : List ℕ) → length x ≤ i → joinLines (registerLines i (drop i x)) ≡ []
+unfolding registerLines
+registers-off i x h = ap (λ l. joinLines (registerLines i l)) (drop-of-length-le x h)
 
 -- ---- writing the rest here comes to writing the whole there
 pub record Remaining (old : List ℕ) (start : ℕ) (whole new : List ℕ) (at : ℕ) (rest : List ℕ) : Type 0 where

@@ -10,12 +10,12 @@ use lib.ListN.{length, getD}
 use borrow.Author.Tests.{eqb-true}
 use Rattle.text.specs.Scan.{count}
 use Rattle.text.specs.Number.{decimal, hexadecimal}
-use Rattle.text.proofs.RoundTrip.{Clean, rows-same, decimal-free, hexadecimal-free, decimal-same, hexadecimal-same}
+use Rattle.text.proofs.RoundTrip.{Clean, lines-same, decimal-free, hexadecimal-free, decimal-same, hexadecimal-same}
 use Rattle.model.specs.declared.Fault.{Fault}
 use Rattle.model.specs.declared.Ran.{Ran}
 use Rattle.sheet.specs.Sheet.{refusalText}
-use Rattle.sheet.proofs.Refusals.{row, row-clean, refusal-row}
-use Rattle.report.specs.Report.{resultRow, registerRows, resultText}
+use Rattle.sheet.proofs.Refusals.{row, row-clean, refusal-line}
+use Rattle.report.specs.Report.{resultLine, registerLines, resultText}
 
 -- ---- what code can hold: 64 bits in each number, 32 registers
 pub record Held (r : Ran) : Type 0 where
@@ -45,13 +45,13 @@ pub record Same (r q : Ran) : Type 0 where
 
 -- no line of a later register has the number i
 later : (i k : ℕ) (x : List ℕ) (v : List ℕ) (rs : List (List (List ℕ))) → i < k → k + length x < 2 ^ 64
-    → registerRows k x ≡ (decimal i ∷ v ∷ []) ∷ rs → ⊥
-unfolding registerRows
+    → registerLines k x ≡ (decimal i ∷ v ∷ []) ∷ rs → ⊥
+unfolding registerLines
 later i k [] v rs h f e = let z : 0 ≡ suc (length rs) = ap length e in omega (arith, z)
 later i k (w ∷ ws) v rs h f e = by (eqb w 0) (λ g. later i (k + 1) ws v rs (omega arith) (omega arith) g) e
   where
-    by : (t : Bool) → (registerRows (k + 1) ws ≡ (decimal i ∷ v ∷ []) ∷ rs → ⊥)
-        → cond t [] ((decimal k ∷ hexadecimal w ∷ []) ∷ []) ++ registerRows (k + 1) ws ≡ (decimal i ∷ v ∷ []) ∷ rs → ⊥
+    by : (t : Bool) → (registerLines (k + 1) ws ≡ (decimal i ∷ v ∷ []) ∷ rs → ⊥)
+        → cond t [] ((decimal k ∷ hexadecimal w ∷ []) ∷ []) ++ registerLines (k + 1) ws ≡ (decimal i ∷ v ∷ []) ∷ rs → ⊥
     by true g d = g d
     by false g d =
         let a : decimal k ≡ decimal i = cc in
@@ -60,8 +60,8 @@ later i k (w ∷ ws) v rs h f e = by (eqb w 0) (λ g. later i (k + 1) ws v rs (o
 
 registers-same : (i : ℕ) (x y : List ℕ) → length x ≡ length y → i + length x < 2 ^ 64
     → ((k : ℕ) → getD x k 0 < 2 ^ 64) → ((k : ℕ) → getD y k 0 < 2 ^ 64)
-    → registerRows i x ≡ registerRows i y → x ≡ y
-unfolding registerRows
+    → registerLines i x ≡ registerLines i y → x ≡ y
+unfolding registerLines
 registers-same i [] [] l f hx hy e = refl
 registers-same i [] (w ∷ ws) l f hx hy e = let z : ⊥ = omega (arith, l) in absurd z
 registers-same i (v ∷ vs) [] l f hx hy e = let z : ⊥ = omega (arith, l) in absurd z
@@ -69,25 +69,25 @@ registers-same i (v ∷ vs) (w ∷ ws) l f hx hy e =
     by (eqb v 0) (eqb w 0) (eqb-true v 0) (eqb-true w 0)
     (λ g. registers-same (i + 1) vs ws (omega (arith, l)) (omega arith) (λ k. hx (suc k)) (λ k. hy (suc k)) g) e
   where
-    by : (s t : Bool) → (s ≡ true → v ≡ 0) → (t ≡ true → w ≡ 0) → (registerRows (i + 1) vs ≡ registerRows (i + 1) ws → vs ≡ ws)
-        → cond s [] ((decimal i ∷ hexadecimal v ∷ []) ∷ []) ++ registerRows (i + 1) vs
-        ≡ cond t [] ((decimal i ∷ hexadecimal w ∷ []) ∷ []) ++ registerRows (i + 1) ws
+    by : (s t : Bool) → (s ≡ true → v ≡ 0) → (t ≡ true → w ≡ 0) → (registerLines (i + 1) vs ≡ registerLines (i + 1) ws → vs ≡ ws)
+        → cond s [] ((decimal i ∷ hexadecimal v ∷ []) ∷ []) ++ registerLines (i + 1) vs
+        ≡ cond t [] ((decimal i ∷ hexadecimal w ∷ []) ∷ []) ++ registerLines (i + 1) ws
         → v ∷ vs ≡ w ∷ ws
     by true true p q g d = let a : v ≡ w = p refl ∙ sym (q refl) in ap (λ u. u ∷ vs) a ∙ ap (λ us. w ∷ us) (g d)
-    by true false p q g d = absurd (later i (i + 1) vs (hexadecimal w) (registerRows (i + 1) ws) (omega arith) (omega arith) d)
-    by false true p q g d = absurd (later i (i + 1) ws (hexadecimal v) (registerRows (i + 1) vs) (omega arith) (omega (arith, l)) (sym d))
+    by true false p q g d = absurd (later i (i + 1) vs (hexadecimal w) (registerLines (i + 1) ws) (omega arith) (omega arith) d)
+    by false true p q g d = absurd (later i (i + 1) ws (hexadecimal v) (registerLines (i + 1) vs) (omega arith) (omega (arith, l)) (sym d))
     by false false p q g d =
         let a : hexadecimal v ≡ hexadecimal w = cc in
-        let b : registerRows (i + 1) vs ≡ registerRows (i + 1) ws = cc in
+        let b : registerLines (i + 1) vs ≡ registerLines (i + 1) ws = cc in
         let c : v ≡ w = hexadecimal-same v w (hx 0) (hy 0) a in
         ap (λ u. u ∷ vs) c ∙ ap (λ us. w ∷ us) (g b)
 
-registers-clean : (i : ℕ) (x : List ℕ) → Clean (registerRows i x)
-unfolding registerRows
+registers-clean : (i : ℕ) (x : List ℕ) → Clean (registerLines i x)
+unfolding registerLines
 registers-clean i [] = tt
 registers-clean i (v ∷ vs) = by (eqb v 0) (registers-clean (i + 1) vs)
   where
-    by : (t : Bool) → Clean (registerRows (i + 1) vs) → Clean (cond t [] ((decimal i ∷ hexadecimal v ∷ []) ∷ []) ++ registerRows (i + 1) vs)
+    by : (t : Bool) → Clean (registerLines (i + 1) vs) → Clean (cond t [] ((decimal i ∷ hexadecimal v ∷ []) ∷ []) ++ registerLines (i + 1) vs)
     by true g = g
     by false g =
         let a = decimal-free i in
@@ -95,7 +95,7 @@ registers-clean i (v ∷ vs) = by (eqb v 0) (registers-clean (i + 1) vs)
         (lit≤ tt, (a .0, (b .0, tt)), (a .1, (b .1, tt)), g)
 
 -- ---- the whole result
-result-clean : (r : Ran) → Clean (resultRow r ∷ registerRows 0 (r .machine .x))
+result-clean : (r : Ran) → Clean (resultLine r ∷ registerLines 0 (r .machine .x))
 result-clean r =
     let m = r .machine in
     let h = m .hfi in
@@ -128,10 +128,10 @@ at k r = getD r k []
 
 pub results-same : (r q : Ran) → Held r → Held q → resultText r ≡ resultText q → Same r q
 results-same r q h k e =
-    let rows : resultRow r ∷ registerRows 0 (r .machine .x) ≡ resultRow q ∷ registerRows 0 (q .machine .x) =
-    rows-same (resultRow r ∷ registerRows 0 (r .machine .x)) (resultRow q ∷ registerRows 0 (q .machine .x)) (result-clean r) (result-clean q) e in
-    let row : resultRow r ≡ resultRow q = ap (λ l. getD l 0 []) rows in
-    let others : registerRows 0 (r .machine .x) ≡ registerRows 0 (q .machine .x) = cc in
+    let rows : resultLine r ∷ registerLines 0 (r .machine .x) ≡ resultLine q ∷ registerLines 0 (q .machine .x) =
+    lines-same (resultLine r ∷ registerLines 0 (r .machine .x)) (resultLine q ∷ registerLines 0 (q .machine .x)) (result-clean r) (result-clean q) e in
+    let row : resultLine r ≡ resultLine q = ap (λ l. getD l 0 []) rows in
+    let others : registerLines 0 (r .machine .x) ≡ registerLines 0 (q .machine .x) = cc in
     let occurred = hexadecimal-same (r .machine .hfi .fault .occurred) (q .machine .hfi .fault .occurred) (h .occurred) (k .occurred) (ap (at 5) row) in
     let region = hexadecimal-same (r .machine .hfi .fault .region) (q .machine .hfi .fault .region) (h .region) (k .region) (ap (at 6) row) in
     let op = hexadecimal-same (r .machine .hfi .fault .op) (q .machine .hfi .fault .op) (h .op) (k .op) (ap (at 7) row) in
@@ -150,7 +150,7 @@ results-same r q h k e =
 -- ---- and no result prints as a refusal: the first line of a result has nine fields, that of a refusal has three
 pub result-no-refusal : (r : Ran) (n l : ℕ) → resultText r ≡ refusalText n l → ⊥
 result-no-refusal r n l e =
-    let rows : resultRow r ∷ registerRows 0 (r .machine .x) ≡ row n l ∷ [] =
-    rows-same (resultRow r ∷ registerRows 0 (r .machine .x)) (row n l ∷ []) (result-clean r) (row-clean n l) (e ∙ refusal-row n l) in
-    let z : length (resultRow r) ≡ length (row n l) = ap (λ l. length (getD l 0 [])) rows in
+    let rows : resultLine r ∷ registerLines 0 (r .machine .x) ≡ row n l ∷ [] =
+    lines-same (resultLine r ∷ registerLines 0 (r .machine .x)) (row n l ∷ []) (result-clean r) (row-clean n l) (e ∙ refusal-line n l) in
+    let z : length (resultLine r) ≡ length (row n l) = ap (λ l. length (getD l 0 [])) rows in
     omega (arith, z)

@@ -1,12 +1,12 @@
--- The whole program of document 01, "The run sheet": the bytes that it prints for the bytes that it reads. A run is printed as rows
--- of fields, each row on a line of its own.
+-- The whole program of document 01, "The run sheet": the bytes that it prints for the bytes that it reads. A run is printed as lines
+-- of fields.
 -- Fault and Ran are declared in model/src/lib.rt, Sheet in sheet/specs/Sheet.antt. Assumes nothing.
 use mathlib.Core.Bool.{cond}
 use mathlib.Core.List.{List, [], _∷_, _++_}
 use Prim.Native.Nat.{ℕ, _+_}
 use lib.Dec.{eqb}
 use Rattle.text.specs.Number.{decimal, hexadecimal}
-use Rattle.text.specs.Split.{joinRows}
+use Rattle.text.specs.Split.{joinLines}
 use Rattle.model.specs.declared.Fault.{Fault}
 use Rattle.model.specs.declared.Ran.{Ran}
 use Rattle.model.specs.Run.{runCall}
@@ -20,8 +20,8 @@ faultFields f = hexadecimal (f .occurred) ∷ hexadecimal (f .region) ∷ hexade
 
 -- "number (decimal), steps, pc, reason, exit pc, and the fault record's occurred, region, op, address"; "All else is hexadecimal
 -- without leading zeros."
-abbrev pub resultRow : Ran → List (List ℕ)
-resultRow r =
+abbrev pub resultLine : Ran → List (List ℕ)
+resultLine r =
     decimal (r .stop)
     ∷ hexadecimal (r .count)
     ∷ hexadecimal (r .machine .pc)
@@ -30,17 +30,17 @@ resultRow r =
     ∷ faultFields (r .machine .hfi .fault)
 
 -- "each non-zero register .. as number (decimal), value"
-abbrev pub registerRow : ℕ → ℕ → List (List (List ℕ))
-registerRow i v = cond (eqb v 0) [] ((decimal i ∷ hexadecimal v ∷ []) ∷ [])
+abbrev pub registerLine : ℕ → ℕ → List (List (List ℕ))
+registerLine i v = cond (eqb v 0) [] ((decimal i ∷ hexadecimal v ∷ []) ∷ [])
 
 -- "rising": the registers from register i on
-unfoldable pub registerRows : ℕ → List ℕ → List (List (List ℕ))
-registerRows i [] = []
-registerRows i (v ∷ vs) = registerRow i v ++ registerRows (i + 1) vs
+unfoldable pub registerLines : ℕ → List ℕ → List (List (List ℕ))
+registerLines i [] = []
+registerLines i (v ∷ vs) = registerLine i v ++ registerLines (i + 1) vs
 
 -- "Otherwise it prints": the result, "then each non-zero register"
 abbrev pub resultText : Ran → List ℕ
-resultText r = joinRows (resultRow r ∷ registerRows 0 (r .machine .x))
+resultText r = joinLines (resultLine r ∷ registerLines 0 (r .machine .x))
 
 -- what is printed of a sheet whose words are placed over a memory: "The first no is printed as one line"; "Otherwise it prints"
 -- the result of the run

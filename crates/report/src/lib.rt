@@ -5,9 +5,9 @@ ghost use Prim.Native.Nat.{_+_, _≤_};
 ghost use lib.ListN.{length};
 ghost use Rattle.text.specs.Scan.{comma};
 ghost use Rattle.text.specs.Number.{hexadecimal};
-ghost use Rattle.text.specs.Split.{joinRow, joinRows};
+ghost use Rattle.text.specs.Split.{joinLine, joinLines};
 ghost use Rattle.text.specs.Write.{Wrote};
-ghost use Rattle.report.specs.Report.{faultFields, resultRow, registerRow, registerRows, resultText};
+ghost use Rattle.report.specs.Report.{faultFields, resultLine, registerLine, registerLines, resultText};
 use model::Fault;
 use model::Ran;
 use text::print::put_byte;
@@ -27,7 +27,7 @@ fn put_field(buffer: &mut [u8], at: usize, n: u64) -> usize
 // The four fields of the fault record.
 fn put_fault(buffer: &mut [u8], at: usize, f: Fault) -> usize
     requires { ⌜ at + 68 ≤ length (now buffer) ⌝ }
-    ensures { λ r. ⌜ Wrote (now (buffer .entry)) at (comma ∷ joinRow (faultFields f)) (now (buffer .exit)) r ⌝ }
+    ensures { λ r. ⌜ Wrote (now (buffer .entry)) at (comma ∷ joinLine (faultFields f)) (now (buffer .exit)) r ⌝ }
     ensures { λ r. ⌜ r ≤ at + 68 ⌝ }
 {
     let a = put_field(buffer, at, f.occurred);
@@ -37,9 +37,9 @@ fn put_fault(buffer: &mut [u8], at: usize, f: Fault) -> usize
 }
 
 // The first line, from the buffer's start on: 20 bytes for the number, 17 for each of 8 fields, and the line's end.
-fn put_result_row(buffer: &mut [u8], r: Ran) -> usize
+fn put_result_line(buffer: &mut [u8], r: Ran) -> usize
     requires { ⌜ 157 ≤ length (now buffer) ⌝ }
-    ensures { λ n. ⌜ Wrote (now (buffer .entry)) 0 (joinRows (resultRow r ∷ [])) (now (buffer .exit)) n ⌝ }
+    ensures { λ n. ⌜ Wrote (now (buffer .entry)) 0 (joinLines (resultLine r ∷ [])) (now (buffer .exit)) n ⌝ }
     ensures { λ n. ⌜ n ≤ 157 ⌝ }
 {
     let m = r.machine;
@@ -57,7 +57,7 @@ fn put_result_row(buffer: &mut [u8], r: Ran) -> usize
 // The line of register i, where its value is not 0.
 fn put_register(buffer: &mut [u8], at: usize, i: u64, v: u64) -> usize
     requires { ⌜ at + 38 ≤ length (now buffer) ⌝ }
-    ensures { λ r. ⌜ Wrote (now (buffer .entry)) at (joinRows (registerRow i v)) (now (buffer .exit)) r ⌝ }
+    ensures { λ r. ⌜ Wrote (now (buffer .entry)) at (joinLines (registerLine i v)) (now (buffer .exit)) r ⌝ }
     ensures { λ r. ⌜ r ≤ at + 38 ⌝ }
 {
     if v == 0 {
@@ -71,7 +71,7 @@ fn put_register(buffer: &mut [u8], at: usize, i: u64, v: u64) -> usize
 // The lines of all registers.
 fn put_registers(buffer: &mut [u8], start: usize, x: [u64; 32]) -> usize
     requires { ⌜ start + 1216 ≤ length (now buffer) ⌝ }
-    ensures { λ r. ⌜ Wrote (now (buffer .entry)) start (joinRows (registerRows 0 x)) (now (buffer .exit)) r ⌝ }
+    ensures { λ r. ⌜ Wrote (now (buffer .entry)) start (joinLines (registerLines 0 x)) (now (buffer .exit)) r ⌝ }
     ensures { λ r. ⌜ r ≤ start + 1216 ⌝ }
 {
     let mut at = start;
@@ -91,6 +91,6 @@ pub fn put_result(buffer: &mut [u8], r: Ran) -> usize
 {
     let m = r.machine;
     let x = m.x;
-    let at = put_result_row(buffer, r);
+    let at = put_result_line(buffer, r);
     put_registers(buffer, at, x)
 }

@@ -4,17 +4,17 @@ use mathlib.Core.List.{List, [], _∷_, append-assoc}
 use Prim.Native.Nat.{ℕ, _^_, _<_}
 use lib.Dec.{lit≤}
 use Rattle.text.specs.Scan.{count, newline, comma}
-use Rattle.text.specs.Split.{joinRows}
+use Rattle.text.specs.Split.{joinLines}
 use Rattle.text.specs.Number.{decimal}
-use Rattle.text.proofs.RoundTrip.{Clean, rows-same, decimal-free, decimal-same}
+use Rattle.text.proofs.RoundTrip.{Clean, lines-same, decimal-free, decimal-same}
 use Rattle.sheet.specs.Sheet.{sheetWord, refusalText}
 
 -- the line is one row of three fields
 abbrev pub row : ℕ → ℕ → List (List ℕ)
 row n l = sheetWord ∷ decimal n ∷ decimal l ∷ []
 
-pub refusal-row : (n l : ℕ) → refusalText n l ≡ joinRows (row n l ∷ [])
-refusal-row n l = simp append-assoc
+pub refusal-line : (n l : ℕ) → refusalText n l ≡ joinLines (row n l ∷ [])
+refusal-line n l = simp append-assoc
 
 word-free : (count comma sheetWord ≡ 0) × (count newline sheetWord ≡ 0)
 unfolding count
@@ -29,7 +29,7 @@ row-clean n l =
 pub refusal-same : (n l m k : ℕ) → n < 2 ^ 64 → l < 2 ^ 64 → m < 2 ^ 64 → k < 2 ^ 64 → refusalText n l ≡ refusalText m k → (n ≡ m) × (l ≡ k)
 refusal-same n l m k hn hl hm hk e =
     let f : row n l ∷ [] ≡ row m k ∷ [] =
-    rows-same (row n l ∷ []) (row m k ∷ []) (row-clean n l) (row-clean m k) (sym (refusal-row n l) ∙ e ∙ refusal-row m k) in
+    lines-same (row n l ∷ []) (row m k ∷ []) (row-clean n l) (row-clean m k) (sym (refusal-line n l) ∙ e ∙ refusal-line m k) in
     let a : decimal n ≡ decimal m = cc in
     let b : decimal l ≡ decimal k = cc in
     (decimal-same n m hn hm a, decimal-same l k hl hk b)

@@ -8,7 +8,7 @@ use lib.Dec.{eqb, lit<, lit≤}
 use lib.ListN.{length, getD}
 use borrow.Author.Tests.{eq-eqb, ne-eqb, le-leb}
 use Rattle.text.specs.Scan.{count, newline, comma}
-use Rattle.text.specs.Split.{push, split, lines, fields, joinFields, joinRow, joinRows, wide}
+use Rattle.text.specs.Split.{push, split, lines, fields, joinFields, joinLine, joinLines, wide}
 use Rattle.text.specs.Number.{spelled, number, decimal, hexadecimal}
 use Rattle.text.proofs.Scanning.{count-append}
 use Rattle.text.proofs.Splitting.{lines-none}
@@ -97,26 +97,26 @@ abbrev pub Clean : List (List (List ℕ)) → Type 0
 Clean [] = Unit {0}
 Clean (r ∷ rs) = (1 ≤ length r) × Free comma r × Free newline r × Clean rs
 
-row-free : (r : List (List ℕ)) → 1 ≤ length r → Free newline r → count newline (joinRow r) ≡ 0
-row-free [] z h = let y : ⊥ = omega arith in absurd y
-row-free (f ∷ fs) z h = joined-free newline f fs (λ e. omega arith) h
+line-free : (r : List (List ℕ)) → 1 ≤ length r → Free newline r → count newline (joinLine r) ≡ 0
+line-free [] z h = let y : ⊥ = omega arith in absurd y
+line-free (f ∷ fs) z h = joined-free newline f fs (λ e. omega arith) h
 
-row-back : (r : List (List ℕ)) → 1 ≤ length r → Free comma r → fields (joinRow r) ≡ r
-row-back [] z h = let y : ⊥ = omega arith in absurd y
-row-back (f ∷ fs) z h = fields-back f fs h
+line-back : (r : List (List ℕ)) → 1 ≤ length r → Free comma r → fields (joinLine r) ≡ r
+line-back [] z h = let y : ⊥ = omega arith in absurd y
+line-back (f ∷ fs) z h = fields-back f fs h
 
 -- the rows of a text: the fields of each of its lines
-abbrev pub rowsOf : List (List ℕ) → List (List (List ℕ))
-rowsOf [] = []
-rowsOf (l ∷ ls) = fields l ∷ rowsOf ls
+abbrev pub fieldsOfLines : List (List ℕ) → List (List (List ℕ))
+fieldsOfLines [] = []
+fieldsOfLines (l ∷ ls) = fields l ∷ fieldsOfLines ls
 
-pub rows-back : (rs : List (List (List ℕ))) → Clean rs → rowsOf (lines (joinRows rs)) ≡ rs
-rows-back [] h = ap rowsOf lines-none
-rows-back (r ∷ rs) h =
-    ap rowsOf (line-then (joinRow r) (joinRows rs) (row-free r (h .0) (h .2)))
-    ∙ ap (λ f. f ∷ rowsOf (lines (joinRows rs))) (row-back r (h .0) (h .1))
-    ∙ ap (λ k. r ∷ k) (rows-back rs (h .3))
+pub lines-back : (rs : List (List (List ℕ))) → Clean rs → fieldsOfLines (lines (joinLines rs)) ≡ rs
+lines-back [] h = ap fieldsOfLines lines-none
+lines-back (r ∷ rs) h =
+    ap fieldsOfLines (line-then (joinLine r) (joinLines rs) (line-free r (h .0) (h .2)))
+    ∙ ap (λ f. f ∷ fieldsOfLines (lines (joinLines rs))) (line-back r (h .0) (h .1))
+    ∙ ap (λ k. r ∷ k) (lines-back rs (h .3))
 
 -- so two different tables never print the same bytes
-pub rows-same : (rs qs : List (List (List ℕ))) → Clean rs → Clean qs → joinRows rs ≡ joinRows qs → rs ≡ qs
-rows-same rs qs h k e = sym (rows-back rs h) ∙ ap (λ s. rowsOf (lines s)) e ∙ rows-back qs k
+pub lines-same : (rs qs : List (List (List ℕ))) → Clean rs → Clean qs → joinLines rs ≡ joinLines qs → rs ≡ qs
+lines-same rs qs h k e = sym (lines-back rs h) ∙ ap (λ s. fieldsOfLines (lines s)) e ∙ lines-back qs k

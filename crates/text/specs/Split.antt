@@ -1,4 +1,4 @@
--- A text cut into pieces at a byte, a line as a row of numbers, and rows joined to a text. Assumes nothing.
+-- A text cut into pieces at a byte, a line read as a row of numbers, and fields joined to lines. Assumes nothing.
 use mathlib.Core.Bool.{Bool, true, cond, _&&_}
 use mathlib.Core.List.{List, [], _∷_, _++_, map}
 use Prim.Native.Nat.{ℕ}
@@ -60,11 +60,11 @@ abbrev pub joinFields : List ℕ → List (List ℕ) → List ℕ
 joinFields f [] = f
 joinFields f (g ∷ gs) = f ++ (comma ∷ joinFields g gs)
 
--- a row of fields on one line, and a text of such lines
-abbrev pub joinRow : List (List ℕ) → List ℕ
-joinRow [] = []
-joinRow (f ∷ fs) = joinFields f fs
+-- fields on one line, and a text of such lines
+abbrev pub joinLine : List (List ℕ) → List ℕ
+joinLine [] = []
+joinLine (f ∷ fs) = joinFields f fs
 
-abbrev pub joinRows : List (List (List ℕ)) → List ℕ
-joinRows [] = []
-joinRows (r ∷ rs) = joinRow r ++ (newline ∷ joinRows rs)
+abbrev pub joinLines : List (List (List ℕ)) → List ℕ
+joinLines [] = []
+joinLines (r ∷ rs) = joinLine r ++ (newline ∷ joinLines rs)

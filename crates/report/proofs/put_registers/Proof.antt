@@ -4,16 +4,16 @@ use Prim.Native.Nat.{_+_, _-_, _*_, _≤_, _<_}
 use native.Mathlib.Omega.{arith}
 use lib.ListN.{length, drop}
 use borrow.Author.Needs.{needs}
-use Rattle.text.specs.Split.{joinRows}
+use Rattle.text.specs.Split.{joinLines}
 use Rattle.report.proofs.Laws.{registers-on, registers-off, Remaining, remaining-all, remaining-on, remaining-none}
-use Rattle.report.specs.Report.{registerRows}
+use Rattle.report.specs.Report.{registerLines}
 use Rattle.report.proofs.put_registers.Statement.{statement}
 use Rattle.report.proofs.put_registers.Tie as tie
 
 abbrev Inv-loop : tie.InvT-loop
 Inv-loop buffer₀ start x at₀ i₀ buffer at i =
     (i ≤ 32) × (at ≤ start + 38 * i) × (length buffer ≡ length buffer₀)
-    × Remaining buffer₀ start (joinRows (registerRows 0 x)) buffer at (joinRows (registerRows i (drop i x)))
+    × Remaining buffer₀ start (joinLines (registerLines 0 x)) buffer at (joinLines (registerLines i (drop i x)))
 
 abbrev μ-loop : tie.MeasureT-loop
 μ-loop buffer₀ start x at₀ i₀ buffer at i = 32 - i

@@ -1,8 +1,8 @@
--- `put_result_row` meets its contract: one field after another, then the line's end.
+-- `put_result_line` meets its contract: one field after another, then the line's end.
 use borrow.Author.Needs.{needs}
 use Rattle.text.proofs.Writing.{wrote-then}
-use Rattle.report.proofs.put_result_row.Statement.{statement}
-use Rattle.report.proofs.put_result_row.Tie as tie
+use Rattle.report.proofs.put_result_line.Statement.{statement}
+use Rattle.report.proofs.put_result_line.Tie as tie
 
 put-decimal-requires : tie.Need-put-decimal-requires
 put-decimal-requires c κs = search needs
@@ -41,8 +41,8 @@ returns c =
     let line = wrote-then (n .put-decimal .ensures .0) (wrote-then (s .put-field .ensures .0) (wrote-then (p .put-field2 .ensures .0) fields)) in
     (wrote-then line (e .put-byte .ensures), search needs)
 
-pub put-result-row-spec : {M : Type 1} → statement M
-put-result-row-spec =
+pub put-result-line-spec : {M : Type 1} → statement M
+put-result-line-spec =
     tie.close
     (tie.spec
     put-decimal-requires
