@@ -85,7 +85,7 @@ beq = 0x00000363
 abbrev beq5 : ℕ
 beq5 = 0x00028363
 
--- hlb x6 at 0, hsb x6 at 0, hld x6 at 0, ld x6, 0(x5), sd x6, 0(x5), and hlb x6 at 0 with rs1 x5
+-- hlb x6, 0(x0); hsb x6, 0(x0); hld x6, 0(x0); ld x6, 0(x5); sd x6, 0(x5); hlb x6, 0(x5); hsb x6, 0(x5)
 abbrev hlb : ℕ
 hlb = 0x0000030b
 
@@ -103,6 +103,9 @@ sd = 0x0062b023
 
 abbrev hlb5 : ℕ
 hlb5 = 0x0002830b
+
+abbrev hsb5 : ℕ
+hsb5 = 0x0062802b
 
 -- ---- machines: outside or in HFI mode with these options, and something in every place that a word might change
 
@@ -140,6 +143,10 @@ goes start w changes = steps start w 0 ((pc, 4) ∷ changes)
 -- a step that question 8 stops
 abbrev forbidden : List (ℕ × ℕ) → ℕ → Row
 forbidden start w = steps start w 14 []
+
+-- an h-word that its region refuses, by what the fault record then says: load or store, and the address
+abbrev faults : List (ℕ × ℕ) → ℕ → ℕ → ℕ → Row
+faults start w kind at = steps start w 16 ((occurred, 1) ∷ (faultRegion, 1) ∷ (op, kind) ∷ (faulting, at) ∷ [])
 
 -- a step that changes the memory too
 abbrev writes : List (ℕ × ℕ) → List ℕ → List (ℕ × ℕ) → List (ℕ × ℕ) → Row
@@ -312,8 +319,34 @@ asking =
     ∷ writes (outside 0 ++ operands 3 0) (bytes (ld ∷ 0x11223344 ∷ 0x55667788 ∷ [])) ((pc, 4) ∷ (x 6, 0x6677881122334400) ∷ []) []
     ∷ writes (outside 0 ++ operands 5 0x0102030405060708) (bytes (sd ∷ 0 ∷ 0 ∷ 0 ∷ [])) ((pc, 4) ∷ [])
     ((5, 8) ∷ (6, 7) ∷ (7, 6) ∷ (8, 5) ∷ (9, 4) ∷ (10, 3) ∷ (11, 2) ∷ (12, 1) ∷ [])
-    -- "rs1 is ignored, though the instruction carries the field"
-    ∷ goes (inside 0 ++ ((base 1, 0) ∷ (x 5, 0x80) ∷ [])) hlb5 ((x 6, 0xb) ∷ [])
+    ∷ []
+
+unfoldable pub offsets : List Row
+offsets =
+    -- "the offset of an h-prefixed word is the unsigned value of rs1 plus the signed immediate": of the word's own bytes and those
+    -- after it, hlb x6, 0(x5), with -5 and with -2048, and hsb x6, 0(x5)
+    goes (inside 0 ++ ((base 1, 0) ∷ (x 5, 2) ∷ [])) hlb5 ((x 6, 2) ∷ [])
+    ∷ goes (inside 0 ++ ((base 1, 0) ∷ (x 5, 5) ∷ [])) 0xffb2830b ((x 6, 0xb) ∷ [])
+    ∷ goes (inside 0 ++ ((base 1, 0) ∷ (x 5, 0x800) ∷ [])) 0x8002830b ((x 6, 0xb) ∷ [])
+    ∷ writes (inside 0 ++ ((base 1, 0) ∷ operands 7 0xa5)) (bytes (hsb5 ∷ 0 ∷ [])) ((pc, 4) ∷ []) ((7, 0xa5) ∷ [])
+    -- farther than any immediate: granted, and not in this memory
+    ∷ stepsOver (inside 0 ++ ((base 1, 0) ∷ (bound 1, 0x1000) ∷ (x 5, 0xfff) ∷ [])) (bytes (hlb5 ∷ [])) 17 0xfff []
+    ∷ stepsOver (inside 0 ++ ((base 1, 0) ∷ (bound 1, 0x1000) ∷ (x 5, 0xfff) ∷ [])) (bytes (hsb5 ∷ [])) 17 0xfff []
+    -- "byte i passes when offset + i is at least 0 and below the bound": hld x6, 0(x5); hld and hsd with -5, whose third byte
+    -- would pass
+    ∷ faults (inside 0 ++ ((x 5, 8) ∷ [])) hlb5 1 0x18
+    ∷ faults (inside 0 ++ ((x 5, 8) ∷ [])) hsb5 2 0x18
+    ∷ faults (inside 0 ++ ((x 5, 1) ∷ [])) 0x0002b30b 1 0x18
+    ∷ faults (inside 0 ++ ((x 5, 3) ∷ [])) 0xffb2b30b 1 0x0e
+    ∷ faults (inside 0 ++ ((x 5, 3) ∷ [])) 0xfe62bdab 2 0x0e
+    -- "as a whole number that does not wrap"; the address does: hlb and hsb with 0 and with 1
+    ∷ faults (inside 0 ++ ((x 5, 2 ^ 64 - 1) ∷ [])) hlb5 1 0x0f
+    ∷ faults (inside 0 ++ ((x 5, 2 ^ 64 - 1) ∷ [])) 0x0012830b 1 0x10
+    ∷ faults (inside 0 ++ ((x 5, 2 ^ 64 - 1) ∷ [])) 0x006280ab 2 0x10
+    ∷ faults (inside 0 ++ ((x 5, 2 ^ 63) ∷ [])) hlb5 1 (2 ^ 63 + 0x10)
+    -- the largest region there is
+    ∷ stepsOver (inside 0 ++ ((base 1, 0) ∷ (bound 1, 2 ^ 48) ∷ (permission 1, 9) ∷ (x 5, 2 ^ 48 - 1) ∷ [])) (bytes (hlb5 ∷ [])) 17 (2 ^ 48 - 1) []
+    ∷ faults (inside 0 ++ ((base 1, 0) ∷ (bound 1, 2 ^ 48) ∷ (permission 1, 9) ∷ (x 5, 2 ^ 48) ∷ [])) hlb5 1 (2 ^ 48)
     ∷ []
 
 unfoldable pub absent : List Row
@@ -329,7 +362,7 @@ absent =
     -- and here it is
     ∷ stepsOver (outside 0 ++ ((pc, 0x44) ∷ [])) (bytes (0 ∷ [])) 12 0x44 []
     ∷ stepsOver (outside 0 ++ operands (2 ^ 64 - 1) 0) (bytes (ld ∷ [])) 17 (2 ^ 64 - 1) []
-    -- a load into x0 asks as any other: hlb x0 at 8, and at 0
+    -- a load into x0 asks as any other: hlb x0, 8(x0) and hlb x0, 0(x0)
     ∷ stepsOver (inside 0) (bytes (0x0080000b ∷ [])) 16 0 ((occurred, 1) ∷ (faultRegion, 1) ∷ (op, 1) ∷ (faulting, 0x18) ∷ [])
     ∷ stepsOver (inside 0) (bytes (0x0000000b ∷ [])) 17 0x10 []
     -- every byte is asked for its region before any for memory's end
@@ -406,10 +439,10 @@ forming =
     ∷ []
 
 abbrev pub rows : List Row
-rows = entering ++ leaving ++ locking ++ keeping ++ running-on ++ asking ++ absent ++ going-on ++ forming
+rows = entering ++ leaving ++ locking ++ keeping ++ running-on ++ asking ++ offsets ++ absent ++ going-on ++ forming
 
 pub clauses : found rows ≡ stated rows
-unfolding entering leaving locking keeping running-on asking absent going-on forming trailingZeros sext decodeWord matches explicitRule firstMatch implicitGrants explicitGrants scan firstRefused firstAbsent verdict value written allowed aligned settle stateFits wellFormed hfiStop hWordStop hfiPerform load store jump branch perform executeWord step stepCall resumeCall runBy runCall
+unfolding entering leaving locking keeping running-on asking offsets absent going-on forming trailingZeros sext decodeWord matches explicitRule firstMatch implicitGrants explicitGrants scan firstRefused firstAbsent verdict value written allowed aligned settle stateFits wellFormed hfiStop hWordStop hfiPerform load store jump branch perform executeWord step stepCall resumeCall runBy runCall
 clauses = refl
 
 -- ---- "Is memory no longer than 16,777,216?" of memories that are too long to write down

@@ -10,13 +10,13 @@ use lib.Dec.{eqb, leb}
 use lib.Pow.{split, high, high-ones, shr-mod, pow-pos}
 use lib.Bits.{bitAnd, and-high, shifted-even, shifted-half}
 use lib.Count.{trailingZeros, trailing-of-zero}
-use lib.IntN.{pos, _+ℤ_}
+use lib.IntN.{ℤ, pos, _+ℤ_}
 use borrow.Author.Tests.{leb-true, le-leb, ltb-true, lt-ltb, eqb-true, eqb-false, eq-eqb, not-true}
-use Rattle.words.specs.Word.{signed, word}
+use Rattle.words.specs.Word.{word}
 use Rattle.model.specs.Regions.{maskZeros, implicitRule, implicitRuleAt, large, permits, smallRule, largeRule, explicitRule, matches, below, explicitGrants}
 use Rattle.model.specs.Bytes.{byteOf}
 use Rattle.model.specs.declared.Region.{Region}
-use Rattle.model.proofs.Offset.{word-sum, below-word}
+use Rattle.model.proofs.Offset.{below-inside}
 
 -- a test of two parts that holds
 pub both : (a b : Bool) → (a && b) ≡ true → (a ≡ true) × (b ≡ true)
@@ -162,23 +162,15 @@ explicit-ends r h = go (permits large r) h
     go false e = small-ends r e
 
 -- a granted byte lies in the region
-pub granted-inside : (r : Region) (b offset i : ℕ) → offset < 2 ^ 64 → i < 2 ^ 63 → explicitGrants r b (signed 64 offset) i ≡ true
-    → (r .base ≤ byteOf (word 64 (pos (r .base) +ℤ signed 64 offset)) i) × (byteOf (word 64 (pos (r .base) +ℤ signed 64 offset)) i < r .base + r .bound)
+pub granted-inside : (r : Region) (p : ℕ) (offset : ℤ) (i : ℕ) → explicitGrants r p offset i ≡ true
+    → (r .base ≤ byteOf (word 64 (pos (r .base) +ℤ offset)) i) × (byteOf (word 64 (pos (r .base) +ℤ offset)) i < r .base + r .bound)
 unfolding explicitGrants
-granted-inside r b offset i h l g =
-    let p = both (explicitRule r) (permits b r && below (signed 64 offset +ℤ pos i) (r .bound)) g in
-    let q = both (permits b r) (below (signed 64 offset +ℤ pos i) (r .bound)) (p .1) in
-    let e = explicit-ends r (p .0) in
-    let t = ltb-true ((offset + i) % 2 ^ 64) (r .bound) (sym (below-word offset i (r .bound) h l (omega arith)) ∙ q .1) in
-    rw (word-sum (r .base) offset h) (omega arith)
+granted-inside r p offset i g =
+    let h = both (explicitRule r) (permits p r && below (offset +ℤ pos i) (r .bound)) g in
+    let q = both (permits p r) (below (offset +ℤ pos i) (r .bound)) (h .1) in
+    below-inside (r .base) (r .bound) i offset (omega (arith, explicit-ends r (h .0) .1)) (q .1)
 
--- and, of a region that keeps its rule and has the permission, each byte that lies in it is granted
-pub inside-granted : (r : Region) (b offset i : ℕ) → offset < 2 ^ 64 → i < 2 ^ 63 → explicitRule r ≡ true → permits b r ≡ true
-    → r .base ≤ byteOf (word 64 (pos (r .base) +ℤ signed 64 offset)) i → byteOf (word 64 (pos (r .base) +ℤ signed 64 offset)) i < r .base + r .bound
-    → explicitGrants r b (signed 64 offset) i ≡ true
+-- and, of a region that keeps its rule and has the permission, each byte that lies in it is granted at its distance from base
+pub inside-granted : (r : Region) (p n : ℕ) → explicitRule r ≡ true → permits p r ≡ true → n < r .bound → explicitGrants r p (pos n) 0 ≡ true
 unfolding explicitGrants
-inside-granted r b offset i h l k m p q =
-    let e = explicit-ends r k in
-    let p′ : r .base ≤ byteOf ((r .base + offset) % 2 ^ 64) i = rw (word-sum (r .base) offset h) at p in
-    let q′ : byteOf ((r .base + offset) % 2 ^ 64) i < r .base + r .bound = rw (word-sum (r .base) offset h) at q in
-    rw (k, m, below-word offset i (r .bound) h l (omega arith)) (lt-ltb ((offset + i) % 2 ^ 64) (r .bound) (omega arith))
+inside-granted r p n k m l = rw (k, m, le-leb 0 (n + 0) (omega arith)) (lt-ltb (n + 0) (r .bound) (omega arith))

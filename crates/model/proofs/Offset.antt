@@ -1,31 +1,69 @@
--- Signed offsets: base plus offset modulo 2^64, and "at least 0 and below the bound", as sums of 64-bit words.
+-- Offsets into an explicit region, which are whole numbers: where an offset leads modulo 2^64, and the sum and the comparison
+-- of 64-bit words that tell whether a byte is "at least 0 and below the bound".
 -- Assumes nothing.
-use mathlib.Core.Path.{_≡_, refl, sym}
-use mathlib.Core.Bool.{Bool, true, false, cond, _&&_}
+use mathlib.Core.Path.{_≡_, refl, sym, ap, subst, _∙_}
+use mathlib.Core.Bool.{Bool, true, false, cond, _&&_, false≢true}
+use mathlib.Core.Logic.{_⊎_, inl, inr}
 use Prim.Native.Nat.{ℕ, suc, _+_, _-_, _%_, _^_, _<_, _≤_}
 use native.Mathlib.Omega.{arith}
-use lib.Dec.{leb, ltb}
-use lib.IntN.{pos, negsuc, _+ℤ_}
-use borrow.Author.Tests.{ltb-true, ltb-false, le-ltb, le-leb}
-use Rattle.words.specs.Word.{signed, word}
+use lib.Dec.{leb, ltb, lit≤}
+use lib.IntN.{ℤ, pos, negsuc, _+ℤ_}
+use borrow.Author.Tests.{ltb-true, ltb-false, lt-ltb, le-ltb, le-leb, eqb-true}
+use Rattle.words.specs.Word.{field, signed, word, fitsSigned}
+use Rattle.words.proofs.Extend.{sext-low-half, sext-high-half}
+use Rattle.words.proofs.Fields.{field-lt}
+use Rattle.instructions.proofs.Tests.{and-both}
+use Rattle.model.specs.Bytes.{byteOf}
 use Rattle.model.specs.Regions.{below}
 
--- a word that is added as a signed number is added as it stands
-pub word-sum : (base offset : ℕ) → offset < 2 ^ 64 → word 64 (pos base +ℤ signed 64 offset) ≡ (base + offset) % 2 ^ 64
-word-sum base offset h = go (ltb offset (2 ^ 63)) refl
-  where
-    back : (b : Bool) → ltb base (suc (2 ^ 64 - suc offset)) ≡ b
-        → word 64 (cond b (negsuc (suc (2 ^ 64 - suc offset) - suc base)) (pos (base - suc (2 ^ 64 - suc offset)))) ≡ (base + offset) % 2 ^ 64
-    back true t = omega (arith, ltb-true base (suc (2 ^ 64 - suc offset)) t)
-    back false t = omega (arith, ltb-false base (suc (2 ^ 64 - suc offset)) t)
+-- ---- addresses
 
-    go : (b : Bool) → ltb offset (2 ^ 63) ≡ b
-        → word 64 (pos base +ℤ cond b (pos offset) (negsuc (2 ^ 64 - suc offset))) ≡ (base + offset) % 2 ^ 64
-    go true t = refl
-    go false t = back (ltb base (suc (2 ^ 64 - suc offset))) refl
+-- a whole number is added modulo 2^64 by adding its 64 bits
+pub word-sum : (base : ℕ) (z : ℤ) → word 64 (pos base +ℤ z) ≡ (base + word 64 z) % 2 ^ 64
+word-sum base (pos n) = omega arith
+word-sum base (negsuc n) = go (ltb base (suc n)) refl
+  where
+    go : (b : Bool) → ltb base (suc n) ≡ b
+        → word 64 (cond b (negsuc (suc n - suc base)) (pos (base - suc n))) ≡ (base + (2 ^ 64 - suc (n % 2 ^ 64))) % 2 ^ 64
+    go true t = omega (arith, ltb-true base (suc n) t)
+    go false t = omega (arith, ltb-false base (suc n) t)
+
+word-signed : (n : ℕ) → n < 2 ^ 64 → word 64 (signed 64 n) ≡ n
+word-signed n h = go (ltb n (2 ^ 63)) refl
+  where
+    go : (b : Bool) → ltb n (2 ^ 63) ≡ b → word 64 (cond b (pos n) (negsuc (2 ^ 64 - suc n))) ≡ n
+    go true t = omega arith
+    go false t = omega arith
+
+-- so an h-word's address is two sums of words
+pub address-sum : (base v imm : ℕ) → imm < 2 ^ 64 → word 64 (pos base +ℤ (pos v +ℤ signed 64 imm)) ≡ (base + (v + imm) % 2 ^ 64) % 2 ^ 64
+address-sum base v imm h =
+    word-sum base (pos v +ℤ signed 64 imm)
+    ∙ ap (λ (n : ℕ). (base + n) % 2 ^ 64) (word-sum v (signed 64 imm) ∙ ap (λ (n : ℕ). (v + n) % 2 ^ 64) (word-signed imm h))
+
+-- ---- bytes below the bound
+
+below-pos : (n bound : ℕ) → below (pos n) bound ≡ true → n < bound
+below-pos n bound e = ltb-true n bound (and-both (leb 0 n) (ltb n bound) e .1)
+
+-- a byte below the bound lies in its region, which ends at 2^64 or before
+pub below-inside : (base bound i : ℕ) (z : ℤ) → base + bound ≤ 2 ^ 64 → below (z +ℤ pos i) bound ≡ true
+    → (base ≤ byteOf (word 64 (pos base +ℤ z)) i) × (byteOf (word 64 (pos base +ℤ z)) i < base + bound)
+below-inside base bound i (pos n) h e =
+    let l = below-pos (n + i) bound e in
+    (omega arith, omega arith)
+below-inside base bound i (negsuc n) h e = rw (word-sum base (negsuc n)) (go (ltb i (suc n)) refl e)
+  where
+    go : (b : Bool) → ltb i (suc n) ≡ b → below (cond b (negsuc (suc n - suc i)) (pos (i - suc n))) bound ≡ true
+        → (base ≤ byteOf ((base + (2 ^ 64 - suc (n % 2 ^ 64))) % 2 ^ 64) i) × (byteOf ((base + (2 ^ 64 - suc (n % 2 ^ 64))) % 2 ^ 64) i < base + bound)
+    go true t e = absurd (false≢true e)
+    go false t e =
+        let l = ltb-false i (suc n) t in
+        let u = below-pos (i - suc n) bound e in
+        (omega arith, omega arith)
 
 -- a place before a region's start wraps far beyond its bound
-pub below-word : (offset i bound : ℕ) → offset < 2 ^ 64 → i < 2 ^ 63 → bound ≤ 2 ^ 63
+below-word : (offset i bound : ℕ) → offset < 2 ^ 64 → i < 2 ^ 63 → bound ≤ 2 ^ 63
     → below (signed 64 offset +ℤ pos i) bound ≡ ltb ((offset + i) % 2 ^ 64) bound
 below-word offset i bound h p q = go (ltb offset (2 ^ 63)) refl
   where
@@ -43,3 +81,57 @@ below-word offset i bound h p q = go (ltb offset (2 ^ 63)) refl
         → below (cond b (pos offset) (negsuc (2 ^ 64 - suc offset)) +ℤ pos i) bound ≡ ltb ((offset + i) % 2 ^ 64) bound
     go true t = at-least (offset + i) ((offset + i) % 2 ^ 64) (omega (arith, ltb-true offset (2 ^ 63) t))
     go false t = back (ltb i (suc (2 ^ 64 - suc offset))) refl (ltb-false offset (2 ^ 63) t)
+
+-- ---- a register and an immediate of 12 bits
+
+-- at most 2,047, or at least -2,048
+abbrev Immediate : ℕ → Type 0
+Immediate imm = (imm < 2 ^ 11) ⊎ ((2 ^ 64 - 2 ^ 11 ≤ imm) × (imm < 2 ^ 64))
+
+immediate-range : (imm : ℕ) → fitsSigned 12 imm ≡ true → Immediate imm
+immediate-range imm h = go (ltb (field imm 0 12) (2 ^ 11)) refl
+  where
+    go : (b : Bool) → ltb (field imm 0 12) (2 ^ 11) ≡ b → Immediate imm
+    go true t =
+        let l = ltb-true (field imm 0 12) (2 ^ 11) t in
+        let e : field imm 0 12 ≡ imm = sym (sext-low-half 12 (field imm 0 12) l (omega arith)) ∙ eqb-true _ imm h in
+        inl (subst (λ (n : ℕ). n < 2 ^ 11) e l)
+    go false t =
+        let l = ltb-false (field imm 0 12) (2 ^ 11) t in
+        let u = field-lt imm 0 12 in
+        let e : field imm 0 12 + (2 ^ 64 - 2 ^ 12) ≡ imm = sym (sext-high-half 12 (field imm 0 12) (lit≤ tt) l u) ∙ eqb-true _ imm h in
+        inr (subst (λ (n : ℕ). (2 ^ 64 - 2 ^ 11 ≤ n) × (n < 2 ^ 64)) e (omega arith, omega arith))
+
+-- of a register below 2^62 the sum of the words stands for the offset
+near-sum : (v imm : ℕ) → v < 2 ^ 62 → Immediate imm → pos v +ℤ signed 64 imm ≡ signed 64 ((v + imm) % 2 ^ 64)
+near-sum v imm h (inl l) =
+    rw (lt-ltb imm (2 ^ 63) (omega arith), lt-ltb ((v + imm) % 2 ^ 64) (2 ^ 63) (omega arith)) (ap pos (omega arith))
+near-sum v imm h (inr (l, u)) = rw (le-ltb imm (2 ^ 63) (omega arith)) (go (ltb v (suc (2 ^ 64 - suc imm))) refl)
+  where
+    go : (b : Bool) → ltb v (suc (2 ^ 64 - suc imm)) ≡ b
+        → cond b (negsuc (suc (2 ^ 64 - suc imm) - suc v)) (pos (v - suc (2 ^ 64 - suc imm))) ≡ signed 64 ((v + imm) % 2 ^ 64)
+    go true t =
+        let s = ltb-true v (suc (2 ^ 64 - suc imm)) t in
+        rw (le-ltb ((v + imm) % 2 ^ 64) (2 ^ 63) (omega arith)) (ap negsuc (omega arith))
+    go false t =
+        let s = ltb-false v (suc (2 ^ 64 - suc imm)) t in
+        rw (lt-ltb ((v + imm) % 2 ^ 64) (2 ^ 63) (omega arith)) (ap pos (omega arith))
+
+-- and one of 2^62 or more lies past every bound
+far-outside : (v imm i bound : ℕ) → 2 ^ 62 ≤ v → Immediate imm → bound ≤ 2 ^ 48 → below ((pos v +ℤ signed 64 imm) +ℤ pos i) bound ≡ false
+far-outside v imm i bound h (inl l) u =
+    rw (lt-ltb imm (2 ^ 63) (omega arith), le-leb 0 (v + imm + i) (omega arith)) (le-ltb (v + imm + i) bound (omega arith))
+far-outside v imm i bound h (inr (l, m)) u =
+    rw (le-ltb imm (2 ^ 63) (omega arith), le-ltb v (suc (2 ^ 64 - suc imm)) (omega arith), le-leb 0 (v - suc (2 ^ 64 - suc imm) + i) (omega arith))
+    (le-ltb (v - suc (2 ^ 64 - suc imm) + i) bound (omega arith))
+
+pub below-offset : (v imm i bound : ℕ) → fitsSigned 12 imm ≡ true → i < 2 ^ 63 → bound ≤ 2 ^ 48
+    → below ((pos v +ℤ signed 64 imm) +ℤ pos i) bound ≡ (ltb v (2 ^ 62) && ltb (((v + imm) % 2 ^ 64 + i) % 2 ^ 64) bound)
+below-offset v imm i bound f l u = go (ltb v (2 ^ 62)) refl (immediate-range imm f)
+  where
+    go : (b : Bool) → ltb v (2 ^ 62) ≡ b → Immediate imm
+        → below ((pos v +ℤ signed 64 imm) +ℤ pos i) bound ≡ (b && ltb (((v + imm) % 2 ^ 64 + i) % 2 ^ 64) bound)
+    go true t r =
+        ap (λ z. below (z +ℤ pos i) bound) (near-sum v imm (ltb-true v (2 ^ 62) t) r)
+        ∙ below-word ((v + imm) % 2 ^ 64) i bound (omega arith) l (omega arith)
+    go false t r = far-outside v imm i bound (ltb-false v (2 ^ 62) t) r u

@@ -76,9 +76,10 @@ storeWidth Sd = 8
 abbrev pub effectiveAddress : List ℕ → ℕ → ℕ → ℕ
 effectiveAddress x rs1 imm = sum (reg x rs1) imm
 
--- "rs1 is ignored, though the instruction carries the field: the offset is the signed 12-bit immediate"
+-- "the offset of an h-prefixed word is the unsigned value of rs1 plus the signed immediate, as a whole number that does not
+-- wrap" (02, Job 1)
 abbrev pub offset : List ℕ → ℕ → ℕ → ℤ
-offset x rs1 imm = signed 64 imm
+offset x rs1 imm = pos (reg x rs1) +ℤ signed 64 imm
 
 abbrev pub loadAccess : List Region → List ℕ → LoadKind → ℕ → ℕ → Access
 loadAccess rs x k rs1 imm = dataAccess rs read (effectiveAddress x rs1 imm) (loadWidth k)
