@@ -1,10 +1,12 @@
--- The register numbers of an instruction in range are below 32: those that its execution reads or writes.
+-- The register numbers of an instruction in range are below 32: those that its execution reads or writes. An h-word's immediate
+-- is one of 12 bits.
 -- Assumes nothing.
 use mathlib.Core.Path.{_≡_, subst}
 use mathlib.Core.Bool.{true}
 use Prim.Native.Nat.{_<_}
 use lib.Dec.{ltb}
 use borrow.Author.Tests.{ltb-true}
+use Rattle.words.specs.Word.{fitsSigned}
 use Rattle.instructions.specs.Encode.{inRange}
 use Rattle.instructions.specs.declared.instruction.Instruction.{Instruction}
 use Rattle.instructions.specs.declared.instruction.Instruction.the-variants.{Upper, Jal, Jalr, Branch, Load, Store, Immediate, Shift, Addiw, ShiftWord, Register, RegisterWord, Fence, System, HLoad, HStore, Hfi}
@@ -25,8 +27,8 @@ Below (Register k rd rs1 rs2) = (rd < 32) × (rs1 < 32) × (rs2 < 32)
 Below (RegisterWord k rd rs1 rs2) = (rd < 32) × (rs1 < 32) × (rs2 < 32)
 Below (Fence fm pred succ rs1 rd) = Unit {0}
 Below (System k) = Unit {0}
-Below (HLoad k rd rs1 imm) = rd < 32
-Below (HStore k rs1 rs2 imm) = rs2 < 32
+Below (HLoad k rd rs1 imm) = (rd < 32) × (rs1 < 32) × (fitsSigned 12 imm ≡ true)
+Below (HStore k rs1 rs2 imm) = (rs1 < 32) × (rs2 < 32) × (fitsSigned 12 imm ≡ true)
 Below (Hfi k rd rs1 rs2) = (rd < 32) × (rs1 < 32) × (rs2 < 32)
 
 registers : (i : Instruction) → inRange i ≡ true → Below i
@@ -44,8 +46,8 @@ registers (Register k rd rs1 rs2) h = let t = two-all rd rs1 (ltb rs2 32) h in (
 registers (RegisterWord k rd rs1 rs2) h = let t = two-all rd rs1 (ltb rs2 32) h in (t .0, t .1, ltb-true rs2 32 (t .2))
 registers (Fence fm pred succ rs1 rd) h = tt
 registers (System k) h = tt
-registers (HLoad k rd rs1 imm) h = two-all rd rs1 _ h .0
-registers (HStore k rs1 rs2 imm) h = two-all rs1 rs2 _ h .1
+registers (HLoad k rd rs1 imm) h = two-all rd rs1 _ h
+registers (HStore k rs1 rs2 imm) h = two-all rs1 rs2 _ h
 registers (Hfi k rd rs1 rs2) h =
     let t = two-all rd rs1 _ h in
     (t .0, t .1, ltb-true rs2 32 (and-both (ltb rs2 32) _ (t .2) .0))

@@ -4,6 +4,7 @@ ghost use mathlib.Core.Path.{_≡_};
 ghost use mathlib.Core.List.{List};
 ghost use mathlib.Core.Bool.{true};
 ghost use Prim.Native.Nat.{ℕ, _<_};
+ghost use Rattle.words.specs.Word.{fitsSigned};
 ghost use Rattle.instructions.specs.Encode.{inRange};
 ghost use Rattle.instructions.specs.declared.instruction.Instruction.the-variants.{Upper, Branch, Load, Store, System, HLoad, HStore};
 ghost use Rattle.model.specs.Machine.{machine};
@@ -135,15 +136,17 @@ fn hload(
     next: u64,
     k: LoadKind,
     rd: u64,
+    rs1: u64,
     imm: u64,
 ) -> Effect
-    requires { ⌜ rd < 32 ⌝ }
-    ensures { λ r. ⌜ ((rs1 : ℕ) → effectWith r (now (x .exit)) (now (mem .entry)) ≡ perform (machine (now (x .entry)) pc hfi) (now (mem .entry)) next (HLoad k rd rs1 imm)) ⌝ }
+    requires { ⌜ (rd < 32) × (rs1 < 32) × (fitsSigned 12 imm ≡ true) ⌝ }
+    ensures { λ r. ⌜ effectWith r (now (x .exit)) (now (mem .entry)) ≡ perform (machine (now (x .entry)) pc hfi) (now (mem .entry)) next (HLoad k rd rs1 imm) ⌝ }
 {
     if !inside(hfi) {
         return stopped(14, pc, hfi);
     }
-    load_store::hload(x, pc, hfi, mem, next, k, rd, imm)
+    let operand = register(x, rs1);
+    load_store::hload(x, pc, hfi, mem, next, k, rd, operand, imm)
 }
 
 fn hstore(
@@ -153,16 +156,26 @@ fn hstore(
     mem: &mut [u8],
     next: u64,
     k: StoreKind,
+    rs1: u64,
     rs2: u64,
     imm: u64,
 ) -> Effect
-    requires { ⌜ rs2 < 32 ⌝ }
-    ensures { λ r. ⌜ ((rs1 : ℕ) → effectWith r (now (x .entry)) (now (mem .exit)) ≡ perform (machine (now (x .entry)) pc hfi) (now (mem .entry)) next (HStore k rs1 rs2 imm)) ⌝ }
+    requires { ⌜ (rs1 < 32) × (rs2 < 32) × (fitsSigned 12 imm ≡ true) ⌝ }
+    ensures { λ r. ⌜ effectWith r (now (x .entry)) (now (mem .exit)) ≡ perform (machine (now (x .entry)) pc hfi) (now (mem .entry)) next (HStore k rs1 rs2 imm) ⌝ }
 {
     if !inside(hfi) {
         return stopped(14, pc, hfi);
     }
-    load_store::hstore(pc, hfi, mem, next, k, register(x, rs2), imm)
+    load_store::hstore(
+        pc,
+        hfi,
+        mem,
+        next,
+        k,
+        register(x, rs2),
+        register(x, rs1),
+        imm,
+    )
 }
 
 // One instruction; `next` is the pc after it.
@@ -212,8 +225,8 @@ pub fn execute(
         }
         Instruction::Fence(_, _, _, _, _) => completed(next, hfi),
         Instruction::System(k) => system(pc, hfi, k),
-        Instruction::HLoad(k, rd, _, imm) => hload(x, pc, hfi, mem, next, k, rd, imm),
-        Instruction::HStore(k, _, rs2, imm) => hstore(x, pc, hfi, mem, next, k, rs2, imm),
+        Instruction::HLoad(k, rd, rs1, imm) => hload(x, pc, hfi, mem, next, k, rd, rs1, imm),
+        Instruction::HStore(k, rs1, rs2, imm) => hstore(x, pc, hfi, mem, next, k, rs1, rs2, imm),
         Instruction::Hfi(k, rd, rs1, rs2) => hfi_word(x, pc, hfi, next, k, rd, rs1, rs2),
     }
 }

@@ -1,9 +1,11 @@
 // Loads and stores, ordinary and h-prefixed.
 ghost use mathlib.Core.Path.{_≡_};
+ghost use mathlib.Core.Bool.{true};
 ghost use mathlib.Core.List.{List};
 ghost use Prim.Native.Nat.{ℕ, _+_, _<_, _≤_};
+ghost use lib.IntN.{pos, _+ℤ_};
 ghost use lib.ListN.{length};
-ghost use Rattle.words.specs.Word.{signed};
+ghost use Rattle.words.specs.Word.{signed, fitsSigned};
 ghost use Rattle.model.specs.Machine.{machine};
 ghost use Rattle.model.specs.Regions.{read as readBit, write as writeBit};
 ghost use Rattle.model.specs.Access.{loadWidth, storeWidth, dataAccess, explicitAccess};
@@ -74,7 +76,7 @@ pub fn load(
     finish_load(x, pc, hfi, mem, next, v, k, rd, a)
 }
 
-// An h-load at a signed offset into region 1.
+// An h-load at an offset of `operand` plus the signed `imm` into region 1.
 pub fn hload(
     x: &mut [u64; 32],
     pc: u64,
@@ -83,14 +85,23 @@ pub fn hload(
     next: u64,
     k: LoadKind,
     rd: u64,
-    offset: u64,
+    operand: u64,
+    imm: u64,
 ) -> Effect
-    requires { ⌜ rd < 32 ⌝ }
-    ensures { λ r. ⌜ effectWith r (now (x .exit)) (now (mem .entry)) ≡ loadOf (machine (now (x .entry)) pc hfi) (now (mem .entry)) next (explicitAccess (hfi .regions) 1 readBit (signed 64 offset) (loadWidth k)) k rd ⌝ }
+    requires { ⌜ (rd < 32) × (fitsSigned 12 imm ≡ true) ⌝ }
+    ensures { λ r. ⌜ effectWith r (now (x .exit)) (now (mem .entry)) ≡ loadOf (machine (now (x .entry)) pc hfi) (now (mem .entry)) next (explicitAccess (hfi .regions) 1 readBit (pos operand +ℤ signed 64 imm) (loadWidth k)) k rd ⌝ }
 {
     let rs = hfi.regions;
-    let v = check_explicit(hfi.mode, rs, READ, mem.len() as u64, offset, load_width(k));
-    let first = explicit_address(rs, offset);
+    let v = check_explicit(
+        hfi.mode,
+        rs,
+        READ,
+        mem.len() as u64,
+        operand,
+        imm,
+        load_width(k),
+    );
+    let first = explicit_address(rs, operand, imm);
     finish_load(x, pc, hfi, mem, next, v, k, rd, first)
 }
 
@@ -135,7 +146,7 @@ pub fn store(
     finish_store(pc, hfi, mem, next, v, k, value, a)
 }
 
-// An h-store of `value` at a signed offset into region 1.
+// An h-store of `value` at an offset of `operand` plus the signed `imm` into region 1.
 pub fn hstore(
     pc: u64,
     hfi: HfiState,
@@ -143,9 +154,11 @@ pub fn hstore(
     next: u64,
     k: StoreKind,
     value: u64,
-    offset: u64,
+    operand: u64,
+    imm: u64,
 ) -> Effect
-    ensures { λ r. ⌜ ((x : List ℕ) → effectWith r x (now (mem .exit)) ≡ storeOf (machine x pc hfi) (now (mem .entry)) next (explicitAccess (hfi .regions) 1 writeBit (signed 64 offset) (storeWidth k)) value) ⌝ }
+    requires { ⌜ fitsSigned 12 imm ≡ true ⌝ }
+    ensures { λ r. ⌜ ((x : List ℕ) → effectWith r x (now (mem .exit)) ≡ storeOf (machine x pc hfi) (now (mem .entry)) next (explicitAccess (hfi .regions) 1 writeBit (pos operand +ℤ signed 64 imm) (storeWidth k)) value) ⌝ }
 {
     let rs = hfi.regions;
     let v = check_explicit(
@@ -153,9 +166,10 @@ pub fn hstore(
         rs,
         WRITE,
         mem.len() as u64,
-        offset,
+        operand,
+        imm,
         store_width(k),
     );
-    let first = explicit_address(rs, offset);
+    let first = explicit_address(rs, operand, imm);
     finish_store(pc, hfi, mem, next, v, k, value, first)
 }

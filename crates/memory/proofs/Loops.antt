@@ -3,13 +3,13 @@
 use mathlib.Core.Path.{_≡_, refl, sym, ap, _∙_}
 use mathlib.Core.Bool.{Bool, true, false, cond, _&&_, _||_}
 use mathlib.Core.List.{List, [], _∷_}
-use Prim.Native.Nat.{ℕ, _<_, _≤_, _^_}
+use Prim.Native.Nat.{ℕ, _+_, _%_, _<_, _≤_, _^_}
 use native.Mathlib.Omega.{arith}
 use lib.Dec.{eqb, ltb}
 use lib.Bits.{bitAnd}
 use lib.IntN.{pos, _+ℤ_}
 use borrow.Author.Tests.{ne-eqb, lt-ltb, le-ltb}
-use Rattle.words.specs.Word.{signed}
+use Rattle.words.specs.Word.{signed, fitsSigned}
 use Rattle.model.specs.Machine.{region}
 use Rattle.model.specs.Regions.{permits, implicitRule, matches, firstMatch, granting, implicitGrants, below, explicitRule, explicitGrants}
 use Rattle.model.specs.Bytes.{byteOf}
@@ -18,7 +18,7 @@ use Rattle.model.specs.declared.Region.{Region}
 use Rattle.model.specs.declared.Verdict.{Verdict}
 use Rattle.model.specs.declared.Verdict.the-variants.{Refused}
 use Rattle.model.proofs.Scan.{scan-same}
-use Rattle.model.proofs.Offset.{below-word}
+use Rattle.model.proofs.Offset.{below-offset}
 use Rattle.model.proofs.Intervals.{explicit-ends}
 use Rattle.memory.specs.Loops.{implicitRefused, presenceOf}
 use Rattle.memory.proofs.Truth.{implicit-once, explicit-once}
@@ -33,15 +33,15 @@ implicit-asked mode r wanted a i p q e =
     rw (p, q, e) (implicit-once (eqb mode 0) (implicitRule r) (permits wanted r) (eqb (bitAnd (byteOf a i) (r .bound)) (r .base)))
 
 -- the test of the loop over an explicit region
-pub explicit-asked : (mode : ℕ) (r : Region) (wanted offset i : ℕ) {rule permitted : Bool} {at : ℕ}
-    → rule ≡ explicitRule r → permitted ≡ permits wanted r → at ≡ byteOf offset i → offset < 2 ^ 64 → i < 8
-    → (eqb mode 0 || ((rule && permitted) && ltb at (r .bound)))
-    ≡ cond (eqb mode 0) true (explicitGrants r wanted (signed 64 offset) i)
+pub explicit-asked : (mode : ℕ) (r : Region) (wanted v imm i : ℕ) {rule permitted : Bool} {sum at : ℕ}
+    → rule ≡ explicitRule r → permitted ≡ permits wanted r → sum ≡ (v + imm) % 2 ^ 64 → at ≡ byteOf sum i → fitsSigned 12 imm ≡ true → i < 8
+    → (eqb mode 0 || (((rule && permitted) && ltb v (2 ^ 62)) && ltb at (r .bound)))
+    ≡ cond (eqb mode 0) true (explicitGrants r wanted (pos v +ℤ signed 64 imm) i)
 unfolding explicitGrants
-explicit-asked mode r wanted offset i p q e h l =
-    rw (p, q, e)
-    (explicit-once (eqb mode 0) (explicitRule r) (permits wanted r) (ltb (byteOf offset i) (r .bound)) (below (signed 64 offset +ℤ pos i) (r .bound))
-    (λ t. sym (below-word offset i (r .bound) h (omega arith) (omega (arith, explicit-ends r t .1)))))
+explicit-asked mode r wanted v imm i p q s e f l =
+    rw (p, q, e, s)
+    (explicit-once (eqb mode 0) (explicitRule r) (permits wanted r) (ltb v (2 ^ 62)) (ltb (byteOf ((v + imm) % 2 ^ 64) i) (r .bound)) (below ((pos v +ℤ signed 64 imm) +ℤ pos i) (r .bound))
+    (λ t. sym (below-offset v imm i (r .bound) f (omega arith) (omega (arith, explicit-ends r t .1)))))
 
 -- over any list of implicit regions: the first, where it matches the byte, decides whether it is granted
 pub first-grants : (rs : List Region) (n : ℕ) (ns : List ℕ) (b a : ℕ) → 0 < n

@@ -22,9 +22,9 @@ implicit-once false false permitted here = refl
 implicit-once false true permitted true = and-true permitted
 implicit-once false true permitted false = and-false permitted
 
-pub explicit-once : (m rule permitted here inside : Bool) → (rule ≡ true → here ≡ inside)
-    → (m || ((rule && permitted) && here)) ≡ cond m true (rule && (permitted && inside))
-explicit-once true rule permitted here inside h = refl
-explicit-once false false permitted here inside h = refl
-explicit-once false true true here inside h = h refl
-explicit-once false true false here inside h = refl
+pub explicit-once : (m rule permitted near here inside : Bool) → (rule ≡ true → (near && here) ≡ inside)
+    → (m || (((rule && permitted) && near) && here)) ≡ cond m true (rule && (permitted && inside))
+explicit-once true rule permitted near here inside h = refl
+explicit-once false false permitted near here inside h = refl
+explicit-once false true true near here inside h = h refl
+explicit-once false true false near here inside h = refl

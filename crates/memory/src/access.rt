@@ -1,8 +1,10 @@
 // The questions that every byte of an access is asked before any is touched. `wanted` is a permission by its bit number.
 ghost use mathlib.Core.Path.{_≡_};
+ghost use mathlib.Core.Bool.{true};
 ghost use mathlib.Core.List.{[], _∷_};
 ghost use Prim.Native.Nat.{_<_, _≤_};
-ghost use Rattle.words.specs.Word.{signed};
+ghost use lib.IntN.{pos, _+ℤ_};
+ghost use Rattle.words.specs.Word.{signed, fitsSigned};
 ghost use Rattle.model.specs.Machine.{lastRegion};
 ghost use Rattle.model.specs.Access.{fetchAccess, dataAccess, implicitAccess, explicitAccess, firstAbsent, verdict};
 ghost use Rattle.memory.specs.Loops.{implicitRefused, explicitRefused, presenceOf, explicitFirst};
@@ -34,13 +36,17 @@ fn first_refused_implicit(mode: u64, r: Region, wanted: u64, a: u64, n: u64) -> 
     }
 }
 
-// The first byte that the explicit region does not grant, or `n`. An offset before the region's start wraps far beyond any
-// bound.
-fn first_refused_explicit(mode: u64, r: Region, wanted: u64, offset: u64, n: u64) -> u64
-    requires { ⌜ (wanted < 64) × (n ≤ 8) ⌝ }
-    ensures { λ q. ⌜ q ≡ explicitRefused mode r wanted offset n ⌝ }
+// An operand from here on lies past every bound, whatever the immediate. With one below, the sum is exact as a signed number
+// of 64 bits, and an offset before the region's start wraps far beyond any bound.
+const FAR: u64 = 0x4000_0000_0000_0000;
+
+// The first byte that the explicit region does not grant, or `n`; the offset is `operand` plus the signed `imm`.
+fn first_refused_explicit(mode: u64, r: Region, wanted: u64, operand: u64, imm: u64, n: u64) -> u64
+    requires { ⌜ (wanted < 64) × (fitsSigned 12 imm ≡ true) × (n ≤ 8) ⌝ }
+    ensures { λ q. ⌜ q ≡ explicitRefused mode r wanted (pos operand +ℤ signed 64 imm) n ⌝ }
 {
-    let ok = explicit_rule(r) & permits(wanted, r);
+    let ok = (explicit_rule(r) & permits(wanted, r)) & (operand < FAR);
+    let offset = std::num::wrapping_add_u64(operand, imm);
     let mut i: u64 = 0;
     loop {
         if n <= i {
@@ -127,9 +133,10 @@ pub fn check_data(
 }
 
 // The address of the first byte of an h-load or h-store.
-pub fn explicit_address(rs: [Region; REGIONS], offset: u64) -> u64
-    ensures { λ q. ⌜ q ≡ explicitFirst rs offset ⌝ }
+pub fn explicit_address(rs: [Region; REGIONS], operand: u64, imm: u64) -> u64
+    ensures { λ q. ⌜ q ≡ explicitFirst rs (pos operand +ℤ signed 64 imm) ⌝ }
 {
+    let offset = std::num::wrapping_add_u64(operand, imm);
     std::num::wrapping_add_u64(rs[0].base, offset)
 }
 
@@ -139,15 +146,16 @@ pub fn check_explicit(
     rs: [Region; REGIONS],
     wanted: u64,
     len: u64,
-    offset: u64,
+    operand: u64,
+    imm: u64,
     n: u64,
 ) -> Verdict
-    requires { ⌜ (wanted < 64) × (n ≤ 8) ⌝ }
-    ensures { λ q. ⌜ q ≡ verdict mode len (explicitAccess rs 1 wanted (signed 64 offset) n) ⌝ }
+    requires { ⌜ (wanted < 64) × (fitsSigned 12 imm ≡ true) × (n ≤ 8) ⌝ }
+    ensures { λ q. ⌜ q ≡ verdict mode len (explicitAccess rs 1 wanted (pos operand +ℤ signed 64 imm) n) ⌝ }
 {
     let r = rs[0];
-    let i = first_refused_explicit(mode, r, wanted, offset, n);
-    let a = explicit_address(rs, offset);
+    let i = first_refused_explicit(mode, r, wanted, operand, imm, n);
+    let a = explicit_address(rs, operand, imm);
     if i < n {
         return Verdict::Refused(std::num::wrapping_add_u64(a, i), 1);
     }

@@ -228,13 +228,13 @@ same-length-3 : tie.Need-same-length-3
 same-length-3 c = search needs
 
 returns-15 : tie.Need-returns-15
-returns-15 c = c .hload .ensures _ ∙ ap (perform _ _ _) (sym (c .before .before .before .before .i14 .given .1))
+returns-15 c = c .hload .ensures ∙ ap (perform _ _ _) (sym (c .before .before .before .before .i14 .given .1))
 
 same-length-4 : tie.Need-same-length-4
 same-length-4 c = search needs
 
 returns-16 : tie.Need-returns-16
-returns-16 c = c .before .before .hstore .ensures _ ∙ ap (perform _ _ _) (sym (c .before .before .before .before .before .before .i15 .given .1))
+returns-16 c = c .before .before .hstore .ensures ∙ ap (perform _ _ _) (sym (c .before .before .before .before .before .before .i15 .given .1))
 
 returns-17 : tie.Need-returns-17
 returns-17 c = c .hfi-word .ensures _ ∙ ap (perform _ _ _) (sym (c .before .before .before .i16 .given .1))

@@ -16,7 +16,7 @@ stopped-requires c κs = search needs
 
 returns : tie.Need-returns
 unfolding perform allowed hWordStop
-returns c = λ rs1.
+returns c =
     rw (
       c .stopped .ensures,
       ← c .before .before .inside .ensures,
@@ -26,6 +26,9 @@ returns c = λ rs1.
 register-requires : tie.Need-register-requires
 register-requires c κs = search needs
 
+register-requires-2 : tie.Need-register-requires-2
+register-requires-2 c κs = search needs
+
 hstore-requires : tie.Need-hstore-requires
 hstore-requires c κs = search needs
 
@@ -34,11 +37,12 @@ same-length c = search needs
 
 returns-2 : tie.Need-returns-2
 unfolding perform allowed hWordStop
-returns-2 c = λ rs1.
-    c .before .before .hstore .ensures (c .before .before .before .before .before .before .before .before .args .x .now) ∙ rw (
-      ← c .before .before .before .before .before .before .inside .ensures,
-      not-false (c .before .before .before .before .before .before .inside .result) (c .before .before .before .before .before .if1 .left),
-      c .before .before .before .register .ensures,
+returns-2 c =
+    c .before .before .hstore .ensures (c .before .before .before .before .before .before .before .before .before .args .x .now) ∙ rw (
+      ← c .before .before .before .before .before .before .before .inside .ensures,
+      not-false (c .before .before .before .before .before .before .before .inside .result) (c .before .before .before .before .before .before .if1 .left),
+      c .before .before .before .before .register .ensures,
+      c .before .before .before .register2 .ensures,
     )
 
 pub hstore-spec : {M : Type 1} → statement M
@@ -49,6 +53,7 @@ hstore-spec =
     stopped-requires
     returns
     register-requires
+    register-requires-2
     hstore-requires
     same-length
     returns-2)

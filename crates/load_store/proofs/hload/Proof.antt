@@ -18,7 +18,7 @@ load-width-requires : tie.Need-load-width-requires
 load-width-requires c κs = search needs
 
 check-explicit-requires : tie.Need-check-explicit-requires
-check-explicit-requires c κs = (lit< tt, rw (c .load-width .ensures) (width-bounds _ (load-is-width (c .before .before .before .args .k)) .1))
+check-explicit-requires c κs = (lit< tt, search needs, rw (c .load-width .ensures) (width-bounds _ (load-is-width (c .before .before .before .args .k)) .1))
 
 explicit-address-requires : tie.Need-explicit-address-requires
 explicit-address-requires c κs = search needs
@@ -26,11 +26,11 @@ explicit-address-requires c κs = search needs
 finish-load-requires : tie.Need-finish-load-requires
 finish-load-requires c κs =
     let a = c .before .before .before .before .before .before .args in
-    let access = explicitAccess (a .hfi .regions) 1 read (signed 64 (a .offset)) (loadWidth (a .k)) in (
-      c .before .before .before .before .before .before .pre,
+    let access = explicitAccess (a .hfi .regions) 1 read (pos (a .operand) +ℤ signed 64 (a .imm)) (loadWidth (a .k)) in (
+      c .before .before .before .before .before .before .pre .0,
       rw (c .before .explicit-address .ensures)
           (passed-fits (a .hfi .mode) (length (a .mem .now)) access (load-is-width (a .k))
-          (word-lt 64 (pos (region (a .hfi .regions) 1 .base) +ℤ signed 64 (a .offset))) (search needs)
+          (word-lt 64 (pos (region (a .hfi .regions) 1 .base) +ℤ (pos (a .operand) +ℤ signed 64 (a .imm)))) (search needs)
           (c .before .before .check-explicit .ensures ∙ rw (c .before .before .before .load-width .ensures))),
     )
 

@@ -18,7 +18,7 @@ store-width-requires : tie.Need-store-width-requires
 store-width-requires c κs = search needs
 
 check-explicit-requires : tie.Need-check-explicit-requires
-check-explicit-requires c κs = (lit< tt, rw (c .store-width .ensures) (width-bounds _ (store-is-width (c .before .before .before .args .k)) .1))
+check-explicit-requires c κs = (lit< tt, search needs, rw (c .store-width .ensures) (width-bounds _ (store-is-width (c .before .before .before .args .k)) .1))
 
 explicit-address-requires : tie.Need-explicit-address-requires
 explicit-address-requires c κs = search needs
@@ -26,10 +26,10 @@ explicit-address-requires c κs = search needs
 finish-store-requires : tie.Need-finish-store-requires
 finish-store-requires c κs =
     let a = c .before .before .before .before .before .before .args in
-    let access = explicitAccess (a .hfi .regions) 1 write (signed 64 (a .offset)) (storeWidth (a .k)) in
+    let access = explicitAccess (a .hfi .regions) 1 write (pos (a .operand) +ℤ signed 64 (a .imm)) (storeWidth (a .k)) in
     rw (c .before .explicit-address .ensures)
     (passed-fits (a .hfi .mode) (length (a .mem .now)) access (store-is-width (a .k))
-    (word-lt 64 (pos (region (a .hfi .regions) 1 .base) +ℤ signed 64 (a .offset))) (search needs)
+    (word-lt 64 (pos (region (a .hfi .regions) 1 .base) +ℤ (pos (a .operand) +ℤ signed 64 (a .imm)))) (search needs)
     (c .before .before .check-explicit .ensures ∙ rw (c .before .before .before .store-width .ensures)))
 
 same-length : tie.Need-same-length

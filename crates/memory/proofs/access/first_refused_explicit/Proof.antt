@@ -1,10 +1,11 @@
 use mathlib.Core.Path.{_≡_, sym, _∙_}
 use mathlib.Core.Bool.{true, cond}
-use Prim.Native.Nat.{_-_, _<_, _^_}
+use Prim.Native.Nat.{_-_, _<_}
 use borrow.Author.Needs.{needs}
 use borrow.Author.Tests.{not-true, not-false}
 use lib.Dec.{eqb}
-use Rattle.words.specs.Word.{signed}
+use lib.IntN.{pos, _+ℤ_}
+use Rattle.words.specs.Word.{signed, fitsSigned}
 use Rattle.model.specs.Regions.{explicitGrants}
 use Rattle.model.specs.Access.{scan}
 use Rattle.model.proofs.Scan.{scan-start, scan-next, scan-here, scan-end}
@@ -14,12 +15,12 @@ use Rattle.memory.proofs.access.first_refused_explicit.Statement.{state
 use Rattle.memory.proofs.access.first_refused_explicit.Tie as tie
 
 abbrev Inv-loop : tie.InvT-loop
-Inv-loop mode r wanted offset n ok i₀ i =
-    scan (λ k. cond (eqb mode 0) true (explicitGrants r wanted (signed 64 offset) k)) i (n - i)
-    ≡ explicitRefused mode r wanted offset n
+Inv-loop mode r wanted operand imm n ok offset i₀ i =
+    scan (λ k. cond (eqb mode 0) true (explicitGrants r wanted (pos operand +ℤ signed 64 imm) k)) i (n - i)
+    ≡ explicitRefused mode r wanted (pos operand +ℤ signed 64 imm) n
 
 abbrev μ-loop : tie.MeasureT-loop
-μ-loop mode r wanted offset n ok i₀ i = n - i
+μ-loop mode r wanted operand imm n ok offset i₀ i = n - i
 
 explicit-rule-requires : tie.Need-explicit-rule-requires Inv-loop μ-loop
 explicit-rule-requires c κs = search needs
@@ -27,11 +28,14 @@ explicit-rule-requires c κs = search needs
 permits-requires : tie.Need-permits-requires Inv-loop μ-loop
 permits-requires c κs = search needs
 
+wrapping-add-u64-requires : tie.Need-wrapping-add-u64-requires Inv-loop μ-loop
+wrapping-add-u64-requires c κs = search needs
+
 loop-holds : tie.Need-loop-holds Inv-loop μ-loop
 loop-holds c = scan-start _ _
 
-wrapping-add-u64-requires : tie.Need-wrapping-add-u64-requires Inv-loop μ-loop
-wrapping-add-u64-requires c κs = search needs
+wrapping-add-u64-requires-2 : tie.Need-wrapping-add-u64-requires-2 Inv-loop μ-loop
+wrapping-add-u64-requires-2 c κs = search needs
 
 add-i : tie.Need-add-i Inv-loop μ-loop
 add-i c = search needs
@@ -41,30 +45,32 @@ loop-less c = search needs
 
 loop-again : tie.Need-loop-again Inv-loop μ-loop
 loop-again c =
-    let args = c .before .before .before .before .before .before .before .args in
-    let rule = c .before .before .before .before .before .before .explicit-rule in
-    let permitted = c .before .before .before .before .before .permits in
-    let at = c .before .before .before .before .loop in
-    let sum = c .before .before .wrapping-add-u64 in
-    let fits : args .offset < 2 ^ 64 = search needs in
-    let short : at .i < 8 = search needs in
-    let ok = explicit-asked (args .mode) (args .r) (args .wanted) (args .offset) (at .i) (rule .ensures) (permitted .ensures) (sum .ensures) fits short in
-    sym (scan-next _ _ _ (c .before .before .before .if1 .left) (sym ok ∙ not-false _ (c .if2 .left))) ∙ at .inv
+    let args = c .before .before .before .before .before .before .before .before .args in
+    let rule = c .before .before .before .before .before .before .before .explicit-rule in
+    let permitted = c .before .before .before .before .before .before .permits in
+    let sum = c .before .before .before .before .before .wrapping-add-u64 in
+    let loop = c .before .before .before .before .loop in
+    let at = c .before .before .wrapping-add-u642 in
+    let fits : fitsSigned 12 (args .imm) ≡ true = search needs in
+    let short : loop .i < 8 = search needs in
+    let ok = explicit-asked (args .mode) (args .r) (args .wanted) (args .operand) (args .imm) (loop .i) (rule .ensures) (permitted .ensures) (sum .ensures) (at .ensures) fits short in
+    sym (scan-next _ _ _ (c .before .before .before .if1 .left) (sym ok ∙ not-false _ (c .if2 .left))) ∙ loop .inv
 
 returns : tie.Need-returns Inv-loop μ-loop
 returns c = sym (scan-end _ _ _ (c .if1 .taken)) ∙ c .before .loop .inv
 
 returns-2 : tie.Need-returns-2 Inv-loop μ-loop
 returns-2 c =
-    let args = c .before .before .before .before .before .before .before .args in
-    let rule = c .before .before .before .before .before .before .explicit-rule in
-    let permitted = c .before .before .before .before .before .permits in
-    let at = c .before .before .before .before .loop in
-    let sum = c .before .before .wrapping-add-u64 in
-    let fits : args .offset < 2 ^ 64 = search needs in
-    let short : at .i < 8 = search needs in
-    let ok = explicit-asked (args .mode) (args .r) (args .wanted) (args .offset) (at .i) (rule .ensures) (permitted .ensures) (sum .ensures) fits short in
-    sym (scan-here _ _ _ (c .before .before .before .if1 .left) (sym ok ∙ not-true _ (c .if2 .taken))) ∙ at .inv
+    let args = c .before .before .before .before .before .before .before .before .args in
+    let rule = c .before .before .before .before .before .before .before .explicit-rule in
+    let permitted = c .before .before .before .before .before .before .permits in
+    let sum = c .before .before .before .before .before .wrapping-add-u64 in
+    let loop = c .before .before .before .before .loop in
+    let at = c .before .before .wrapping-add-u642 in
+    let fits : fitsSigned 12 (args .imm) ≡ true = search needs in
+    let short : loop .i < 8 = search needs in
+    let ok = explicit-asked (args .mode) (args .r) (args .wanted) (args .operand) (args .imm) (loop .i) (rule .ensures) (permitted .ensures) (sum .ensures) (at .ensures) fits short in
+    sym (scan-here _ _ _ (c .before .before .before .if1 .left) (sym ok ∙ not-true _ (c .if2 .taken))) ∙ loop .inv
 
 pub first-refused-explicit-spec : {M : Type 1} → statement M
 first-refused-explicit-spec =
@@ -74,8 +80,9 @@ first-refused-explicit-spec =
     μ-loop
     explicit-rule-requires
     permits-requires
-    loop-holds
     wrapping-add-u64-requires
+    loop-holds
+    wrapping-add-u64-requires-2
     add-i
     loop-less
     loop-again
