@@ -166,16 +166,8 @@ fn hstore(
     if !inside(hfi) {
         return stopped(14, pc, hfi);
     }
-    load_store::hstore(
-        pc,
-        hfi,
-        mem,
-        next,
-        k,
-        register(x, rs2),
-        register(x, rs1),
-        imm,
-    )
+    let operand = register(x, rs1);
+    load_store::hstore(pc, hfi, mem, next, k, register(x, rs2), operand, imm)
 }
 
 // One instruction; `next` is the pc after it.

@@ -1,6 +1,6 @@
--- Clauses of document 01 that no sheet can reach, since a sheet starts in HFI mode and ends when it leaves: rows of one
--- table that one computed check covers. A row of a call has the whole machine that it leaves, and the whole memory.
--- Sentences of document 01 are quoted above their rows.
+-- Clauses of document 01 that no sheet can reach, since a sheet starts in HFI mode and ends when it leaves, and those of
+-- document 02 as they come: rows of one table that one computed check covers. A row of a call has the whole machine that it
+-- leaves, and the whole memory. The documents' sentences are quoted above their rows.
 -- Assumes nothing.
 use mathlib.Core.Path.{_≡_, refl}
 use mathlib.Core.Bool.{true, false}
@@ -323,8 +323,8 @@ asking =
 
 unfoldable pub offsets : List Row
 offsets =
-    -- "the offset of an h-prefixed word is the unsigned value of rs1 plus the signed immediate": of the word's own bytes and those
-    -- after it, hlb x6, 0(x5), with -5 and with -2048, and hsb x6, 0(x5)
+    -- "the offset of an h-prefixed word is the unsigned value of rs1 plus the signed immediate" (02, Job 1): of the word's own
+    -- bytes and those after it, hlb x6, 0(x5), with -5 and with -2048, and hsb x6, 0(x5)
     goes (inside 0 ++ ((base 1, 0) ∷ (x 5, 2) ∷ [])) hlb5 ((x 6, 2) ∷ [])
     ∷ goes (inside 0 ++ ((base 1, 0) ∷ (x 5, 5) ∷ [])) 0xffb2830b ((x 6, 0xb) ∷ [])
     ∷ goes (inside 0 ++ ((base 1, 0) ∷ (x 5, 0x800) ∷ [])) 0x8002830b ((x 6, 0xb) ∷ [])

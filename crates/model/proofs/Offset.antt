@@ -3,23 +3,26 @@
 -- Assumes nothing.
 use mathlib.Core.Path.{_≡_, refl, sym, ap, subst, _∙_}
 use mathlib.Core.Bool.{Bool, true, false, cond, _&&_, false≢true}
+use mathlib.Core.List.{List}
 use mathlib.Core.Logic.{_⊎_, inl, inr}
 use Prim.Native.Nat.{ℕ, suc, _+_, _-_, _%_, _^_, _<_, _≤_}
 use native.Mathlib.Omega.{arith}
 use lib.Dec.{leb, ltb, lit≤}
-use lib.IntN.{ℤ, pos, negsuc, _+ℤ_}
+use lib.IntN.{ℤ, pos, negsuc, _+ℤ_, +ℤ-idl}
 use borrow.Author.Tests.{ltb-true, ltb-false, lt-ltb, le-ltb, le-leb, eqb-true}
 use Rattle.words.specs.Word.{field, signed, word, fitsSigned}
 use Rattle.words.proofs.Extend.{sext-low-half, sext-high-half}
 use Rattle.words.proofs.Fields.{field-lt}
 use Rattle.instructions.proofs.Tests.{and-both}
+use Rattle.model.specs.Machine.{reg}
 use Rattle.model.specs.Bytes.{byteOf}
 use Rattle.model.specs.Regions.{below}
+use Rattle.model.specs.Access.{offset}
 
 -- ---- addresses
 
 -- a whole number is added modulo 2^64 by adding its 64 bits
-pub word-sum : (base : ℕ) (z : ℤ) → word 64 (pos base +ℤ z) ≡ (base + word 64 z) % 2 ^ 64
+word-sum : (base : ℕ) (z : ℤ) → word 64 (pos base +ℤ z) ≡ (base + word 64 z) % 2 ^ 64
 word-sum base (pos n) = omega arith
 word-sum base (negsuc n) = go (ltb base (suc n)) refl
   where
@@ -40,6 +43,10 @@ pub address-sum : (base v imm : ℕ) → imm < 2 ^ 64 → word 64 (pos base +ℤ
 address-sum base v imm h =
     word-sum base (pos v +ℤ signed 64 imm)
     ∙ ap (λ (n : ℕ). (base + n) % 2 ^ 64) (word-sum v (signed 64 imm) ∙ ap (λ (n : ℕ). (v + n) % 2 ^ 64) (word-signed imm h))
+
+-- "Words with rs1 = x0 act as before", when the offset was the signed immediate (02, Job 1)
+pub offset-of-x0 : (x : List ℕ) (imm : ℕ) → reg x 0 ≡ 0 → offset x 0 imm ≡ signed 64 imm
+offset-of-x0 x imm e = ap (λ (n : ℕ). pos n +ℤ signed 64 imm) e ∙ +ℤ-idl (signed 64 imm)
 
 -- ---- bytes below the bound
 

@@ -41,7 +41,7 @@ returns-2 c =
     c .before .before .hstore .ensures (c .before .before .before .before .before .before .before .before .before .args .x .now) ∙ rw (
       ← c .before .before .before .before .before .before .before .inside .ensures,
       not-false (c .before .before .before .before .before .before .before .inside .result) (c .before .before .before .before .before .before .if1 .left),
-      c .before .before .before .before .register .ensures,
+      c .before .before .before .before .before .register .ensures,
       c .before .before .before .register2 .ensures,
     )
 
