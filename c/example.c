@@ -50,7 +50,7 @@ static void print(struct koubospar_run_stop r, const struct koubospar_machine *m
 /* document 01's whole example: c/exit.sheet */
 static const struct placed leaving[] = {
     {0x0, 0x00500513}, /* addi x10, x0, 5 */
-    {0x4, 0x00a001ab}, /* hsb x10 at 3 */
+    {0x4, 0x00a001ab}, /* hsb x10, 3(x0): the byte 3 of region 1 */
     {0x8, 0x0400005b}, /* hfiexit */
 };
 
@@ -59,9 +59,10 @@ static const struct placed calling[] = {
     {0x0, 0x00300293},  /* addi x5, x0, 3 */
     {0x4, 0x02800513},  /* addi x10, x0, 40 */
     {0x8, 0x00000073},  /* ecall */
-    {0xc, 0x00a001ab},  /* hsb x10 at 3 */
-    {0x10, 0x00300303}, /* lb x6, 3(x0): no implicit data region, so it is refused */
-    {0x14, 0x0400005b}, /* hfiexit */
+    {0xc, 0x00a2802b},  /* hsb x10, 0(x5): the byte 3 of region 1, as x5 says */
+    {0x10, 0x0030038b}, /* hlb x7, 3(x0): what was stored there */
+    {0x14, 0x00300303}, /* lb x6, 3(x0): no implicit data region, so it is refused */
+    {0x18, 0x0400005b}, /* hfiexit */
 };
 
 int main(void)

@@ -1,12 +1,12 @@
 /* libkoubospar.a and libkoubospar_codec.a: an RV64I machine with HFI, for a controller.
  *
- * `rt staticlib koubospar` and `rt staticlib koubospar_codec` build them in target/staticlib/; nothing of them is compiled
- * unless it is proved. The second has koubospar_decode and koubospar_encode, the first all else. Numbers and values are
- * those of the scope paper, "document 01". Every function takes every value of every field; what it refuses, it answers
- * with a number. What nothing checks is C's own: a machine is a valid, aligned and initialized record, `memory` is valid
- * for `length` bytes, the two do not overlap, and nobody else uses them during a call. The libraries have no state of
- * their own, so calls on different machines may be made at the same time. libkoubospar.a needs memcpy and memset from
- * whoever links it, libkoubospar_codec.a nothing.
+ * `rt staticlib koubospar` and `rt staticlib koubospar_codec` build them in target/staticlib/; nothing of them is
+ * compiled unless it is proved. The second has koubospar_decode and koubospar_encode, the first all else. Numbers and
+ * values are those of the scope paper, "document 01", with what "document 02" has changed. Every function takes every
+ * value of every field; what it refuses, it answers with a number. What nothing checks is C's own: a machine is a
+ * valid, aligned and initialized record, `memory` is valid for `length` bytes, the two do not overlap, and nobody else
+ * uses them during a call. The libraries have no state of their own, so calls on different machines may be made at the
+ * same time. libkoubospar.a needs memcpy and memset from whoever links it, libkoubospar_codec.a nothing.
  *
  * This header is written by hand. The proofs speak of the record by its fields' names, so they would not notice two
  * fields exchanged in it, and the library would be built all the same. `c/try` is this header's only guard: it asks the
@@ -31,7 +31,10 @@ extern "C" {
 /* ---- the machine ---------------------------------------------------------------------------------------------- */
 
 /* "permissions: bit 0 read, bit 1 write, bit 2 execute, bit 3 large". Region 1, explicit data, has bits 0, 1 and 3, and
- * a bound; region 2, implicit data, bits 0 and 1, and a mask; region 3, implicit code, bit 2, and a mask. */
+ * a bound; region 2, implicit data, bits 0 and 1, and a mask; region 3, implicit code, bit 2, and a mask. An h-load or
+ * h-store asks region 1 alone, at an offset of "the unsigned value of rs1 plus the signed immediate, as a whole number that
+ * does not wrap": in a region that keeps its rule and has the permission it reaches every byte from base on, below
+ * base + bound. */
 struct koubospar_region {
     uint64_t base;
     uint64_t bound;

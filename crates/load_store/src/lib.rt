@@ -3,12 +3,11 @@ ghost use mathlib.Core.Path.{_≡_};
 ghost use mathlib.Core.Bool.{true};
 ghost use mathlib.Core.List.{List};
 ghost use Prim.Native.Nat.{ℕ, _+_, _<_, _≤_};
-ghost use lib.IntN.{pos, _+ℤ_};
 ghost use lib.ListN.{length};
-ghost use Rattle.words.specs.Word.{signed, fitsSigned};
+ghost use Rattle.words.specs.Word.{fitsSigned};
 ghost use Rattle.model.specs.Machine.{machine};
 ghost use Rattle.model.specs.Regions.{read as readBit, write as writeBit};
-ghost use Rattle.model.specs.Access.{loadWidth, storeWidth, dataAccess, explicitAccess};
+ghost use Rattle.model.specs.Access.{loadWidth, storeWidth, dataAccess, explicitAccess, offset};
 ghost use Rattle.model.specs.Step.{load as loadOf, store as storeOf};
 ghost use Rattle.model.specs.declared.Verdict.the-variants.{Passed};
 ghost use Rattle.hart.specs.Effect.{effectWith};
@@ -76,7 +75,7 @@ pub fn load(
     finish_load(x, pc, hfi, mem, next, v, k, rd, a)
 }
 
-// An h-load at an offset of `operand` plus the signed `imm` into region 1.
+// An h-load; `operand` is the value of rs1.
 pub fn hload(
     x: &mut [u64; 32],
     pc: u64,
@@ -89,7 +88,7 @@ pub fn hload(
     imm: u64,
 ) -> Effect
     requires { ⌜ (rd < 32) × (fitsSigned 12 imm ≡ true) ⌝ }
-    ensures { λ r. ⌜ effectWith r (now (x .exit)) (now (mem .entry)) ≡ loadOf (machine (now (x .entry)) pc hfi) (now (mem .entry)) next (explicitAccess (hfi .regions) 1 readBit (pos operand +ℤ signed 64 imm) (loadWidth k)) k rd ⌝ }
+    ensures { λ r. ⌜ effectWith r (now (x .exit)) (now (mem .entry)) ≡ loadOf (machine (now (x .entry)) pc hfi) (now (mem .entry)) next (explicitAccess (hfi .regions) 1 readBit (offset operand imm) (loadWidth k)) k rd ⌝ }
 {
     let rs = hfi.regions;
     let v = check_explicit(
@@ -146,7 +145,7 @@ pub fn store(
     finish_store(pc, hfi, mem, next, v, k, value, a)
 }
 
-// An h-store of `value` at an offset of `operand` plus the signed `imm` into region 1.
+// An h-store of `value`; `operand` is the value of rs1.
 pub fn hstore(
     pc: u64,
     hfi: HfiState,
@@ -158,7 +157,7 @@ pub fn hstore(
     imm: u64,
 ) -> Effect
     requires { ⌜ fitsSigned 12 imm ≡ true ⌝ }
-    ensures { λ r. ⌜ ((x : List ℕ) → effectWith r x (now (mem .exit)) ≡ storeOf (machine x pc hfi) (now (mem .entry)) next (explicitAccess (hfi .regions) 1 writeBit (pos operand +ℤ signed 64 imm) (storeWidth k)) value) ⌝ }
+    ensures { λ r. ⌜ ((x : List ℕ) → effectWith r x (now (mem .exit)) ≡ storeOf (machine x pc hfi) (now (mem .entry)) next (explicitAccess (hfi .regions) 1 writeBit (offset operand imm) (storeWidth k)) value) ⌝ }
 {
     let rs = hfi.regions;
     let v = check_explicit(

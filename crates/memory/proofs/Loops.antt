@@ -9,11 +9,11 @@ use lib.Dec.{eqb, ltb}
 use lib.Bits.{bitAnd}
 use lib.IntN.{pos, _+ℤ_}
 use borrow.Author.Tests.{ne-eqb, lt-ltb, le-ltb}
-use Rattle.words.specs.Word.{signed, fitsSigned}
+use Rattle.words.specs.Word.{fitsSigned}
 use Rattle.model.specs.Machine.{region}
 use Rattle.model.specs.Regions.{permits, implicitRule, matches, firstMatch, granting, implicitGrants, below, explicitRule, explicitGrants}
 use Rattle.model.specs.Bytes.{byteOf}
-use Rattle.model.specs.Access.{Access, implicitAccess, firstRefused, verdict}
+use Rattle.model.specs.Access.{Access, implicitAccess, offset, firstRefused, verdict}
 use Rattle.model.specs.declared.Region.{Region}
 use Rattle.model.specs.declared.Verdict.{Verdict}
 use Rattle.model.specs.declared.Verdict.the-variants.{Refused}
@@ -33,15 +33,16 @@ implicit-asked mode r wanted a i p q e =
     rw (p, q, e) (implicit-once (eqb mode 0) (implicitRule r) (permits wanted r) (eqb (bitAnd (byteOf a i) (r .bound)) (r .base)))
 
 -- the test of the loop over an explicit region
-pub explicit-asked : (mode : ℕ) (r : Region) (wanted v imm i : ℕ) {rule permitted : Bool} {sum at : ℕ}
-    → rule ≡ explicitRule r → permitted ≡ permits wanted r → sum ≡ (v + imm) % 2 ^ 64 → at ≡ byteOf sum i → fitsSigned 12 imm ≡ true → i < 8
-    → (eqb mode 0 || (((rule && permitted) && ltb v (2 ^ 62)) && ltb at (r .bound)))
-    ≡ cond (eqb mode 0) true (explicitGrants r wanted (pos v +ℤ signed 64 imm) i)
+pub explicit-asked : (far mode : ℕ) (r : Region) (wanted v imm i : ℕ) {rule permitted : Bool} {sum at : ℕ}
+    → 2 ^ 48 + 2 ^ 11 ≤ far → far ≤ 2 ^ 62 → fitsSigned 12 imm ≡ true → i < 8
+    → rule ≡ explicitRule r → permitted ≡ permits wanted r → sum ≡ (v + imm) % 2 ^ 64 → at ≡ byteOf sum i
+    → (eqb mode 0 || (((rule && permitted) && ltb v far) && ltb at (r .bound)))
+    ≡ cond (eqb mode 0) true (explicitGrants r wanted (offset v imm) i)
 unfolding explicitGrants
-explicit-asked mode r wanted v imm i p q s e f l =
+explicit-asked far mode r wanted v imm i low high f l p q s e =
     rw (p, q, e, s)
-    (explicit-once (eqb mode 0) (explicitRule r) (permits wanted r) (ltb v (2 ^ 62)) (ltb (byteOf ((v + imm) % 2 ^ 64) i) (r .bound)) (below ((pos v +ℤ signed 64 imm) +ℤ pos i) (r .bound))
-    (λ t. sym (below-offset v imm i (r .bound) f (omega arith) (omega (arith, explicit-ends r t .1)))))
+    (explicit-once (eqb mode 0) (explicitRule r) (permits wanted r) (ltb v far) (ltb (byteOf ((v + imm) % 2 ^ 64) i) (r .bound)) (below (offset v imm +ℤ pos i) (r .bound))
+    (λ t. sym (below-offset far v imm i (r .bound) low high f (omega arith) (omega (arith, explicit-ends r t .1)))))
 
 -- over any list of implicit regions: the first, where it matches the byte, decides whether it is granted
 pub first-grants : (rs : List Region) (n : ℕ) (ns : List ℕ) (b a : ℕ) → 0 < n

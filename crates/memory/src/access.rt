@@ -3,10 +3,9 @@ ghost use mathlib.Core.Path.{_≡_};
 ghost use mathlib.Core.Bool.{true};
 ghost use mathlib.Core.List.{[], _∷_};
 ghost use Prim.Native.Nat.{_<_, _≤_};
-ghost use lib.IntN.{pos, _+ℤ_};
-ghost use Rattle.words.specs.Word.{signed, fitsSigned};
+ghost use Rattle.words.specs.Word.{fitsSigned};
 ghost use Rattle.model.specs.Machine.{lastRegion};
-ghost use Rattle.model.specs.Access.{fetchAccess, dataAccess, implicitAccess, explicitAccess, firstAbsent, verdict};
+ghost use Rattle.model.specs.Access.{fetchAccess, dataAccess, implicitAccess, explicitAccess, offset, firstAbsent, verdict};
 ghost use Rattle.memory.specs.Loops.{implicitRefused, explicitRefused, presenceOf, explicitFirst};
 use crate::region::explicit_rule;
 use crate::region::implicit_rule;
@@ -36,23 +35,23 @@ fn first_refused_implicit(mode: u64, r: Region, wanted: u64, a: u64, n: u64) -> 
     }
 }
 
-// An operand from here on lies past every bound, whatever the immediate. With one below, the sum is exact as a signed number
-// of 64 bits, and an offset before the region's start wraps far beyond any bound.
+// A bound that keeps its rule is at most 2^48, so a value of rs1 from here on lies past it, whatever the immediate. Of a value
+// below, the sum is the offset as a signed number of 64 bits, and one before the region's start wraps far beyond the bound.
 const FAR: u64 = 0x4000_0000_0000_0000;
 
-// The first byte that the explicit region does not grant, or `n`; the offset is `operand` plus the signed `imm`.
+// The first byte that the explicit region does not grant, or `n`; `operand` is the value of rs1.
 fn first_refused_explicit(mode: u64, r: Region, wanted: u64, operand: u64, imm: u64, n: u64) -> u64
     requires { ⌜ (wanted < 64) × (fitsSigned 12 imm ≡ true) × (n ≤ 8) ⌝ }
-    ensures { λ q. ⌜ q ≡ explicitRefused mode r wanted (pos operand +ℤ signed 64 imm) n ⌝ }
+    ensures { λ q. ⌜ q ≡ explicitRefused mode r wanted (offset operand imm) n ⌝ }
 {
     let ok = (explicit_rule(r) & permits(wanted, r)) & (operand < FAR);
-    let offset = std::num::wrapping_add_u64(operand, imm);
+    let sum = std::num::wrapping_add_u64(operand, imm);
     let mut i: u64 = 0;
     loop {
         if n <= i {
             break i;
         }
-        if !((mode == 0) | (ok & (std::num::wrapping_add_u64(offset, i) < r.bound))) {
+        if !((mode == 0) | (ok & (std::num::wrapping_add_u64(sum, i) < r.bound))) {
             break i;
         }
         i += 1;
@@ -134,10 +133,9 @@ pub fn check_data(
 
 // The address of the first byte of an h-load or h-store.
 pub fn explicit_address(rs: [Region; REGIONS], operand: u64, imm: u64) -> u64
-    ensures { λ q. ⌜ q ≡ explicitFirst rs (pos operand +ℤ signed 64 imm) ⌝ }
+    ensures { λ q. ⌜ q ≡ explicitFirst rs (offset operand imm) ⌝ }
 {
-    let offset = std::num::wrapping_add_u64(operand, imm);
-    std::num::wrapping_add_u64(rs[0].base, offset)
+    std::num::wrapping_add_u64(rs[0].base, std::num::wrapping_add_u64(operand, imm))
 }
 
 // Questions 10 and 11 of an h-load or h-store.
@@ -151,7 +149,7 @@ pub fn check_explicit(
     n: u64,
 ) -> Verdict
     requires { ⌜ (wanted < 64) × (fitsSigned 12 imm ≡ true) × (n ≤ 8) ⌝ }
-    ensures { λ q. ⌜ q ≡ verdict mode len (explicitAccess rs 1 wanted (pos operand +ℤ signed 64 imm) n) ⌝ }
+    ensures { λ q. ⌜ q ≡ verdict mode len (explicitAccess rs 1 wanted (offset operand imm) n) ⌝ }
 {
     let r = rs[0];
     let i = first_refused_explicit(mode, r, wanted, operand, imm, n);

@@ -339,8 +339,9 @@ offsets =
     ∷ faults (inside 0 ++ ((x 5, 1) ∷ [])) 0x0002b30b 1 0x18
     ∷ faults (inside 0 ++ ((x 5, 3) ∷ [])) 0xffb2b30b 1 0x0e
     ∷ faults (inside 0 ++ ((x 5, 3) ∷ [])) 0xfe62bdab 2 0x0e
-    -- "as a whole number that does not wrap"; the address does: hlb and hsb with 0 and with 1
+    -- "as a whole number that does not wrap"; the address does: hlb and hsb with 0 and with 1, and hlb from 2^63
     ∷ faults (inside 0 ++ ((x 5, 2 ^ 64 - 1) ∷ [])) hlb5 1 0x0f
+    ∷ faults (inside 0 ++ ((x 5, 2 ^ 64 - 1) ∷ [])) hsb5 2 0x0f
     ∷ faults (inside 0 ++ ((x 5, 2 ^ 64 - 1) ∷ [])) 0x0012830b 1 0x10
     ∷ faults (inside 0 ++ ((x 5, 2 ^ 64 - 1) ∷ [])) 0x006280ab 2 0x10
     ∷ faults (inside 0 ++ ((x 5, 2 ^ 63) ∷ [])) hlb5 1 (2 ^ 63 + 0x10)

@@ -11,7 +11,7 @@ use lib.Pow.{split, high, high-ones, shr-mod, pow-pos}
 use lib.Bits.{bitAnd, and-high, shifted-even, shifted-half}
 use lib.Count.{trailingZeros, trailing-of-zero}
 use lib.IntN.{ℤ, pos, _+ℤ_}
-use borrow.Author.Tests.{leb-true, le-leb, ltb-true, lt-ltb, eqb-true, eqb-false, eq-eqb, not-true}
+use borrow.Author.Tests.{leb-true, le-leb, lt-ltb, eqb-true, eqb-false, eq-eqb, not-true}
 use Rattle.words.specs.Word.{word}
 use Rattle.model.specs.Regions.{maskZeros, implicitRule, implicitRuleAt, large, permits, smallRule, largeRule, explicitRule, matches, below, explicitGrants}
 use Rattle.model.specs.Bytes.{byteOf}

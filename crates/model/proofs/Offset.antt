@@ -39,14 +39,14 @@ word-signed n h = go (ltb n (2 ^ 63)) refl
     go false t = omega arith
 
 -- so an h-word's address is two sums of words
-pub address-sum : (base v imm : ℕ) → imm < 2 ^ 64 → word 64 (pos base +ℤ (pos v +ℤ signed 64 imm)) ≡ (base + (v + imm) % 2 ^ 64) % 2 ^ 64
+pub address-sum : (base v imm : ℕ) → imm < 2 ^ 64 → word 64 (pos base +ℤ offset v imm) ≡ (base + (v + imm) % 2 ^ 64) % 2 ^ 64
 address-sum base v imm h =
-    word-sum base (pos v +ℤ signed 64 imm)
+    word-sum base (offset v imm)
     ∙ ap (λ (n : ℕ). (base + n) % 2 ^ 64) (word-sum v (signed 64 imm) ∙ ap (λ (n : ℕ). (v + n) % 2 ^ 64) (word-signed imm h))
 
 -- "Words with rs1 = x0 act as before", when the offset was the signed immediate (02, Job 1)
-pub offset-of-x0 : (x : List ℕ) (imm : ℕ) → reg x 0 ≡ 0 → offset x 0 imm ≡ signed 64 imm
-offset-of-x0 x imm e = ap (λ (n : ℕ). pos n +ℤ signed 64 imm) e ∙ +ℤ-idl (signed 64 imm)
+pub offset-of-x0 : (x : List ℕ) (imm : ℕ) → reg x 0 ≡ 0 → offset (reg x 0) imm ≡ signed 64 imm
+offset-of-x0 x imm e = ap (λ (n : ℕ). offset n imm) e ∙ +ℤ-idl (signed 64 imm)
 
 -- ---- bytes below the bound
 
@@ -89,7 +89,7 @@ below-word offset i bound h p q = go (ltb offset (2 ^ 63)) refl
     go true t = at-least (offset + i) ((offset + i) % 2 ^ 64) (omega (arith, ltb-true offset (2 ^ 63) t))
     go false t = back (ltb i (suc (2 ^ 64 - suc offset))) refl (ltb-false offset (2 ^ 63) t)
 
--- ---- a register and an immediate of 12 bits
+-- ---- the value of a register, and an immediate of 12 bits
 
 -- at most 2,047, or at least -2,048
 abbrev Immediate : ℕ → Type 0
@@ -109,8 +109,8 @@ immediate-range imm h = go (ltb (field imm 0 12) (2 ^ 11)) refl
         let e : field imm 0 12 + (2 ^ 64 - 2 ^ 12) ≡ imm = sym (sext-high-half 12 (field imm 0 12) (lit≤ tt) l u) ∙ eqb-true _ imm h in
         inr (subst (λ (n : ℕ). (2 ^ 64 - 2 ^ 11 ≤ n) × (n < 2 ^ 64)) e (omega arith, omega arith))
 
--- of a register below 2^62 the sum of the words stands for the offset
-near-sum : (v imm : ℕ) → v < 2 ^ 62 → Immediate imm → pos v +ℤ signed 64 imm ≡ signed 64 ((v + imm) % 2 ^ 64)
+-- of a value below 2^62 the sum of the words stands for the offset
+near-sum : (v imm : ℕ) → v < 2 ^ 62 → Immediate imm → offset v imm ≡ signed 64 ((v + imm) % 2 ^ 64)
 near-sum v imm h (inl l) =
     rw (lt-ltb imm (2 ^ 63) (omega arith), lt-ltb ((v + imm) % 2 ^ 64) (2 ^ 63) (omega arith)) (ap pos (omega arith))
 near-sum v imm h (inr (l, u)) = rw (le-ltb imm (2 ^ 63) (omega arith)) (go (ltb v (suc (2 ^ 64 - suc imm))) refl)
@@ -124,21 +124,21 @@ near-sum v imm h (inr (l, u)) = rw (le-ltb imm (2 ^ 63) (omega arith)) (go (ltb 
         let s = ltb-false v (suc (2 ^ 64 - suc imm)) t in
         rw (lt-ltb ((v + imm) % 2 ^ 64) (2 ^ 63) (omega arith)) (ap pos (omega arith))
 
--- and one of 2^62 or more lies past every bound
-far-outside : (v imm i bound : ℕ) → 2 ^ 62 ≤ v → Immediate imm → bound ≤ 2 ^ 48 → below ((pos v +ℤ signed 64 imm) +ℤ pos i) bound ≡ false
+-- and one of 2^48 + 2^11 or more lies past every bound that keeps its rule
+far-outside : (v imm i bound : ℕ) → 2 ^ 48 + 2 ^ 11 ≤ v → Immediate imm → bound ≤ 2 ^ 48 → below (offset v imm +ℤ pos i) bound ≡ false
 far-outside v imm i bound h (inl l) u =
     rw (lt-ltb imm (2 ^ 63) (omega arith), le-leb 0 (v + imm + i) (omega arith)) (le-ltb (v + imm + i) bound (omega arith))
 far-outside v imm i bound h (inr (l, m)) u =
     rw (le-ltb imm (2 ^ 63) (omega arith), le-ltb v (suc (2 ^ 64 - suc imm)) (omega arith), le-leb 0 (v - suc (2 ^ 64 - suc imm) + i) (omega arith))
     (le-ltb (v - suc (2 ^ 64 - suc imm) + i) bound (omega arith))
 
-pub below-offset : (v imm i bound : ℕ) → fitsSigned 12 imm ≡ true → i < 2 ^ 63 → bound ≤ 2 ^ 48
-    → below ((pos v +ℤ signed 64 imm) +ℤ pos i) bound ≡ (ltb v (2 ^ 62) && ltb (((v + imm) % 2 ^ 64 + i) % 2 ^ 64) bound)
-below-offset v imm i bound f l u = go (ltb v (2 ^ 62)) refl (immediate-range imm f)
+-- so with any limit between the two, values from it on are told apart, and below it the sum of the words is asked
+pub below-offset : (limit v imm i bound : ℕ) → 2 ^ 48 + 2 ^ 11 ≤ limit → limit ≤ 2 ^ 62 → fitsSigned 12 imm ≡ true → i < 2 ^ 63 → bound ≤ 2 ^ 48
+    → below (offset v imm +ℤ pos i) bound ≡ (ltb v limit && ltb (((v + imm) % 2 ^ 64 + i) % 2 ^ 64) bound)
+below-offset limit v imm i bound low high f l u = go (ltb v limit) refl (immediate-range imm f)
   where
-    go : (b : Bool) → ltb v (2 ^ 62) ≡ b → Immediate imm
-        → below ((pos v +ℤ signed 64 imm) +ℤ pos i) bound ≡ (b && ltb (((v + imm) % 2 ^ 64 + i) % 2 ^ 64) bound)
+    go : (b : Bool) → ltb v limit ≡ b → Immediate imm → below (offset v imm +ℤ pos i) bound ≡ (b && ltb (((v + imm) % 2 ^ 64 + i) % 2 ^ 64) bound)
     go true t r =
-        ap (λ z. below (z +ℤ pos i) bound) (near-sum v imm (ltb-true v (2 ^ 62) t) r)
+        ap (λ z. below (z +ℤ pos i) bound) (near-sum v imm (omega (arith, ltb-true v limit t)) r)
         ∙ below-word ((v + imm) % 2 ^ 64) i bound (omega arith) l (omega arith)
-    go false t r = far-outside v imm i bound (ltb-false v (2 ^ 62) t) r u
+    go false t r = far-outside v imm i bound (omega (arith, ltb-false v limit t)) r u

@@ -1,6 +1,6 @@
 -- The bytes that may be read, written or executed, as closed forms: each definition and its form hold of the same bytes.
 -- Assumes nothing.
-use mathlib.Core.Path.{_≡_, refl, sym, ap, _∙_}
+use mathlib.Core.Path.{_≡_, refl, sym}
 use mathlib.Core.Bool.{Bool, true, false, cond, not, _&&_}
 use mathlib.Core.List.{List, [], _∷_}
 use mathlib.Core.Logic.{_⊎_, inl, inr}
@@ -90,7 +90,7 @@ explicit-there rs p z n b h =
 
 -- a byte's distance from base is the value of a register, and the immediate is 0
 passes-explicit : (rs : List Region) (p b : ℕ) → InExplicit (region rs 1) p b
-    → Passes (explicitAccess rs 1 p (offset (through (b - region rs 1 .base)) 1 0) 1) b
+    → Passes (explicitAccess rs 1 p (offset (reg (through (b - region rs 1 .base)) 1) 0) 1) b
 passes-explicit rs p b h =
     let r = region rs 1 in
     let e = through-reg (b - r .base) in
@@ -126,7 +126,7 @@ encodes i h = decode-of-encode i (wordOf (encodeFields i)) (rw h refl)
 
 pub readable-form : (rs : List Region) (b : ℕ) → Readable rs b → InData rs read b
 readable-form rs b (Readable.byLoad w x k rd rs1 imm e h) = inl (granted-there rs dataRegions read _ _ b h)
-readable-form rs b (Readable.byHLoad w x k rd rs1 imm e h) = inr (explicit-there rs read (offset x rs1 imm) (loadWidth k) b h)
+readable-form rs b (Readable.byHLoad w x k rd rs1 imm e h) = inr (explicit-there rs read (offset (reg x rs1) imm) (loadWidth k) b h)
 
 pub form-readable : (rs : List Region) (b : ℕ) → InData rs read b → Readable rs b
 unfolding sext
@@ -137,7 +137,7 @@ form-readable rs b (inr h) = Readable.byHLoad _ (through (b - region rs 1 .base)
 
 pub writable-form : (rs : List Region) (b : ℕ) → Writable rs b → InData rs write b
 writable-form rs b (Writable.byStore w x k rs1 rs2 imm e h) = inl (granted-there rs dataRegions write _ _ b h)
-writable-form rs b (Writable.byHStore w x k rs1 rs2 imm e h) = inr (explicit-there rs write (offset x rs1 imm) (storeWidth k) b h)
+writable-form rs b (Writable.byHStore w x k rs1 rs2 imm e h) = inr (explicit-there rs write (offset (reg x rs1) imm) (storeWidth k) b h)
 
 pub form-writable : (rs : List Region) (b : ℕ) → InData rs write b → Writable rs b
 unfolding sext

@@ -37,7 +37,7 @@ start =
 abbrev pub guest : Machine
 guest = with start
 
--- hsb x10 at 1; hlb x11 at 0; hfiexit; a word that is none; and the granted bytes 4, 3, 2, 1
+-- hsb x10, 1(x0); hlb x11, 0(x0); hfiexit; a word that is none; and the granted bytes 4, 3, 2, 1
 abbrev common : List ℕ
 common = bytes (0x00a000ab ∷ 0x0000058b ∷ 0x0400005b ∷ 0 ∷ 0x01020304 ∷ [])
 

@@ -77,9 +77,9 @@ abbrev pub effectiveAddress : List ℕ → ℕ → ℕ → ℕ
 effectiveAddress x rs1 imm = sum (reg x rs1) imm
 
 -- "the offset of an h-prefixed word is the unsigned value of rs1 plus the signed immediate, as a whole number that does not
--- wrap" (02, Job 1)
-abbrev pub offset : List ℕ → ℕ → ℕ → ℤ
-offset x rs1 imm = pos (reg x rs1) +ℤ signed 64 imm
+-- wrap" (02, Job 1); v is the value of rs1
+abbrev pub offset : ℕ → ℕ → ℤ
+offset v imm = pos v +ℤ signed 64 imm
 
 abbrev pub loadAccess : List Region → List ℕ → LoadKind → ℕ → ℕ → Access
 loadAccess rs x k rs1 imm = dataAccess rs read (effectiveAddress x rs1 imm) (loadWidth k)
@@ -88,10 +88,10 @@ abbrev pub storeAccess : List Region → List ℕ → StoreKind → ℕ → ℕ 
 storeAccess rs x k rs1 imm = dataAccess rs write (effectiveAddress x rs1 imm) (storeWidth k)
 
 abbrev pub hloadAccess : List Region → List ℕ → LoadKind → ℕ → ℕ → Access
-hloadAccess rs x k rs1 imm = explicitAccess rs 1 read (offset x rs1 imm) (loadWidth k)
+hloadAccess rs x k rs1 imm = explicitAccess rs 1 read (offset (reg x rs1) imm) (loadWidth k)
 
 abbrev pub hstoreAccess : List Region → List ℕ → StoreKind → ℕ → ℕ → Access
-hstoreAccess rs x k rs1 imm = explicitAccess rs 1 write (offset x rs1 imm) (storeWidth k)
+hstoreAccess rs x k rs1 imm = explicitAccess rs 1 write (offset (reg x rs1) imm) (storeWidth k)
 
 -- ---- the questions
 

@@ -2,9 +2,8 @@ use mathlib.Core.Path.{_∙_}
 use lib.IntN.{pos, _+ℤ_}
 use lib.Dec.{lit<}
 use lib.ListN.{length}
-use Rattle.words.specs.Word.{signed}
 use Rattle.model.specs.Step.{load}
-use Rattle.model.specs.Access.{explicitAccess, loadWidth}
+use Rattle.model.specs.Access.{explicitAccess, offset, loadWidth}
 use Rattle.model.specs.Regions.{read}
 use Rattle.model.specs.Machine.{region}
 use Rattle.arithmetic.proofs.Word.{word-lt}
@@ -26,11 +25,11 @@ explicit-address-requires c κs = search needs
 finish-load-requires : tie.Need-finish-load-requires
 finish-load-requires c κs =
     let a = c .before .before .before .before .before .before .args in
-    let access = explicitAccess (a .hfi .regions) 1 read (pos (a .operand) +ℤ signed 64 (a .imm)) (loadWidth (a .k)) in (
+    let access = explicitAccess (a .hfi .regions) 1 read (offset (a .operand) (a .imm)) (loadWidth (a .k)) in (
       c .before .before .before .before .before .before .pre .0,
       rw (c .before .explicit-address .ensures)
           (passed-fits (a .hfi .mode) (length (a .mem .now)) access (load-is-width (a .k))
-          (word-lt 64 (pos (region (a .hfi .regions) 1 .base) +ℤ (pos (a .operand) +ℤ signed 64 (a .imm)))) (search needs)
+          (word-lt 64 (pos (region (a .hfi .regions) 1 .base) +ℤ offset (a .operand) (a .imm))) (search needs)
           (c .before .before .check-explicit .ensures ∙ rw (c .before .before .before .load-width .ensures))),
     )
 

@@ -2,9 +2,8 @@ use mathlib.Core.Path.{_∙_}
 use lib.IntN.{pos, _+ℤ_}
 use lib.Dec.{lit<}
 use lib.ListN.{length}
-use Rattle.words.specs.Word.{signed}
 use Rattle.model.specs.Step.{store}
-use Rattle.model.specs.Access.{explicitAccess, storeWidth}
+use Rattle.model.specs.Access.{explicitAccess, offset, storeWidth}
 use Rattle.model.specs.Regions.{write}
 use Rattle.model.specs.Machine.{region}
 use Rattle.arithmetic.proofs.Word.{word-lt}
@@ -26,10 +25,10 @@ explicit-address-requires c κs = search needs
 finish-store-requires : tie.Need-finish-store-requires
 finish-store-requires c κs =
     let a = c .before .before .before .before .before .before .args in
-    let access = explicitAccess (a .hfi .regions) 1 write (pos (a .operand) +ℤ signed 64 (a .imm)) (storeWidth (a .k)) in
+    let access = explicitAccess (a .hfi .regions) 1 write (offset (a .operand) (a .imm)) (storeWidth (a .k)) in
     rw (c .before .explicit-address .ensures)
     (passed-fits (a .hfi .mode) (length (a .mem .now)) access (store-is-width (a .k))
-    (word-lt 64 (pos (region (a .hfi .regions) 1 .base) +ℤ (pos (a .operand) +ℤ signed 64 (a .imm)))) (search needs)
+    (word-lt 64 (pos (region (a .hfi .regions) 1 .base) +ℤ offset (a .operand) (a .imm))) (search needs)
     (c .before .before .check-explicit .ensures ∙ rw (c .before .before .before .store-width .ensures)))
 
 same-length : tie.Need-same-length

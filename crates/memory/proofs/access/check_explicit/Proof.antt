@@ -1,7 +1,5 @@
 use mathlib.Core.Path.{refl, ap, _∙_}
-use lib.IntN.{pos, _+ℤ_}
-use Rattle.words.specs.Word.{signed}
-use Rattle.model.specs.Access.{explicitAccess, firstRefused}
+use Rattle.model.specs.Access.{explicitAccess, offset, firstRefused}
 use Rattle.model.specs.Bytes.{byteOf}
 use Rattle.memory.specs.Loops.{presenceOf}
 use Rattle.memory.proofs.Loops.{refused-verdict, granted-verdict}
@@ -27,7 +25,7 @@ returns c =
     let a = c .before .before .before .before .before .args in
     let refused = c .before .before .before .first-refused-explicit in
     let first = c .before .before .explicit-address in
-    refused-verdict (a .mode) (a .len) (explicitAccess (a .t2) 1 (a .wanted) (pos (a .operand) +ℤ signed 64 (a .imm)) (a .n))
+    refused-verdict (a .mode) (a .len) (explicitAccess (a .t2) 1 (a .wanted) (offset (a .operand) (a .imm)) (a .n))
     (refused .ensures) (c .before .if1 .taken) (c .wrapping-add-u64 .ensures ∙ ap (λ f. byteOf f (refused .result)) (first .ensures)) refl
 
 presence-requires : tie.Need-presence-requires
@@ -39,7 +37,7 @@ returns-2 c =
     let a = c .before .before .before .before .before .args in
     let refused = c .before .before .before .first-refused-explicit in
     let first = c .before .before .explicit-address in
-    granted-verdict (a .mode) (a .len) (explicitAccess (a .t2) 1 (a .wanted) (pos (a .operand) +ℤ signed 64 (a .imm)) (a .n))
+    granted-verdict (a .mode) (a .len) (explicitAccess (a .t2) 1 (a .wanted) (offset (a .operand) (a .imm)) (a .n))
     (refused .ensures) (c .before .if1 .left) (c .presence .ensures ∙ ap (λ f. presenceOf (a .len) f (a .n)) (first .ensures))
 
 pub check-explicit-spec : {M : Type 1} → statement M

@@ -6,11 +6,11 @@ use borrow.Author.Needs.{needs}
 use Rattle.memory.proofs.access.explicit_address.Statement.{statement}
 use Rattle.memory.proofs.access.explicit_address.Tie as tie
 
-wrapping-add-u64-requires : tie.Need-wrapping-add-u64-requires
-wrapping-add-u64-requires c κs = search needs
-
 element-copy-out-wrapping-add-u64 : tie.Need-element-copy-out-wrapping-add-u64
 element-copy-out-wrapping-add-u64 c = search needs
+
+wrapping-add-u64-requires : tie.Need-wrapping-add-u64-requires
+wrapping-add-u64-requires c κs = search needs
 
 wrapping-add-u64-requires-2 : tie.Need-wrapping-add-u64-requires-2
 wrapping-add-u64-requires-2 c κs = search needs
@@ -25,4 +25,4 @@ returns c =
 
 pub explicit-address-spec : {M : Type 1} → statement M
 explicit-address-spec =
-    tie.close (tie.spec wrapping-add-u64-requires element-copy-out-wrapping-add-u64 wrapping-add-u64-requires-2 returns)
+    tie.close (tie.spec element-copy-out-wrapping-add-u64 wrapping-add-u64-requires wrapping-add-u64-requires-2 returns)

@@ -1,26 +1,29 @@
 use mathlib.Core.Path.{_≡_, sym, _∙_}
 use mathlib.Core.Bool.{true, cond}
-use Prim.Native.Nat.{_-_, _<_}
+use Prim.Native.Nat.{ℕ, _-_, _^_, _<_}
 use borrow.Author.Needs.{needs}
 use borrow.Author.Tests.{not-true, not-false}
-use lib.Dec.{eqb}
-use lib.IntN.{pos, _+ℤ_}
-use Rattle.words.specs.Word.{signed, fitsSigned}
+use lib.Dec.{eqb, lit≤}
+use Rattle.words.specs.Word.{fitsSigned}
 use Rattle.model.specs.Regions.{explicitGrants}
-use Rattle.model.specs.Access.{scan}
+use Rattle.model.specs.Access.{offset, scan}
 use Rattle.model.proofs.Scan.{scan-start, scan-next, scan-here, scan-end}
 use Rattle.memory.specs.Loops.{explicitRefused}
 use Rattle.memory.proofs.Loops.{explicit-asked}
 use Rattle.memory.proofs.access.first_refused_explicit.Statement.{statement}
 use Rattle.memory.proofs.access.first_refused_explicit.Tie as tie
 
+-- the code's FAR
+abbrev far : ℕ
+far = 2 ^ 62
+
 abbrev Inv-loop : tie.InvT-loop
-Inv-loop mode r wanted operand imm n ok offset i₀ i =
-    scan (λ k. cond (eqb mode 0) true (explicitGrants r wanted (pos operand +ℤ signed 64 imm) k)) i (n - i)
-    ≡ explicitRefused mode r wanted (pos operand +ℤ signed 64 imm) n
+Inv-loop mode r wanted operand imm n ok sum i₀ i =
+    scan (λ k. cond (eqb mode 0) true (explicitGrants r wanted (offset operand imm) k)) i (n - i)
+    ≡ explicitRefused mode r wanted (offset operand imm) n
 
 abbrev μ-loop : tie.MeasureT-loop
-μ-loop mode r wanted operand imm n ok offset i₀ i = n - i
+μ-loop mode r wanted operand imm n ok sum i₀ i = n - i
 
 explicit-rule-requires : tie.Need-explicit-rule-requires Inv-loop μ-loop
 explicit-rule-requires c κs = search needs
@@ -53,7 +56,7 @@ loop-again c =
     let at = c .before .before .wrapping-add-u642 in
     let fits : fitsSigned 12 (args .imm) ≡ true = search needs in
     let short : loop .i < 8 = search needs in
-    let ok = explicit-asked (args .mode) (args .r) (args .wanted) (args .operand) (args .imm) (loop .i) (rule .ensures) (permitted .ensures) (sum .ensures) (at .ensures) fits short in
+    let ok = explicit-asked far (args .mode) (args .r) (args .wanted) (args .operand) (args .imm) (loop .i) (lit≤ tt) (lit≤ tt) fits short (rule .ensures) (permitted .ensures) (sum .ensures) (at .ensures) in
     sym (scan-next _ _ _ (c .before .before .before .if1 .left) (sym ok ∙ not-false _ (c .if2 .left))) ∙ loop .inv
 
 returns : tie.Need-returns Inv-loop μ-loop
@@ -69,7 +72,7 @@ returns-2 c =
     let at = c .before .before .wrapping-add-u642 in
     let fits : fitsSigned 12 (args .imm) ≡ true = search needs in
     let short : loop .i < 8 = search needs in
-    let ok = explicit-asked (args .mode) (args .r) (args .wanted) (args .operand) (args .imm) (loop .i) (rule .ensures) (permitted .ensures) (sum .ensures) (at .ensures) fits short in
+    let ok = explicit-asked far (args .mode) (args .r) (args .wanted) (args .operand) (args .imm) (loop .i) (lit≤ tt) (lit≤ tt) fits short (rule .ensures) (permitted .ensures) (sum .ensures) (at .ensures) in
     sym (scan-here _ _ _ (c .before .before .before .if1 .left) (sym ok ∙ not-true _ (c .if2 .taken))) ∙ loop .inv
 
 pub first-refused-explicit-spec : {M : Type 1} → statement M
