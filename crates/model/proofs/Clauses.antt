@@ -321,6 +321,19 @@ asking =
     ((5, 8) ∷ (6, 7) ∷ (7, 6) ∷ (8, 5) ∷ (9, 4) ∷ (10, 3) ∷ (11, 2) ∷ (12, 1) ∷ [])
     ∷ []
 
+-- an h-word of x6 at -5(x21), locked: region 1 has the nine bytes from 3 on, and the offset is 1
+abbrev reaching : List (ℕ × ℕ)
+reaching = inside 1 ++ ((base 1, 3) ∷ (bound 1, 9) ∷ (x 6, 0x0102030405060708) ∷ (x 21, 6) ∷ [])
+
+abbrev around : ℕ → List ℕ
+around w = bytes (w ∷ 0xf3e2d1c0 ∷ 0x8796a5b4 ∷ [])
+
+abbrev loads : ℕ → ℕ → Row
+loads w v = stepsOver reaching (around w) 0 0 ((pc, 4) ∷ (x 6, v) ∷ [])
+
+abbrev stores : ℕ → List (ℕ × ℕ) → Row
+stores w written = writes reaching (around w) ((pc, 4) ∷ []) written
+
 unfoldable pub offsets : List Row
 offsets =
     -- "the offset of an h-prefixed word is the unsigned value of rs1 plus the signed immediate" (02, Job 1): of the word's own
@@ -329,6 +342,21 @@ offsets =
     ∷ goes (inside 0 ++ ((base 1, 0) ∷ (x 5, 5) ∷ [])) 0xffb2830b ((x 6, 0xb) ∷ [])
     ∷ goes (inside 0 ++ ((base 1, 0) ∷ (x 5, 0x800) ∷ [])) 0x8002830b ((x 6, 0xb) ∷ [])
     ∷ writes (inside 0 ++ ((base 1, 0) ∷ operands 7 0xa5)) (bytes (hsb5 ∷ 0 ∷ [])) ((pc, 4) ∷ []) ((7, 0xa5) ∷ [])
+    -- so of every kind: hlb, hlh, hlw, hld, hlbu, hlhu, hlwu; hsb, hsh, hsw, hsd
+    ∷ loads 0xffba830b 0xffffffffffffffc0
+    ∷ loads 0xffba930b 0xffffffffffffd1c0
+    ∷ loads 0xffbaa30b 0xfffffffff3e2d1c0
+    ∷ loads 0xffbab30b 0x8796a5b4f3e2d1c0
+    ∷ loads 0xffbac30b 0xc0
+    ∷ loads 0xffbad30b 0xd1c0
+    ∷ loads 0xffbae30b 0xf3e2d1c0
+    ∷ stores 0xfe6a8dab ((4, 8) ∷ [])
+    ∷ stores 0xfe6a9dab ((4, 8) ∷ (5, 7) ∷ [])
+    ∷ stores 0xfe6aadab ((4, 8) ∷ (5, 7) ∷ (6, 6) ∷ (7, 5) ∷ [])
+    ∷ stores 0xfe6abdab ((4, 8) ∷ (5, 7) ∷ (6, 6) ∷ (7, 5) ∷ (8, 4) ∷ (9, 3) ∷ (10, 2) ∷ (11, 1) ∷ [])
+    -- rs1 is read before rd is written, and may be rs2: hlb x5, 0(x5) and hsb x5, 0(x5)
+    ∷ goes (inside 0 ++ ((base 1, 0) ∷ (x 5, 1) ∷ [])) 0x0002828b ((x 5, 0xffffffffffffff82) ∷ [])
+    ∷ writes (inside 0 ++ ((base 1, 0) ∷ (x 5, 6) ∷ [])) (bytes (0x0052802b ∷ 0 ∷ [])) ((pc, 4) ∷ []) ((6, 6) ∷ [])
     -- farther than any immediate: granted, and not in this memory
     ∷ stepsOver (inside 0 ++ ((base 1, 0) ∷ (bound 1, 0x1000) ∷ (x 5, 0xfff) ∷ [])) (bytes (hlb5 ∷ [])) 17 0xfff []
     ∷ stepsOver (inside 0 ++ ((base 1, 0) ∷ (bound 1, 0x1000) ∷ (x 5, 0xfff) ∷ [])) (bytes (hsb5 ∷ [])) 17 0xfff []
@@ -339,15 +367,19 @@ offsets =
     ∷ faults (inside 0 ++ ((x 5, 1) ∷ [])) 0x0002b30b 1 0x18
     ∷ faults (inside 0 ++ ((x 5, 3) ∷ [])) 0xffb2b30b 1 0x0e
     ∷ faults (inside 0 ++ ((x 5, 3) ∷ [])) 0xfe62bdab 2 0x0e
-    -- "as a whole number that does not wrap"; the address does: hlb and hsb with 0 and with 1, and hlb from 2^63
+    -- "as a whole number that does not wrap"; the address does: hlb and hsb with 0 and with 1, and from 2^63
     ∷ faults (inside 0 ++ ((x 5, 2 ^ 64 - 1) ∷ [])) hlb5 1 0x0f
     ∷ faults (inside 0 ++ ((x 5, 2 ^ 64 - 1) ∷ [])) hsb5 2 0x0f
     ∷ faults (inside 0 ++ ((x 5, 2 ^ 64 - 1) ∷ [])) 0x0012830b 1 0x10
     ∷ faults (inside 0 ++ ((x 5, 2 ^ 64 - 1) ∷ [])) 0x006280ab 2 0x10
     ∷ faults (inside 0 ++ ((x 5, 2 ^ 63) ∷ [])) hlb5 1 (2 ^ 63 + 0x10)
-    -- the largest region there is
+    ∷ faults (inside 0 ++ ((x 5, 2 ^ 63) ∷ [])) hsb5 2 (2 ^ 63 + 0x10)
+    -- the largest region there is, of which the sum is asked and not rs1 alone: hlb and hsb with 0 and with -2048
     ∷ stepsOver (inside 0 ++ ((base 1, 0) ∷ (bound 1, 2 ^ 48) ∷ (permission 1, 9) ∷ (x 5, 2 ^ 48 - 1) ∷ [])) (bytes (hlb5 ∷ [])) 17 (2 ^ 48 - 1) []
+    ∷ stepsOver (inside 0 ++ ((base 1, 0) ∷ (bound 1, 2 ^ 48) ∷ (permission 1, 9) ∷ (x 5, 2 ^ 48 + 2047) ∷ [])) (bytes (0x8002830b ∷ [])) 17 (2 ^ 48 - 1) []
+    ∷ stepsOver (inside 0 ++ ((base 1, 0) ∷ (bound 1, 2 ^ 48) ∷ (permission 1, 10) ∷ (x 5, 2 ^ 48 + 2047) ∷ [])) (bytes (0x8062802b ∷ [])) 17 (2 ^ 48 - 1) []
     ∷ faults (inside 0 ++ ((base 1, 0) ∷ (bound 1, 2 ^ 48) ∷ (permission 1, 9) ∷ (x 5, 2 ^ 48) ∷ [])) hlb5 1 (2 ^ 48)
+    ∷ faults (inside 0 ++ ((base 1, 0) ∷ (bound 1, 2 ^ 48) ∷ (permission 1, 10) ∷ (x 5, 2 ^ 48 + 2048) ∷ [])) 0x8062802b 2 (2 ^ 48)
     ∷ []
 
 unfoldable pub absent : List Row

@@ -1,17 +1,17 @@
 -- Demand 3 is not empty: a locked machine, two different memories that agree on what it may read or execute, and what its
--- runs over them do, computed. The guest stores a byte, loads one and leaves.
+-- runs over them do, computed. The guest stores a byte, loads one and leaves. And what h-words reach, in plain numbers.
 -- Assumes nothing.
 use mathlib.Core.Path.{_≡_, refl, ap, sym, _∙_}
 use mathlib.Core.Bool.{true, false≢true}
 use mathlib.Core.List.{List, [], _∷_, _++_}
 use mathlib.Core.Logic.{inl, inr}
-use Prim.Native.Nat.{ℕ, _<_}
+use Prim.Native.Nat.{ℕ, _<_, _≤_}
 use native.Mathlib.Omega.{arith}
 use lib.Count.{trailingZeros}
 use lib.ListN.{getD, List·getD-append}
 use Rattle.words.specs.Word.{sext}
 use Rattle.instructions.specs.Decode.{decodeWord}
-use Rattle.model.specs.Machine.{region}
+use Rattle.model.specs.Machine.{bit, region}
 use Rattle.model.specs.Bytes.{value, written}
 use Rattle.model.specs.Outcome.{allowed, settle}
 use Rattle.model.specs.WellFormed.{stateFits, wellFormed}
@@ -20,11 +20,13 @@ use Rattle.model.specs.Regions.{read, execute, dataRegions, codeRegions,
 use Rattle.model.specs.Access.{scan, firstRefused, firstAbsent, verdict}
 use Rattle.model.specs.Step.{load, store, perform, executeWord, step}
 use Rattle.model.specs.Run.{runBy, runCall}
+use Rattle.model.specs.Reach.{Readable, Writable}
 use Rattle.model.specs.Isolation.{Locked, Agree}
+use Rattle.model.specs.declared.Region.{Region}
 use Rattle.model.specs.declared.Machine.{Machine}
 use Rattle.model.proofs.Intervals.{zero-matches-none, matches-inside}
-use Rattle.model.proofs.Reach.{InData, InImplicit, readable-form, executable-form, granted-by}
-use Rattle.model.proofs.Rows.{Row, Answer, found, stated, x, pc, mode, reason, epc, options, base, bound, permission, puts, with, bytes}
+use Rattle.model.proofs.Reach.{InData, InImplicit, readable-form, form-readable, writable-form, form-writable, executable-form, granted-by}
+use Rattle.model.proofs.Rows.{Row, Answer, found, stated, x, pc, mode, reason, epc, options, base, bound, permission, puts, regionOf, with, bytes}
 use Rattle.model.proofs.Rows.Question.{running}
 use Rattle.model.proofs.Rows.Answer.{gave}
 
@@ -97,3 +99,30 @@ rows = (running guest one 9, answer one) ∷ (running guest two 9, answer two) �
 pub runs-done : found rows ≡ stated rows
 unfolding trailingZeros sext decodeWord matches explicitRule firstMatch implicitGrants explicitGrants scan firstRefused firstAbsent verdict value written allowed settle stateFits wellFormed hfiStop hWordStop hfiPerform load store perform executeWord step runBy runCall
 runs-done = refl
+
+-- ---- what h-words reach, of a region of 2^24 bytes from 10000 on and no other: with the permission all of it, and nothing else
+
+abbrev alone : ℕ → List Region
+alone p = regionOf 0x10000 0x1000000 p ∷ regionOf 0 0 0 ∷ regionOf 0 0 0 ∷ []
+
+abbrev Reached : ℕ → ℕ → ℕ → Type 0
+Reached wanted p b = (bit wanted p ≡ true) × (0x10000 ≤ b) × (b < 0x1010000)
+
+only-explicit : (wanted p b : ℕ) → InData (alone p) wanted b → Reached wanted p b
+only-explicit wanted p b (inl i) =
+    granted-by (alone p) dataRegions wanted b _ ((λ t e. absurd (false≢true (sym (zero-matches-none (regionOf 0 0 0) b refl) ∙ t))), tt) (i .granted)
+only-explicit wanted p b (inr i) = (i .permitted, i .start, i .end)
+
+pub alone-read : (p b : ℕ) → Readable (alone p) b → Reached 0 p b
+alone-read p b h = only-explicit 0 p b (readable-form (alone p) b h)
+
+pub alone-written : (p b : ℕ) → Writable (alone p) b → Reached 1 p b
+alone-written p b h = only-explicit 1 p b (writable-form (alone p) b h)
+
+pub read-alone : (b : ℕ) → 0x10000 ≤ b → b < 0x1010000 → Readable (alone 1) b
+unfolding explicitRule
+read-alone b l u = form-readable (alone 1) b (inr (record { rule = refl; permitted = refl; start = l; end = u }))
+
+pub written-alone : (b : ℕ) → 0x10000 ≤ b → b < 0x1010000 → Writable (alone 2) b
+unfolding explicitRule
+written-alone b l u = form-writable (alone 2) b (inr (record { rule = refl; permitted = refl; start = l; end = u }))
