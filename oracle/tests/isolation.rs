@@ -1,7 +1,7 @@
 //! Readable, writable and executable bytes against their definition, and the
 //! isolation experiment on the oracle and on engines that leak.
 
-use oracle::compare::{isolation, rounds, Counts, Engine, Oracle};
+use oracle::compare::{h_words_unmet, isolation, rounds, Counts, Engine, Oracle, H_ROUNDS};
 use oracle::instruction::{Instruction, LOAD_TABLE, STORE_TABLE};
 use oracle::reach::{executable, readable, writable};
 use oracle::region::{address, refusal, Access, Op, Place};
@@ -117,6 +117,40 @@ fn holds_of_the_oracle() {
     rounds(&Oracle, &Oracle, 77, 40, &mut counts);
     assert!(counts.differences.is_empty(), "{:?}", counts.differences);
     assert!(counts.isolation_steps > 1000 && counts.isolation_differing > 50);
+}
+
+/// The fewest rounds that ask for it meet every class of h-words, whatever the seed.
+#[test]
+fn every_class_of_h_words_is_met() {
+    for seed in 0..10 {
+        let mut counts = Counts::default();
+        rounds(&Oracle, &Oracle, 100 + seed, H_ROUNDS, &mut counts);
+        assert_eq!(h_words_unmet(&counts), Vec::<String>::new());
+    }
+    // Each is asked for: 18 of all eleven words, 2 that a byte cannot have of eight.
+    assert_eq!(h_words_unmet(&Counts::default()).len(), 18 * 11 + 2 * 8);
+}
+
+/// Runs of the isolation experiment complete h-words past what an immediate reaches.
+#[test]
+fn worlds_reach_far() {
+    let mut supply = Supply::new(12);
+    let (mut loads, mut stores) = (0, 0);
+    for _ in 0..200 {
+        let (mut machine, mut memory) = supply.steady_world();
+        for _ in 0..100 {
+            let before = machine;
+            let word = memory.get(machine.pc as usize..machine.pc as usize + 4).map_or(0, |b| u32::from_le_bytes(b.try_into().unwrap()));
+            if oracle::step(&mut machine, &mut memory).0 != 0 {
+                break;
+            }
+            let access = oracle::decode(word).and_then(|word| data_access(&before, &word));
+            if let Some(Access { op, place: Place::Explicit { offset: 2055.., .. }, .. }) = access {
+                *(if op == Op::Load { &mut loads } else { &mut stores }) += 1;
+            }
+        }
+    }
+    assert!(loads > 50 && stores > 50, "{loads} loads, {stores} stores");
 }
 
 /// The oracle with one more effect after each run.
