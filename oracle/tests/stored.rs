@@ -67,7 +67,7 @@ fn calls() {
     let (data, printed) = oracle::calls::stored();
     assert_eq!(data, text("crates/calls/data/calls"));
     assert_eq!(printed, text("crates/calls/stdout"));
-    assert!(oracle::calls::directed().len() >= 548);
+    assert!(oracle::calls::directed().len() >= 774);
 }
 
 #[test]
