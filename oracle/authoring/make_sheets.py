@@ -577,7 +577,7 @@ SUM = ("02, Job 1: the offset of an h-prefixed word is the unsigned value of rs1
 PASS = "02, Job 1: byte i passes when offset + i is at least 0 and below the bound"
 KEPT = "02, Job 1: With rule and permission as before"
 PATH = "02, Job 1: each load and store path takes the wider offset"
-CURVE = (0x2000, 0x1000, 3)      # 4,096 bytes, 2000 to 2fff
+FOUR_KIB = (0x2000, 0x1000, 3)      # 4,096 bytes, 2000 to 2fff
 WHOLE = (0, 1 << 48, 0xb)
 END_LINES = "2ff8,89abcdef\n2ffc,81234567\n"
 
@@ -597,18 +597,18 @@ sheet("h-load-rs1-adds", program(addi(7, 0, 0x700), hload(LBU, 10, 7, 0x200), EC
 sheet("h-store-rs1-adds", program(addi(7, 0, 0x700), addi(6, 0, 0x5a), hstore(SB, 6, 7, 0x200), lui(5, 2), addi(5, 5, 0x700), load(LBU, 11, 5, 0x200),
       ECALL, r1=(0x2000, 0x1000, 2), r2=(0x2000, mask(12), 1)), "18,6,18,0,0,0,0,0,0", "the same stored, seen by an ordinary load", SUM)
 for name, f3, size in [("byte", 0, 1), ("half", 1, 2), ("word", 2, 4), ("double", 3, 8)]:
-    sheet("h-load-rs1-last-" + name, program(lui(7, 1), hload(f3, 10, 7, -size), ECALL, r1=CURVE, more=END_LINES), "18,2,8,0,0,0,0,0,0",
+    sheet("h-load-rs1-last-" + name, program(lui(7, 1), hload(f3, 10, 7, -size), ECALL, r1=FOUR_KIB, more=END_LINES), "18,2,8,0,0,0,0,0,0",
           "the last %s of 4,096 bytes" % name, PASS)
-    sheet("h-store-rs1-last-" + name, program(lui(7, 1), addi(6, 0, -1), hstore(f3, 6, 7, -size), hload(LD, 10, 7, -8), ECALL, r1=CURVE),
+    sheet("h-store-rs1-last-" + name, program(lui(7, 1), addi(6, 0, -1), hstore(f3, 6, 7, -size), hload(LD, 10, 7, -8), ECALL, r1=FOUR_KIB),
           "18,4,10,0,0,0,0,0,0", "the last %s of 4,096 bytes, read back" % name, PASS)
-    both("rs1-%s-beyond" % name, [lui(7, 1)], f3, 1 - size, CURVE, "16,1,4,0,0,1,1,OP,3000", "one byte further", PASS)
+    both("rs1-%s-beyond" % name, [lui(7, 1)], f3, 1 - size, FOUR_KIB, "16,1,4,0,0,1,1,OP,3000", "one byte further", PASS)
 sheet("h-load-rs1-past-4-kib", program(lui(7, 2), hload(LD, 10, 7, 0x100), ECALL, r1=(0x2000, 0x3000, 1), more="4100,89abcdef\n4104,81234567\n"),
       "18,2,8,0,0,0,0,0,0", "offset 2100 of 12,288 bytes", SUM)
 sheet("h-store-rs1-past-4-kib", program(lui(7, 2), addi(6, 0, -2), hstore(SW, 6, 7, 0x100), hload(LD, 10, 7, 0xfe), ECALL, r1=(0x2000, 0x3000, 3)),
       "18,4,10,0,0,0,0,0,0", "the same stored, read back from two bytes before", SUM)
 sheet("h-load-rs1-walk", program(lui(5, 1), hload(LD, 6, 7, 0), R(0x33, 0, 0, 10, 10, 6), addi(7, 7, 8), B(1, 7, 5, -12), hload(LD, 6, 7, 0),
-      r1=CURVE, more="2000,00000001\n2ffc,00000002\n", budget=0x1000), "16,801,14,0,0,1,1,1,3000", "512 doublewords added up, then one too many", PATH)
-sheet("h-store-rs1-walk", program(lui(5, 1), hstore(SD, 7, 7, 0), addi(7, 7, 8), B(1, 7, 5, -8), hstore(SD, 7, 7, 0), r1=CURVE, budget=0x1000),
+      r1=FOUR_KIB, more="2000,00000001\n2ffc,00000002\n", budget=0x1000), "16,801,14,0,0,1,1,1,3000", "512 doublewords added up, then one too many", PATH)
+sheet("h-store-rs1-walk", program(lui(5, 1), hstore(SD, 7, 7, 0), addi(7, 7, 8), B(1, 7, 5, -8), hstore(SD, 7, 7, 0), r1=FOUR_KIB, budget=0x1000),
       "16,601,10,0,0,1,1,2,3000", "512 doublewords stored, then one too many", PATH)
 sheet("h-load-rs1-large-last-double", program(lui(7, 0x10), hload(LD, 10, 7, -8), ECALL, r1=(0, 0x10000, 9), more="fff8,89abcdef\nfffc,81234567\n"),
       "18,2,8,0,0,0,0,0,0", "the last double of a large region", PASS)

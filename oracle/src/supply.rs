@@ -407,7 +407,7 @@ impl Supply {
 
     /// A machine in HFI mode about to make an h-word, the n-th of the loads
     /// and stores, that is aimed so, through a region that grants it if its
-    /// offset is good. Half of them name one register twice.
+    /// offset is good. Half of them, and each `Back`, name one register twice.
     pub fn aimed_h_word(&mut self, aim: Aim, n: usize, memory: &mut [u8]) -> Machine {
         let mut machine = loop {
             let machine = self.machine(memory.len());
@@ -419,7 +419,7 @@ impl Supply {
         machine.pc = self.below(memory.len() as u64 / 4) * 4;
         machine.regions[2] = Region { base: 0, bound: ALL << 16, permission: 4 };
         let rs1 = if aim == Aim::X0 { 0 } else { 1 + self.below(31) };
-        let other = if self.once_in(2) { rs1 } else { self.register() };
+        let other = if aim == Aim::Back || self.once_in(2) { rs1 } else { self.register() };
         let (size, wanted) = match n {
             0..=6 => (load_size(LOAD_TABLE[n].0), 1),
             _ => (store_size(STORE_TABLE[n - 7].0), 2),

@@ -122,21 +122,21 @@ const BASE: u64 = 0x2000;
 const BOUND: u64 = 0x1800;
 
 /// 6,144 bytes from 2000 on, all in memory.
-fn curve() -> World {
+fn six_kib() -> World {
     World { region: Region { base: BASE, bound: BOUND, permission: 3 }, length: 0x4000 }
 }
 
 #[test]
 fn rs1_adds() {
     for (rs1, immediate) in [(0, 0), (0, 2047), (1, 0), (1, 2047), (2047, 0), (2048, 0), (2054, 0), (2055, 0), (4096, 0), (4096, 1000), (6000, 100)] {
-        curve().all(rs1, immediate, |_| At(BASE + rs1 + immediate as u64));
+        six_kib().all(rs1, immediate, |_| At(BASE + rs1 + immediate as u64));
     }
 }
 
 #[test]
 fn the_immediate_is_signed() {
     for (rs1, immediate, offset) in [(5, -5, 0), (2048, -2048, 0), (2049, -2048, 1), (1, -1, 0), (4000, -1, 3999), (6136, -2048, 4088), (7000, -1000, 6000)] {
-        curve().all(rs1, immediate, |_| At(BASE + offset));
+        six_kib().all(rs1, immediate, |_| At(BASE + offset));
     }
 }
 
@@ -147,17 +147,17 @@ fn at_the_bound() {
         let rs1 = |offset: u64| offset.wrapping_add_signed(-immediate);
         for (kind, _) in LOAD_TABLE {
             let last = BOUND - load_size(kind);
-            curve().load(kind, rs1(last), immediate, At(BASE + last));
-            curve().load(kind, rs1(last + 1), immediate, Refused(BASE + BOUND));
+            six_kib().load(kind, rs1(last), immediate, At(BASE + last));
+            six_kib().load(kind, rs1(last + 1), immediate, Refused(BASE + BOUND));
         }
         for (kind, _) in STORE_TABLE {
             let last = BOUND - store_size(kind);
-            curve().store(kind, rs1(last), immediate, At(BASE + last));
-            curve().store(kind, rs1(last + 1), immediate, Refused(BASE + BOUND));
+            six_kib().store(kind, rs1(last), immediate, At(BASE + last));
+            six_kib().store(kind, rs1(last + 1), immediate, Refused(BASE + BOUND));
         }
-        curve().all(rs1(BOUND - 1), immediate, |size| if size == 1 { At(BASE + BOUND - 1) } else { Refused(BASE + BOUND) });
-        curve().all(rs1(BOUND), immediate, |_| Refused(BASE + BOUND));
-        curve().all(rs1(BOUND + 1), immediate, |_| Refused(BASE + BOUND + 1));
+        six_kib().all(rs1(BOUND - 1), immediate, |size| if size == 1 { At(BASE + BOUND - 1) } else { Refused(BASE + BOUND) });
+        six_kib().all(rs1(BOUND), immediate, |_| Refused(BASE + BOUND));
+        six_kib().all(rs1(BOUND + 1), immediate, |_| Refused(BASE + BOUND + 1));
     }
 }
 
@@ -166,10 +166,10 @@ fn at_the_bound() {
 fn below_the_region() {
     for back in 1..=8 {
         for rs1 in [0, 1, 3, 100, 2040] {
-            curve().all(rs1, -(rs1 as i64) - back, |_| Refused(BASE - back as u64));
+            six_kib().all(rs1, -(rs1 as i64) - back, |_| Refused(BASE - back as u64));
         }
     }
-    curve().all(3, -5, |_| Refused(BASE - 2));
+    six_kib().all(3, -5, |_| Refused(BASE - 2));
     // with base 0 the address wraps
     let low = World { region: Region { base: 0, bound: 64, permission: 3 }, length: 0x4000 };
     low.all(3, -5, |_| Refused(ALL - 1));
@@ -181,7 +181,7 @@ fn rs1_is_unsigned_and_whole() {
     for rs1 in [1 << 32, (1 << 32) + 8, 1 << 48, (1 << 48) + 8, (1 << 62) - 1, 1 << 62, (1 << 62) + 8, (1 << 63) - 1, 1 << 63, (1 << 63) + 8, ALL] {
         for immediate in [0, -1, 1, -2048] {
             let address = BASE.wrapping_add(rs1).wrapping_add_signed(immediate);
-            curve().all(rs1, immediate, |_| Refused(address));
+            six_kib().all(rs1, immediate, |_| Refused(address));
         }
     }
 }
@@ -190,14 +190,14 @@ fn rs1_is_unsigned_and_whole() {
 /// bound, while the address is taken modulo 2^64 (READINGS, A50).
 #[test]
 fn the_sum_does_not_wrap() {
-    curve().all(ALL, 1, |_| Refused(BASE));
-    curve().all(ALL, 2047, |_| Refused(BASE + 2046));
-    curve().all(ALL - 7, 8, |_| Refused(BASE));
-    curve().all(ALL - 7, 7, |_| Refused(BASE - 1));
-    curve().all(ALL - 1000, 1500, |_| Refused(BASE + 499));
-    curve().all(ALL - 2046, 2047, |_| Refused(BASE));
+    six_kib().all(ALL, 1, |_| Refused(BASE));
+    six_kib().all(ALL, 2047, |_| Refused(BASE + 2046));
+    six_kib().all(ALL - 7, 8, |_| Refused(BASE));
+    six_kib().all(ALL - 7, 7, |_| Refused(BASE - 1));
+    six_kib().all(ALL - 1000, 1500, |_| Refused(BASE + 499));
+    six_kib().all(ALL - 2046, 2047, |_| Refused(BASE));
     // a doubleword from 2^64 - 4 on would have its last bytes at 0 to 3
-    curve().all(ALL - 3, 0, |_| Refused(BASE - 4));
+    six_kib().all(ALL - 3, 0, |_| Refused(BASE - 4));
     // nor in a region of 2^48 bytes at 0
     whole().all(ALL, 1, |_| Refused(0));
     whole().all(ALL, 0, |_| Refused(ALL));
@@ -234,7 +234,7 @@ fn a_region_mostly_absent() {
 /// "With rule and permission as before".
 #[test]
 fn rule_and_permission_come_first() {
-    let mut world = curve();
+    let mut world = six_kib();
     world.region.permission = 2;
     for (kind, _) in LOAD_TABLE {
         world.load(kind, 3000, 5, Refused(BASE + 3005));
@@ -262,12 +262,12 @@ fn rule_and_permission_come_first() {
 #[test]
 fn x0_adds_nothing() {
     for (immediate, then) in [(0, At(BASE)), (2047, At(BASE + 2047)), (-1, Refused(BASE - 1)), (-2048, Refused(BASE - 2048))] {
-        let mut machine = curve().machine(0);
+        let mut machine = six_kib().machine(0);
         (1..32).for_each(|n| machine.x[n] = ALL);
         let word = hload(LoadKind::Double, 6, 0, immediate);
         match then {
-            At(start) => assert_eq!(completes(machine, &curve().memory(word)).0.x[6], value_of(LoadKind::Double, start)),
-            Refused(address) => faults(machine, &curve().memory(word), 16, 1, 1, address),
+            At(start) => assert_eq!(completes(machine, &six_kib().memory(word)).0.x[6], value_of(LoadKind::Double, start)),
+            Refused(address) => faults(machine, &six_kib().memory(word), 16, 1, 1, address),
             Absent(_) => unreachable!(),
         }
     }
