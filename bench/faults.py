@@ -1,6 +1,7 @@
 #!/usr/bin/env python3
 """Plants faults in the plain interpreter, one at a time, and sees whether the
 comparison with the oracle notices each. Answers 1 if one goes unnoticed.
+faults.py [ROUNDS [START]]: only those whose name begins so.
 
 Needs oracle/ built (cargo build --release --offline)."""
 import os
@@ -17,8 +18,8 @@ FAULTS = [
     ("only the first byte is checked", "&& ((a + n - 1) & r->bound) == r->base)", ")"),
     ("jalr takes the new value", "v = next;\n        next = target;\n        goto write_rd;\n    }\n    case 0x63",
      "v = next;\n        if (rd && rd == rs1) target = (next + (uint64_t)i_value) & ~(uint64_t)3;\n        next = target;\n        goto write_rd;\n    }\n    case 0x63"),
-    ("an h-load asks region 2", "if (!explicit_grant(m, i_value, n, READ, OP_LOAD, &a))\n                STOP(16);",
-     "if (!explicit_grant(m, i_value, n, READ, OP_LOAD, &a) || !implicit_grant(m, 2, a, n, READ, OP_LOAD))\n                STOP(16);"),
+    ("an h-load asks region 2", "if (!explicit_grant(m, x[rs1], i_value, n, READ, OP_LOAD, &a))\n                STOP(16);",
+     "if (!explicit_grant(m, x[rs1], i_value, n, READ, OP_LOAD, &a) || !implicit_grant(m, 2, a, n, READ, OP_LOAD))\n                STOP(16);"),
     # what the published vectors do not notice
     ("jalr keeps bit 0", "(x[rs1] + (uint64_t)i_value) & ~(uint64_t)1;", "(x[rs1] + (uint64_t)i_value);"),
     ("srliw without sign extension", "v = word_value((uint32_t)x[rs1] >> rs2);", "v = (uint32_t)x[rs1] >> rs2;"),
@@ -44,10 +45,8 @@ FAULTS = [
     ("large bound of any length", "return ((base | bound) & 65535) == 0;", "return (base & 65535) == 0;"),
     ("large base anywhere", "return ((base | bound) & 65535) == 0;", "return (bound & 65535) == 0;"),
     # (nor does dropping the test of bound 0: no offset is below it)
-    ("negative offsets pass", "if (good && offset >= 0 && ", "if (good && "),
-    ("h-store asks for read", "explicit_grant(m, s_value, n, WRITE, OP_STORE, &a)", "explicit_grant(m, s_value, n, READ, OP_STORE, &a)"),
+    ("h-store asks for read", "explicit_grant(m, x[rs1], s_value, n, WRITE, OP_STORE, &a)", "explicit_grant(m, x[rs1], s_value, n, READ, OP_STORE, &a)"),
     ("store asks for read", "implicit_grant(m, 2, a, n, WRITE, OP_STORE)", "implicit_grant(m, 2, a, n, READ, OP_STORE)"),
-    ("h-words add rs1", "explicit_grant(m, i_value, n,", "explicit_grant(m, i_value + (int64_t)x[rs1], n,"),
     ("fault address is the start", "m->fault = (struct fault){1, region, op, a + i};", "m->fault = (struct fault){1, region, op, a};"),
     ("h-fault address is the start", "m->fault = (struct fault){1, 1, op, *a + i};", "m->fault = (struct fault){1, 1, op, *a};"),
     ("fault region always named", "uint64_t i = 0, region = 0;", "uint64_t i = 0, region = (uint64_t)number;"),
@@ -57,6 +56,31 @@ FAULTS = [
     ("12 before 11", "if (m->mode && !implicit_grant(m, 3, pc, 4, EXECUTE, OP_FETCH))\n        STOP(11);",
      "if (!present(pc, 4, length, address))\n        return 12;\n    if (m->mode && !implicit_grant(m, 3, pc, 4, EXECUTE, OP_FETCH))\n        STOP(11);"),
     ("loads into x0 ask nothing", "a = x[rs1] + (uint64_t)i_value;\n", "a = x[rs1] + (uint64_t)i_value;\n            if (!rd) goto done;\n"),
+    # the offset of h-words
+    ("offset: wraps at 2^64", "(value | offset) >> 63", "offset >> 63"),
+    ("offset: rs1 is signed", "uint64_t offset = value + (uint64_t)immediate;",
+     "int64_t whole = (int64_t)value + immediate; uint64_t offset = (uint64_t)whole; value = whole < 0 ? value : 0;"),
+    ("offset: below 0 passes", "(value | offset) >> 63", "value >> 63"),
+    ("offset: only its end is asked", "(value | offset) >> 63", "(value > TOP)"),
+    ("offset: rs1 ignored", "uint64_t offset = value + ", "value = 0; uint64_t offset = value + "),
+    ("offset: h-loads ignore rs1", "explicit_grant(m, x[rs1], i_value,", "explicit_grant(m, 0, i_value,"),
+    ("offset: h-stores ignore rs1", "explicit_grant(m, x[rs1], s_value,", "explicit_grant(m, 0, s_value,"),
+    ("offset: stores of doublewords ignore rs1", "explicit_grant(m, x[rs1], s_value,", "explicit_grant(m, n == 8 ? 0 : x[rs1], s_value,"),
+    ("offset: the immediate of a load is unsigned", "explicit_grant(m, x[rs1], i_value,", "explicit_grant(m, x[rs1], i_value & 4095,"),
+    ("offset: the immediate of a store is unsigned", "explicit_grant(m, x[rs1], s_value,", "explicit_grant(m, x[rs1], s_value & 4095,"),
+    ("offset: the immediate is left out", "uint64_t offset = value + (uint64_t)immediate;", "uint64_t offset = value; (void)immediate;"),
+    ("offset: the low half of rs1", "uint64_t offset = value + ", "value = (uint32_t)value; uint64_t offset = value + "),
+    ("offset: rs1 without its top bit", "uint64_t offset = value + ", "value &= ~((uint64_t)1 << 63); uint64_t offset = value + "),
+    ("offset: rs1 without bit 62", "uint64_t offset = value + ", "value &= ~((uint64_t)1 << 62); uint64_t offset = value + "),
+    ("offset: rs1 without bit 48", "uint64_t offset = value + ", "value &= ~((uint64_t)1 << 48); uint64_t offset = value + "),
+    ("offset: rs1 modulo 4,096", "uint64_t offset = value + ", "value &= 4095; uint64_t offset = value + "),
+    ("offset: stops at 2,054", "(value | offset) >> 63);", "(value | offset) >> 63) && offset + n <= 2055;"),
+    ("offset: the bound itself passes", "if (good && offset + n <= r->bound)", "if (good && offset + n <= r->bound + 1)"),
+    ("offset: the last byte is refused", "if (good && offset + n <= r->bound)", "if (good && offset + n < r->bound)"),
+    ("offset: only the first byte is asked", "if (good && offset + n <= r->bound)", "if (good && offset < r->bound)"),
+    ("offset: the address leaves rs1 out", "*a = r->base + offset;", "*a = r->base + (uint64_t)immediate;"),
+    ("offset: x0 is read as x1", "explicit_grant(m, x[rs1], i_value,", "explicit_grant(m, x[rs1 ? rs1 : 1], i_value,"),
+    ("offset: rs1 of a store is rs2", "explicit_grant(m, x[rs1], s_value,", "explicit_grant(m, x[rs2], s_value,"),
     # HFI instructions
     ("exit is not redirected", "if (m->options & 4)\n                next = m->handler;", ""),
     ("exit pc is the next one", "m->reason = 1;\n            m->exit_pc = pc;", "m->reason = 1;\n            m->exit_pc = next;"),
@@ -75,7 +99,7 @@ FAULTS = [
     ("reset keeps the selector", "m->selector = 0;\n            break;", "break;"),
     ("permission bits not asked", "if (operand & ~has[m->selector])\n                STOP(14);", ""),
     ("enter's jump target not asked", "if (x[rs2] & 3)\n                    STOP(15);", ""),
-    ("h-words outside HFI mode", "if (!m->mode)\n                STOP(14);\n            if (!explicit_grant(m, i_value", "if (!explicit_grant(m, i_value"),
+    ("h-words outside HFI mode", "if (!m->mode)\n                STOP(14);\n            if (!explicit_grant(m, x[rs1], i_value", "if (!explicit_grant(m, x[rs1], i_value"),
     ("hfi rows may name rs2", "|| (spare & 4 && rs2))", ")"),
     # runs
     ("20 for a run begun outside", "if (began && !m->mode)", "if (!m->mode)"),
@@ -101,8 +125,9 @@ FAULTS = [
 def main():
     source = open(os.path.join(HERE, "plain.c")).read()
     rounds = sys.argv[1] if len(sys.argv) > 1 else "300"
+    chosen = [f for f in FAULTS if len(sys.argv) < 3 or f[0].startswith(sys.argv[2])]
     missed = []
-    for name, old, new in FAULTS:
+    for name, old, new in chosen:
         assert source.count(old) >= 1, name
         folder = tempfile.mkdtemp()
         edited = os.path.join(folder, "plain.c")
@@ -122,7 +147,7 @@ def main():
         for file in os.listdir(folder):
             os.remove(os.path.join(folder, file))
         os.rmdir(folder)
-    print(len(FAULTS), "faults,", len(missed), "unnoticed")
+    print(len(chosen), "faults,", len(missed), "unnoticed")
     sys.exit(1 if missed else 0)
 
 

@@ -1,6 +1,7 @@
-/* A plain switch interpreter of the machine of document 01: RV64I with HFI
-   checks on every fetch, load and store. It is the measure of speed; nothing
-   is decoded ahead or remembered from one step to the next. */
+/* A plain switch interpreter of the machine of document 01, with Job 1 of
+   document 02: RV64I with HFI checks on every fetch, load and store. It is the
+   measure of speed; nothing is decoded ahead or remembered from one step to
+   the next. */
 #include "machine.h"
 
 #include <string.h>
@@ -60,17 +61,22 @@ static inline int explicit_rule(const struct region *r)
     return base >> 32 == (base + bound - 1) >> 32;
 }
 
-/* The bytes of an h-prefixed access; the address of the first goes to *a. */
-static inline int explicit_grant(struct machine *m, int64_t offset, uint64_t n, uint64_t wanted, uint64_t op, uint64_t *a)
+/* The bytes of an h-prefixed access. The offset is rs1's value, unsigned, plus
+   the immediate, a whole number that does not wrap; the address of the first
+   byte, which does, goes to *a. No good bound is above 2^48, so a value or an
+   offset with its top bit set is refused, and other offsets have not wrapped. */
+static inline int explicit_grant(struct machine *m, uint64_t value, int64_t immediate, uint64_t n, uint64_t wanted, uint64_t op,
+                                 uint64_t *a)
 {
     const struct region *r = &m->regions[0];
-    *a = r->base + (uint64_t)offset;
-    int good = explicit_rule(r) && (r->permission & wanted);
-    if (good && offset >= 0 && (uint64_t)offset + n <= r->bound)
+    uint64_t offset = value + (uint64_t)immediate;
+    *a = r->base + offset;
+    int good = explicit_rule(r) && (r->permission & wanted) && !((value | offset) >> 63);
+    if (good && offset + n <= r->bound)
         return 1;
     uint64_t i = 0;
     if (good)
-        while (offset + (int64_t)i >= 0 && (uint64_t)offset + i < r->bound)
+        while (offset + i < r->bound)
             i++;
     m->fault = (struct fault){1, 1, op, *a + i};
     return 0;
@@ -184,7 +190,7 @@ static inline uint64_t one_step(struct machine *m, uint8_t *memory, size_t lengt
         if (w & 8) {
             if (!m->mode)
                 STOP(14);
-            if (!explicit_grant(m, i_value, n, READ, OP_LOAD, &a))
+            if (!explicit_grant(m, x[rs1], i_value, n, READ, OP_LOAD, &a))
                 STOP(16);
         } else {
             a = x[rs1] + (uint64_t)i_value;
@@ -212,7 +218,7 @@ static inline uint64_t one_step(struct machine *m, uint8_t *memory, size_t lengt
         if (w & 8) {
             if (!m->mode)
                 STOP(14);
-            if (!explicit_grant(m, s_value, n, WRITE, OP_STORE, &a))
+            if (!explicit_grant(m, x[rs1], s_value, n, WRITE, OP_STORE, &a))
                 STOP(16);
         } else {
             a = x[rs1] + (uint64_t)s_value;

@@ -2,10 +2,13 @@
 """Writes the sheets of crates/sheets/data and the page sheets.md beside this file.
 
 Each sheet stands below with the first line of its output, worked out by hand
-from document 01. `oracle sheets FOLDER` then prints what the oracle makes of
-them, and `--check FILE` holds that against the lines here.
+from document 01, as document 02 has changed it. `oracle sheets FOLDER` then
+prints what the oracle makes of them, and `--check FILE` holds that against the
+lines here. `--store ORACLE` writes data/index and stdout, the answers being the
+oracle's, if its first lines are those here.
 """
 import os
+import subprocess
 import sys
 
 HERE = os.path.dirname(os.path.abspath(__file__))
@@ -528,7 +531,6 @@ sheet("h-load-minus-one", program(hload(LB, 10, 0, -1), r1=G), "16,0,0,0,0,1,1,1
 sheet("h-load-minus-2048", program(hload(LB, 10, 0, -2048), r1=(0x800, 0x10, 3)), "16,0,0,0,0,1,1,1,0", "the lowest offset", HW)
 sheet("h-load-minus-one-of-base-0", program(hload(LB, 10, 0, -1), r1=(0, 0x10, 3)), "16,0,0,0,0,1,1,1,ffffffffffffffff",
       "base 0, offset -1: the address wraps", "The address is base + offset + i, modulo 2^64.")
-sheet("h-load-rs1-ignored", program(addi(7, 0, -1), hload(LBU, 10, 7, 0), ECALL, r1=G), "18,2,8,0,0,0,0,0,0", "rs1 holds 2^64 - 1", "As 000 says, rs1 is ignored")
 sheet("h-load-offset-2047", program(hload(LD, 10, 0, 2047), ECALL, r1=(0x1000, 0x1000, 1)), "18,1,4,0,0,0,0,0,0",
       "an hld at 2,047 in a bound of 4,096", "So an hld at 2,047 in a region of bound 4,096 also reaches offsets 2,048 to 2,054.")
 sheet("h-load-offset-2047-bound-2054", program(hload(LD, 10, 0, 2047), r1=(0x1000, 2054, 1)), "16,0,0,0,0,1,1,1,1806", "its last byte is outside a bound of 2,054", HW)
@@ -567,6 +569,94 @@ sheet("h-load-large-too-long", program(hload(LBU, 10, 0, 1), r1=(0x10000, 1 << 4
 sheet("h-load-large-without-read", program(hload(LB, 10, 0, 0), r1=(0, 0x10000, 8)), "16,0,0,0,0,1,1,1,0", "the large bit alone grants nothing", HW)
 sheet("h-store-large-read-only", program(hstore(SB, 10, 0, 0), r1=(0, 0x10000, 9)), "16,0,0,0,0,1,1,2,0", "no write in a large region", HW)
 sheet("h-load-minus-one-large", program(hload(LB, 10, 0, -1), r1=(0x10000, 0x10000, 0xb)), "16,0,0,0,0,1,1,1,ffff", "offset -1 of a large region", HW)
+
+# ---------------------------------------------------------------- offsets of h-words
+section("Offsets of h-words: rs1 counts (document 02, Job 1)")
+SUM = ("02, Job 1: the offset of an h-prefixed word is the unsigned value of rs1 plus the signed immediate, "
+       "as a whole number that does not wrap")
+PASS = "02, Job 1: byte i passes when offset + i is at least 0 and below the bound"
+KEPT = "02, Job 1: With rule and permission as before"
+PATH = "02, Job 1: each load and store path takes the wider offset"
+FOUR_KIB = (0x2000, 0x1000, 3)      # 4,096 bytes, 2000 to 2fff
+WHOLE = (0, 1 << 48, 0xb)
+END_LINES = "2ff8,89abcdef\n2ffc,81234567\n"
+
+
+def power(n): return [addi(7, 0, 1), slli(7, 7, n)]
+def below_power(n): return [addi(7, 0, -1), srli(7, 7, 64 - n)]
+
+
+def both(name, words, f3, imm, r1, first, shows, sentence):
+    """An h-load of x10 and an h-store of x7, by x7; op is 1 or 2 where the first line says OP."""
+    sheet("h-load-" + name, program(*words, hload(f3, 10, 7, imm), ECALL, r1=r1), first.replace("OP", "1"), shows, sentence)
+    sheet("h-store-" + name, program(*words, hstore(f3, 7, 7, imm), ECALL, r1=r1), first.replace("OP", "2"), shows + ", a store", sentence)
+
+
+sheet("h-load-rs1-adds", program(addi(7, 0, 0x700), hload(LBU, 10, 7, 0x200), ECALL, r1=(0x2000, 0x1000, 1), more="2900,000000a5\n"),
+      "18,2,8,0,0,0,0,0,0", "700 and 200 make 900: byte 2,304 of 4,096", SUM)
+sheet("h-store-rs1-adds", program(addi(7, 0, 0x700), addi(6, 0, 0x5a), hstore(SB, 6, 7, 0x200), lui(5, 2), addi(5, 5, 0x700), load(LBU, 11, 5, 0x200),
+      ECALL, r1=(0x2000, 0x1000, 2), r2=(0x2000, mask(12), 1)), "18,6,18,0,0,0,0,0,0", "the same stored, seen by an ordinary load", SUM)
+for name, f3, size in [("byte", 0, 1), ("half", 1, 2), ("word", 2, 4), ("double", 3, 8)]:
+    sheet("h-load-rs1-last-" + name, program(lui(7, 1), hload(f3, 10, 7, -size), ECALL, r1=FOUR_KIB, more=END_LINES), "18,2,8,0,0,0,0,0,0",
+          "the last %s of 4,096 bytes" % name, PASS)
+    sheet("h-store-rs1-last-" + name, program(lui(7, 1), addi(6, 0, -1), hstore(f3, 6, 7, -size), hload(LD, 10, 7, -8), ECALL, r1=FOUR_KIB),
+          "18,4,10,0,0,0,0,0,0", "the last %s of 4,096 bytes, read back" % name, PASS)
+    both("rs1-%s-beyond" % name, [lui(7, 1)], f3, 1 - size, FOUR_KIB, "16,1,4,0,0,1,1,OP,3000", "one byte further", PASS)
+sheet("h-load-rs1-past-4-kib", program(lui(7, 2), hload(LD, 10, 7, 0x100), ECALL, r1=(0x2000, 0x3000, 1), more="4100,89abcdef\n4104,81234567\n"),
+      "18,2,8,0,0,0,0,0,0", "offset 2100 of 12,288 bytes", SUM)
+sheet("h-store-rs1-past-4-kib", program(lui(7, 2), addi(6, 0, -2), hstore(SW, 6, 7, 0x100), hload(LD, 10, 7, 0xfe), ECALL, r1=(0x2000, 0x3000, 3)),
+      "18,4,10,0,0,0,0,0,0", "the same stored, read back from two bytes before", SUM)
+sheet("h-load-rs1-walk", program(lui(5, 1), hload(LD, 6, 7, 0), R(0x33, 0, 0, 10, 10, 6), addi(7, 7, 8), B(1, 7, 5, -12), hload(LD, 6, 7, 0),
+      r1=FOUR_KIB, more="2000,00000001\n2ffc,00000002\n", budget=0x1000), "16,801,14,0,0,1,1,1,3000", "512 doublewords added up, then one too many", PATH)
+sheet("h-store-rs1-walk", program(lui(5, 1), hstore(SD, 7, 7, 0), addi(7, 7, 8), B(1, 7, 5, -8), hstore(SD, 7, 7, 0), r1=FOUR_KIB, budget=0x1000),
+      "16,601,10,0,0,1,1,2,3000", "512 doublewords stored, then one too many", PATH)
+sheet("h-load-rs1-large-last-double", program(lui(7, 0x10), hload(LD, 10, 7, -8), ECALL, r1=(0, 0x10000, 9), more="fff8,89abcdef\nfffc,81234567\n"),
+      "18,2,8,0,0,0,0,0,0", "the last double of a large region", PASS)
+sheet("h-store-rs1-large-last-double", program(lui(7, 0x10), addi(6, 0, -1), hstore(SD, 6, 7, -8), hload(LD, 10, 7, -8), ECALL, r1=(0, 0x10000, 0xb)),
+      "18,4,10,0,0,0,0,0,0", "the same stored, read back", PASS)
+both("rs1-large-beyond", [lui(7, 0x10)], 3, -7, (0, 0x10000, 0xb), "16,1,4,0,0,1,1,OP,10000", "one byte further", PASS)
+# large values
+sheet("h-load-rs1-all-ones", program(addi(7, 0, -1), hload(LBU, 10, 7, 0), ECALL, r1=G), "16,1,4,0,0,1,1,1,1ff",
+      "rs1 holds 2^64 - 1: refused at base + 2^64 - 1", SUM)
+sheet("h-store-rs1-all-ones", program(addi(7, 0, -1), hstore(SB, 7, 7, 0), ECALL, r1=G), "16,1,4,0,0,1,1,2,1ff", "the same in a store", SUM)
+both("rs1-all-ones-plus-1", [addi(7, 0, -1)], 0, 1, G, "16,1,4,0,0,1,1,OP,200", "2^64 is no offset of 0; the address is base", SUM)
+both("sum-past-2-to-64", [addi(7, 0, -16)], 3, 20, G, "16,1,4,0,0,1,1,OP,204", "2^64 - 16 and 20", SUM)
+both("double-over-2-to-64", [addi(7, 0, -4)], 3, 0, G, "16,1,4,0,0,1,1,OP,1fc", "offset 2^64 - 4: its last four bytes are not 0 to 3", SUM)
+both("rs1-2-to-63", power(63), 0, 0, G, "16,2,8,0,0,1,1,OP,8000000000000200", "rs1 2^63", SUM)
+both("rs1-2-to-62", power(62), 0, 0, G, "16,2,8,0,0,1,1,OP,4000000000000200", "rs1 2^62", SUM)
+both("rs1-2-to-32-plus-8", power(32), 0, 8, G, "16,2,8,0,0,1,1,OP,100000208", "the whole register counts, not its low half", SUM)
+both("rs1-2-to-48", power(48), 0, 0, WHOLE, "16,2,8,0,0,1,1,OP,1000000000000", "rs1 is the largest bound", PASS)
+both("rs1-2-to-48-less-1", below_power(48), 0, 0, WHOLE, "17,2,8,0,0,0,0,0,0", "the last byte of the largest region: granted and absent", PASS)
+both("double-over-2-to-48", below_power(48), 3, 0, WHOLE, "16,2,8,0,0,1,1,OP,1000000000000", "first byte absent, second refused: 16", PASS)
+both("rs1-2-to-32", power(32), 0, 0, (0, 1 << 32, 3), "16,2,8,0,0,1,1,OP,100000000", "rs1 is the largest small bound", PASS)
+both("rs1-2-to-32-less-1", below_power(32), 0, 0, (0, 1 << 32, 3), "17,2,8,0,0,0,0,0,0", "the last byte of the largest small region", PASS)
+# immediates below 0
+both("rs1-3-minus-5", [addi(7, 0, 3)], 3, -5, G, "16,1,4,0,0,1,1,OP,1fe", "offset -2: the first byte is refused, though later ones are inside", PASS)
+sheet("h-load-rs1-5-minus-5", program(addi(7, 0, 5), hload(LHU, 10, 7, -5), ECALL, r1=G, more="200,0000a55a\n"), "18,2,8,0,0,0,0,0,0", "offset 0", SUM)
+sheet("h-store-rs1-5-minus-5", program(addi(7, 0, 5), hstore(SW, 7, 7, -5), hload(LD, 10, 0, 0), ECALL, r1=G), "18,3,c,0,0,0,0,0,0",
+      "offset 0, read back by x0", SUM)
+sheet("h-load-rs1-2048-minus-2048", program(addi(7, 0, 2047), addi(7, 7, 1), hload(LBU, 10, 7, -2048), ECALL, r1=G, more="200,0000a55a\n"),
+      "18,3,c,0,0,0,0,0,0", "offset 0 by the lowest immediate", SUM)
+sheet("h-store-rs1-2048-minus-2048", program(addi(7, 0, 2047), addi(7, 7, 1), hstore(SD, 7, 7, -2048), hload(LD, 10, 0, 0), ECALL, r1=G),
+      "18,4,10,0,0,0,0,0,0", "the same stored, read back by x0", SUM)
+both("rs1-2047-minus-2048", [addi(7, 0, 2047)], 3, -2048, G, "16,1,4,0,0,1,1,OP,1ff", "offset -1 by the lowest immediate", PASS)
+# registers
+sheet("h-load-rd-is-rs1", program(addi(7, 0, 8), hload(LD, 7, 7, 0), ECALL, r1=G, more="208,00001234\n"), "18,2,8,0,0,0,0,0,0",
+      "rd is rs1: the offset is of the old value", SUM)
+sheet("h-load-rd-is-rs1-twice", program(addi(7, 0, 8), hload(LBU, 7, 7, 0), hload(LBU, 7, 7, 0), ECALL, r1=G, more="208,0000000c\n20c,0000005a\n"),
+      "18,3,c,0,0,0,0,0,0", "what was loaded is the next offset", SUM)
+sheet("h-load-rd-is-rs1-refused", program(addi(7, 0, 16), hload(LD, 7, 7, 0), r1=G), "16,1,4,0,0,1,1,1,210", "rd is rs1 and keeps its value", PASS)
+sheet("h-store-rs2-is-rs1", program(addi(7, 0, 8), hstore(SD, 7, 7, 0), hload(LD, 10, 0, 8), ECALL, r1=G), "18,3,c,0,0,0,0,0,0",
+      "the offset is what is stored", SUM)
+sheet("h-load-rs1-x0", program(addi(0, 0, -1), hload(LBU, 10, 0, 0), ECALL, r1=G, more="200,0000a55a\n"), "18,2,8,0,0,0,0,0,0",
+      "x0 is 0 after a write", "02, Job 1: Words with rs1 = x0 act as before.")
+# rule, permission, memory
+sheet("h-load-rs1-not-readable", program(addi(7, 0, 0x700), hload(LBU, 10, 7, 0x200), r1=(0x2000, 0x1000, 2)), "16,1,4,0,0,1,1,1,2900", "no read permission", KEPT)
+sheet("h-store-rs1-not-writable", program(addi(7, 0, 0x700), hstore(SB, 7, 7, 0x200), r1=(0x2000, 0x1000, 1)), "16,1,4,0,0,1,1,2,2900", "no write permission", KEPT)
+both("rs1-base-all-ones", [addi(7, 0, 3)], 0, -1, (ONES, 1, 3), "16,1,4,0,0,1,1,OP,1", "a broken region; the address wraps", KEPT)
+both("rs1-past-memory", [lui(7, 1)], 0, 0, (0xf000, 0x2000, 3), "17,1,4,0,0,0,0,0,0", "the first byte past memory", PATH)
+both("rs1-over-memory-end", [lui(7, 1)], 3, -4, (0xf000, 0x2000, 3), "17,1,4,0,0,0,0,0,0", "its last four bytes are absent", PATH)
+both("rs1-sixteen-first", [lui(7, 1)], 3, -1, (0xf000, 0x1004, 3), "16,1,4,0,0,1,1,OP,10004", "second byte absent, sixth refused: 16", PATH)
 
 # ---------------------------------------------------------------- 17
 section("Stop 17: granted and absent")
@@ -647,6 +737,13 @@ sheet("group-h-load", program(
 sheet("group-h-store", program(
     addi(6, 0, -2), hstore(SD, 6, 0, 0), hstore(SB, 0, 0, 1), hstore(SH, 0, 0, 3), hstore(SW, 0, 0, 8), hload(LD, 10, 0, 0), hload(LD, 11, 0, 5),
     ECALL, r1=(0x1000, 16, 3)), "18,7,1c,0,0,0,0,0,0", "hsb hsh hsw hsd, read back", "funct3 0 to 3 for hsb, hsh, hsw, hsd")
+sheet("group-h-load-rs1", program(
+    lui(7, 1), hload(LB, 10, 7, 0), hload(LBU, 11, 7, 0), hload(LH, 12, 7, 0), hload(LHU, 13, 7, 0), hload(LW, 14, 7, 0), hload(LWU, 15, 7, 0),
+    hload(LD, 16, 7, 0), hload(LW, 17, 7, 3), hload(LB, 0, 7, 0), ECALL, r1=(0, 0x1008, 1), more=DATA_LINES), "18,a,28,0,0,0,0,0,0",
+    "the seven by an rs1 of 4,096", PATH)
+sheet("group-h-store-rs1", program(
+    lui(7, 1), addi(6, 0, -2), hstore(SD, 6, 7, 0), hstore(SB, 0, 7, 1), hstore(SH, 0, 7, 3), hstore(SW, 0, 7, 8), hload(LD, 10, 7, 0),
+    hload(LD, 11, 7, 5), ECALL, r1=(0, 0x1010, 3)), "18,8,20,0,0,0,0,0,0", "the four by an rs1 of 4,096, read back", PATH)
 sheet("group-h-store-case-b", program(addi(10, 0, 0x5a), 0x00a001ab, P1000, load(LBU, 11, 5, 3), ECALL, r1=(0x1000, 16, 2), r2=(0x1000, mask(4), 1)),
       "18,4,10,0,0,0,0,0,0", "case B: hsb x10 at 3, seen by an ordinary load", "B `00a001ab` is hsb x10 at 3.")
 sheet("group-fence", program(0x0ff0000f, 0x8330000f, 0x0100000f, 0xffff8f8f, 0x0000000f, ECALL), "18,5,14,0,0,0,0,0,0",
@@ -672,9 +769,9 @@ def write():
     for name, content, _, _, _ in rows:
         open(os.path.join(SHEETS, name), "wb").write(content)
     out = ["# Stored sheets", "",
-           "One file a sheet. The first lines were worked out by hand from document 01",
-           "(they stand in `oracle/authoring/make_sheets.py`, which writes this page) and then",
-           "confirmed by the oracle. The sheets stand in `crates/sheets/data`; `crates/sheets/stdout` has",
+           "One file a sheet. The first lines were worked out by hand from document 01, or from",
+           "document 02 where a row says `02` (they stand in `oracle/authoring/make_sheets.py`, which",
+           "writes this page), and then confirmed by the oracle. The sheets stand in `crates/sheets/data`; `crates/sheets/stdout` has",
            "for each a line with its name and then the whole output.", ""]
     starts = dict(sections)
     for i, (name, _, first, shows, sentence) in enumerate(rows):
@@ -701,6 +798,27 @@ def check(path):
     return bad
 
 
+def store(oracle):
+    """data/index, 32 bytes a row: the sheets here by name, then the random programs; stdout in that order."""
+    named = sorted(r[0] for r in rows)
+    random = sorted(n for n in os.listdir(SHEETS) if len(n) == 4 and n[0] == "p" and n[1:].isdigit())
+    others = set(os.listdir(SHEETS)) - set(named) - set(random) - {"index", "unreadable"}
+    assert not others, others
+    printed = b""
+    for name in named + random:
+        content = open(os.path.join(SHEETS, name), "rb").read()
+        printed += name.encode() + b"\n" + subprocess.run([oracle, "sheet"], input=content, stdout=subprocess.PIPE, check=True).stdout
+    path = os.path.join(SHEETS, "..", "stdout")
+    open(path + ".new", "wb").write(printed)
+    if check(path + ".new"):
+        return 1
+    os.replace(path + ".new", path)
+    open(os.path.join(SHEETS, "index"), "w").write("".join("%-31s\n" % n for n in named + random))
+    return 0
+
+
 write()
 if len(sys.argv) == 3 and sys.argv[1] == "--check":
     sys.exit(1 if check(sys.argv[2]) else 0)
+if len(sys.argv) == 3 and sys.argv[1] == "--store":
+    sys.exit(store(sys.argv[2]))

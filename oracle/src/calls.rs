@@ -1,7 +1,8 @@
 //! Stored calls: step, run and resume on machines that no sheet can make
 //! (`crates/calls`). A directed call carries its answer as read off
-//! document 01, machine and memory included, and the oracle has to give the
-//! same: it guards against slips. The random ones come from the supply.
+//! document 01 as document 02 has changed it, machine and memory included, and
+//! the oracle has to give the same: it guards against slips. The random ones
+//! come from the supply.
 
 use crate::compare::Engine;
 use crate::machine::{Machine, Region};
@@ -104,7 +105,7 @@ fn state(machine: &Machine, bytes: &[u8]) -> String {
     text
 }
 
-/// A directed call and its answer, as read off document 01.
+/// A directed call and its answer, as read off the documents.
 pub struct Directed {
     pub call: Call,
     pub told: Answer,
@@ -223,12 +224,21 @@ fn store(funct3: u32, rs2: u32, rs1: u32, offset: i32) -> u32 {
     s_type(0x23, funct3, rs1, rs2, offset)
 }
 
+/// rs1 is x9, which is 0 unless a call sets it.
 fn hload(funct3: u32, rd: u32, offset: i32) -> u32 {
-    i_type(0x0b, funct3, rd, 9, offset)
+    hload_by(funct3, rd, 9, offset)
 }
 
 fn hstore(funct3: u32, rs2: u32, offset: i32) -> u32 {
-    s_type(0x2b, funct3, 9, rs2, offset)
+    hstore_by(funct3, rs2, 9, offset)
+}
+
+fn hload_by(funct3: u32, rd: u32, rs1: u32, offset: i32) -> u32 {
+    i_type(0x0b, funct3, rd, rs1, offset)
+}
+
+fn hstore_by(funct3: u32, rs2: u32, rs1: u32, offset: i32) -> u32 {
+    s_type(0x2b, funct3, rs1, rs2, offset)
 }
 
 fn unchanged(_: &mut Machine) {}
@@ -624,6 +634,195 @@ impl List {
         self.step("fetch, region 3 without execute", no_code, 11, |m| m.fault = fault(3, 3, 0x40));
     }
 
+    /// Document 02, Job 1: "the offset of an h-prefixed word is the unsigned value of rs1 plus the signed immediate, as a
+    /// whole number that does not wrap ... byte i passes when offset + i is at least 0 and below the bound."
+    fn offsets_refused(&mut self) {
+        for (rs1, immediate, address) in [
+            // at the bound and below 0, where later bytes are inside
+            (0x40, 0, 0x240),
+            (0x41, -1, 0x240),
+            (0x3f, 1, 0x240),
+            (0x840, -2048, 0x240),
+            (3, -5, 0x1fe),
+            (7, -8, 0x1ff),
+            (0x7f8, -2048, 0x1f8),
+            // the whole register, unsigned
+            (1 << 32, 8, 0x1_0000_0208),
+            (1 << 48, 0, 0x1_0000_0000_0200),
+            ((1 << 62) - 1, 0, 0x4000_0000_0000_01ff),
+            (1 << 62, 0, 0x4000_0000_0000_0200),
+            ((1 << 63) - 1, 1, 0x8000_0000_0000_0200),
+            (1 << 63, 0, 0x8000_0000_0000_0200),
+            (1 << 63, -2048, 0x7fff_ffff_ffff_fa00),
+            (ALL, -1, 0x1fe),
+            (ALL, 0, 0x1ff),
+            // sums of 2^64 and more; the address is modulo 2^64
+            (ALL, 1, 0x200),
+            (ALL, 2047, 0x9fe),
+            (ALL - 7, 8, 0x200),
+            (ALL - 15, 32, 0x210),
+            (ALL - 3, 0, 0x1fc),
+        ] {
+            for (name, word, op) in [
+                ("hlbu", hload(4, 7, immediate), 1),
+                ("hld", hload(3, 7, immediate), 1),
+                ("hsb", hstore(0, 7, immediate), 2),
+                ("hsd", hstore(3, 7, immediate), 2),
+            ] {
+                let name = format!("{name}, rs1 {rs1:x}, immediate {immediate}");
+                self.step(&name, inside(word).with(|m| m.x[9] = rs1), 16, |m| m.fault = fault(1, op, address));
+            }
+        }
+    }
+
+    /// The last bytes of the region by rs1, one byte further, and offset 0 by an immediate below 0.
+    fn offsets_granted(&mut self) {
+        let bytes = |word: u32, rs1: u64| {
+            let base = inside(word).put(0x200, 0x4433_2291).put(0x204, 0x8877_6655).put(0x238, 0x89ab_cdef).put(0x23c, 0x8123_4567);
+            base.with(|m| (m.x[9], m.x[7]) = (rs1, 0x1122_3344_5566_7788))
+        };
+        for (name, funct3, size, last, first) in [
+            ("hlb", 0, 1, 0xffff_ffff_ffff_ff81, 0xffff_ffff_ffff_ff91),
+            ("hlh", 1, 2, 0xffff_ffff_ffff_8123, 0x2291),
+            ("hlw", 2, 4, 0xffff_ffff_8123_4567, 0x4433_2291),
+            ("hld", 3, 8, 0x8123_4567_89ab_cdef, 0x8877_6655_4433_2291),
+            ("hlbu", 4, 1, 0x81, 0x91),
+            ("hlhu", 5, 2, 0x8123, 0x2291),
+            ("hlwu", 6, 4, 0x8123_4567, 0x4433_2291),
+        ] {
+            let got = |value: u64| move |m: &mut Machine| (m.x[7], m.pc) = (value, 0x44);
+            self.step(&format!("{name}, the last bytes by rs1 a0"), bytes(hload(funct3, 7, -0x60 - size), 0xa0), 0, got(last));
+            let beyond = bytes(hload(funct3, 7, -0x5f - size), 0xa0);
+            self.step(&format!("{name}, one byte further by rs1 a0"), beyond, 16, |m| m.fault = fault(1, 1, 0x240));
+            self.step(&format!("{name}, offset 0 by rs1 800"), bytes(hload(funct3, 7, -2048), 0x800), 0, got(first));
+            let itself = |m: &mut Machine| (m.x[9], m.pc) = (first, 0x44);
+            self.step(&format!("{name}, rd is rs1"), bytes(hload(funct3, 9, -5), 5), 0, itself);
+        }
+        for (name, funct3, size) in [("hsb", 0, 1), ("hsh", 1, 2), ("hsw", 2, 4), ("hsd", 3, 8)] {
+            let next = |m: &mut Machine| m.pc = 0x44;
+            let (value, length) = (0x1122_3344_5566_7788, size as usize);
+            let last = bytes(hstore(funct3, 7, -0x60 - size), 0xa0);
+            self.step(&format!("{name}, the last bytes by rs1 a0"), last, 0, next).stores(0x240 - length, length, value);
+            let beyond = bytes(hstore(funct3, 7, -0x5f - size), 0xa0);
+            self.step(&format!("{name}, one byte further by rs1 a0"), beyond, 16, |m| m.fault = fault(1, 2, 0x240));
+            self.step(&format!("{name}, offset 0 by rs1 800"), bytes(hstore(funct3, 7, -2048), 0x800), 0, next).stores(0x200, length, value);
+            self.step(&format!("{name}, rs2 is rs1"), bytes(hstore(funct3, 9, -5), 5), 0, next).stores(0x200, length, 5);
+        }
+    }
+
+    /// Which register is rs1: the others hold what would be refused, or, for x0, all ones.
+    fn offset_registers(&mut self) {
+        for n in 1..32u32 {
+            let other = if n == 6 { 5 } else { 6 };
+            let world = |word: u32| {
+                let base = inside(word).put(0x210, 0x8765_4321);
+                base.with(|m| (1..32).for_each(|r| m.x[r] = if r as u32 == n { 8 } else { 0x1000 + r as u64 }))
+            };
+            if n % 2 == 1 {
+                let got = move |m: &mut Machine| (m.x[other as usize], m.pc) = (0x8765_4321, 0x44);
+                self.step(&format!("hlwu, rs1 is x{n}"), world(hload_by(6, other, n, 8)), 0, got);
+            } else {
+                let stored = 0x1000 + other as u64;
+                self.step(&format!("hsh, rs1 is x{n}"), world(hstore_by(1, other, n, 8)), 0, |m| m.pc = 0x44).stores(0x210, 2, stored);
+            }
+        }
+        let ones = |word: u32| inside(word).put(0x210, 0x8765_4321).with(|m| (1..32).for_each(|r| m.x[r] = ALL));
+        self.step("hlwu, rs1 is x0, the others of ones", ones(hload_by(6, 7, 0, 0x10)), 0, |m| (m.x[7], m.pc) = (0x8765_4321, 0x44));
+        self.step("hsd, rs1 is x0, the others of ones", ones(hstore_by(3, 7, 0, 0x10)), 0, |m| m.pc = 0x44).stores(0x210, 8, ALL);
+        self.step("hlb, rs1 is x0, immediate -1", ones(hload_by(0, 7, 0, -1)), 16, |m| m.fault = fault(1, 1, 0x1ff));
+        let off = |word: u32| outside(word).with(|m| m.x[9] = ALL);
+        self.step("h-load outside, rs1 of ones", off(hload(3, 7, 1)), 14, unchanged);
+        self.step("h-store outside, rs1 of ones", off(hstore(3, 7, 1)), 14, unchanged);
+    }
+
+    /// Granted by rs1 and absent, and the ends of regions that no memory fills.
+    fn offsets_absent(&mut self) {
+        let pairs = |immediate: i32| [("hld", hload(3, 7, immediate), 1), ("hsd", hstore(3, 7, immediate), 2)];
+        for (name, word, _) in pairs(-8) {
+            for present in [0, 1, 7] {
+                let world = inside(word).length(0x208 + present as usize).with(|m| m.x[9] = 0x10);
+                let name = format!("step: {name} at 208 by rs1, memory ends after {present} bytes of it");
+                self.add(&name, Request::Step, world, (17, 0, 0x208 + present), unchanged);
+            }
+        }
+        let large = |word: u32, region: (u64, u64), rs1: u64| {
+            inside(word).with(|m| (m.regions[0], m.x[9]) = (Region { base: region.0, bound: region.1, permission: 0xb }, rs1))
+        };
+        let (whole, upper, top) = ((0, 1 << 48), (1 << 47, 1 << 47), 1u64 << 48);
+        for (name, word, op) in pairs(0) {
+            for (region, rs1, absent) in [(whole, 0x7fc, 0x800), (whole, top - 8, top - 8), (upper, 0, 1 << 47), (upper, (1 << 47) - 8, top - 8)] {
+                let name = format!("step: {name}, large region {:x}, rs1 {rs1:x}, absent", region.0);
+                self.add(&name, Request::Step, large(word, region, rs1), (17, 0, absent), unchanged);
+            }
+            for (region, rs1) in [(whole, top - 7), (whole, top - 1), (whole, top), (upper, (1 << 47) - 7), (upper, 1 << 47)] {
+                let name = format!("{name}, large region {:x}, rs1 {rs1:x}", region.0);
+                self.step(&name, large(word, region, rs1), 16, |m| m.fault = fault(1, op, top));
+            }
+            let far = (whole, 1 << 63);
+            self.step(&format!("{name}, large region 0, rs1 2^63"), large(word, far.0, far.1), 16, |m| m.fault = fault(1, op, 1 << 63));
+        }
+        let full = (0, 0x10000);
+        let last = large(hload(4, 7, 0), full, 0xffff).length(ROOM).put(0xfffc, 0x9a00_0000);
+        self.step("hlbu, the last byte of 65,536", last, 0, |m| (m.x[7], m.pc) = (0x9a, 0x44));
+        let last = large(hstore(3, 7, -8), full, 0x10000).length(ROOM);
+        self.step("hsd, the last bytes of 65,536", last, 0, |m| m.pc = 0x44).stores(0xfff8, 8, 0x107);
+        let past = large(hstore(3, 7, -7), full, 0x10000).length(ROOM);
+        self.step("hsd, one byte past 65,536", past, 16, |m| m.fault = fault(1, 2, 0x10000));
+        let short = large(hstore(3, 7, -7), full, 0x10000).length(ROOM - 1);
+        self.step("hsd, byte ffff absent, 10000 refused", short, 16, |m| m.fault = fault(1, 2, 0x10000));
+    }
+
+    /// "With rule and permission as before": regions that break their rule, some near 2^64.
+    fn offsets_of_broken_regions(&mut self) {
+        for (base, bound, permission, rs1, immediate, address) in [
+            (ALL - 15, 16, 3, 0, 0, ALL - 15),
+            (ALL - 15, 16, 3, 15, 0, ALL),
+            (ALL - 15, 16, 3, 17, -1, 0),
+            (ALL - 15, 16, 3, 1 << 63, 0, 0x7fff_ffff_ffff_fff0),
+            (ALL - 15, 16, 3, ALL, 0, ALL - 16),
+            (ALL - 15, 16, 3, ALL, 1, ALL - 15),
+            (ALL, ALL, 3, 3, -1, 1),
+            (0, ALL, 3, 5, 0, 5),
+            (0, ALL, 3, ALL - 16, 0, ALL - 16),
+            (0, 0xffff_ffff_ffff_0000, 0xb, 0x208, 0, 0x208),
+            (0, 0xffff_ffff_ffff_0000, 0xb, 1 << 63, 0, 1 << 63),
+            (0xffff_ffff_ffff_0000, 0x10000, 0xb, 0x10000, 8, 8),
+            (0x200, 0x40, 0, 8, 8, 0x210),
+        ] {
+            for (name, word, op) in [("hlb", hload(0, 7, immediate), 1), ("hsw", hstore(2, 7, immediate), 2)] {
+                let world = inside(word).with(|m| (m.regions[0], m.x[9]) = (Region { base, bound, permission }, rs1));
+                let name = format!("{name}, region {base:x}, {bound:x}, {permission:x}, rs1 {rs1:x}, immediate {immediate}");
+                self.step(&name, world, 16, |m| m.fault = fault(1, op, address));
+            }
+        }
+        let read = |word: u32| inside(word).with(|m| (m.regions[0].permission, m.x[9]) = (1, 8));
+        self.step("hsb by rs1, region 1 without write", read(hstore(0, 7, 8)), 16, |m| m.fault = fault(1, 2, 0x210));
+        let write = |word: u32| inside(word).with(|m| (m.regions[0].permission, m.x[9]) = (2, 8));
+        self.step("hlb by rs1, region 1 without read", write(hload(0, 7, 8)), 16, |m| m.fault = fault(1, 1, 0x210));
+    }
+
+    /// Runs whose h-words go by what the steps before have put in rs1.
+    fn offsets_in_runs(&mut self) {
+        const BACK: u32 = 0xff9f_f06f; // jal x0, -8
+        let walk = |word: u32| inside(word).with(|m| m.options = 1).put(0x44, addi(9, 9, 8)).put(0x48, BACK);
+        let loads = walk(hload(3, 7, 0)).put(0x238, 0x89ab_cdef).put(0x23c, 0x8123_4567);
+        self.run("hld over 64 bytes, then refused", loads, 50, (16, 24), |m| {
+            (m.x[9], m.x[7], m.fault) = (0x40, 0x8123_4567_89ab_cdef, fault(1, 1, 0x240));
+        });
+        let stored = self.run("hsd over 64 bytes, then refused", walk(hstore(3, 9, 0)), 50, (16, 24), |m| {
+            (m.x[9], m.fault) = (0x40, fault(1, 2, 0x240));
+        });
+        (0..8).for_each(|n| stored.stores(0x200 + 8 * n, 8, 8 * n as u64));
+        let chain = inside(hload(4, 9, 0)).put(0x44, hload(4, 9, 0)).put(0x48, hload(4, 9, 0)).put(0x200, 0x3f).put(0x23c, 0x4000_0000);
+        self.run("hlbu, each the next one's offset, then refused", chain, 50, (16, 2), |m| {
+            (m.pc, m.x[9], m.fault) = (0x48, 0x40, fault(1, 1, 0x240));
+        });
+        let enter = outside(hfi(ENTER)).with(|m| (m.x[5], m.x[9]) = (1, ALL)).put(0x44, hload(3, 7, 1));
+        self.run("outside, enters, hld by rs1 of ones and 1 is refused", enter, 50, (16, 1), |m| {
+            (m.mode, m.options, m.pc, m.fault) = (1, 1, 0x44, fault(1, 1, 0x200));
+        });
+    }
+
     /// "Outside HFI mode regions are not consulted."
     fn not_consulted(&mut self) {
         let bare = |word: u32| outside(word).with(|m| (m.regions, m.x[8]) = (Default::default(), 0x700));
@@ -852,6 +1051,12 @@ pub fn directed() -> Vec<Directed> {
     list.absent_data();
     list.refused();
     list.not_consulted();
+    list.offsets_refused();
+    list.offsets_granted();
+    list.offset_registers();
+    list.offsets_absent();
+    list.offsets_of_broken_regions();
+    list.offsets_in_runs();
     // A call that two subjects share stands once, under the first.
     let mut seen = std::collections::HashSet::new();
     list.all.retain(|row| seen.insert(row.call.unnamed()));

@@ -2,11 +2,13 @@
 
 use std::collections::BTreeMap;
 
-use crate::instruction::{decode, encode, name, HfiKind, Instruction};
+use crate::instruction::{decode, encode, name, HfiKind, Instruction, LOAD_TABLE, STORE_TABLE};
 use crate::machine::Machine;
+use crate::numbers::{bit, power};
 use crate::reach::writable;
-use crate::step::step_asked;
-use crate::supply::Supply;
+use crate::region::{keeps_rule, Place};
+use crate::step::{data_access, load_size, step_asked, store_size};
+use crate::supply::{Supply, AIMS};
 
 /// What an engine under test offers. `None` means that it lacks the call.
 pub trait Engine {
@@ -114,6 +116,8 @@ pub struct Counts {
     pub run_steps: u64,
     /// Completed and stopped steps of each instruction.
     pub instructions: BTreeMap<String, (u64, u64)>,
+    /// H-words by what rs1 and the offset are (`H_CLASSES`) and by instruction (`h_number`).
+    pub h_words: BTreeMap<&'static str, [u64; H_WORDS]>,
     /// What happened in the runs that cross the mode, by kind.
     pub crossings: BTreeMap<&'static str, u64>,
     pub resume_stops: BTreeMap<u64, u64>,
@@ -149,6 +153,10 @@ impl Counts {
             entry.0 += completed;
             entry.1 += stopped;
         }
+        for (class, met) in other.h_words {
+            let entry = self.h_words.entry(class).or_default();
+            (0..H_WORDS).for_each(|n| entry[n] += met[n]);
+        }
         self.run_steps += other.run_steps;
         self.isolation_steps += other.isolation_steps;
         self.isolation_differing += other.isolation_differing;
@@ -164,6 +172,116 @@ impl Counts {
             self.differences.push(text);
         }
     }
+}
+
+/// The instructions with the h-prefix: seven loads, four stores.
+pub const H_WORDS: usize = 11;
+
+const H_NAMES: [&str; H_WORDS] = ["hlb", "hlh", "hlw", "hld", "hlbu", "hlhu", "hlwu", "hsb", "hsh", "hsw", "hsd"];
+
+/// The place of an h-word in `H_NAMES`.
+fn h_number(instruction: &Instruction) -> Option<usize> {
+    match *instruction {
+        Instruction::HLoad { kind, .. } => LOAD_TABLE.iter().position(|row| row.0 == kind),
+        Instruction::HStore { kind, .. } => STORE_TABLE.iter().position(|row| row.0 == kind).map(|n| 7 + n),
+        _ => None,
+    }
+}
+
+/// An h-word in HFI mode whose region keeps its rule and has the permission,
+/// so that the offset alone decides.
+pub struct HWord {
+    x0: bool,
+    /// rs1 is rd or rs2 too.
+    twice: bool,
+    rs1: i128,
+    immediate: i128,
+    size: i128,
+    bound: i128,
+}
+
+impl HWord {
+    fn of(machine: &Machine, instruction: &Instruction) -> Option<HWord> {
+        let (register, other, immediate) = match *instruction {
+            Instruction::HLoad { rd, rs1, offset, .. } => (rs1, rd, offset),
+            Instruction::HStore { rs1, rs2, offset, .. } => (rs1, rs2, offset),
+            _ => return None,
+        };
+        let access = data_access(machine, instruction)?;
+        let Place::Explicit { region: number, .. } = access.place else { return None };
+        let region = machine.regions[number - 1];
+        let open = machine.mode == 1 && keeps_rule(number, &region) && bit(region.permission, access.op.wanted());
+        open.then(|| HWord {
+            x0: register == 0,
+            twice: register == other && register != 0,
+            rs1: machine.get(register) as i128,
+            immediate: immediate as i128,
+            size: access.size as i128,
+            bound: region.bound as i128,
+        })
+    }
+
+    fn offset(&self) -> i128 {
+        self.rs1 + self.immediate
+    }
+
+    fn inside(&self, offset: i128) -> bool {
+        offset >= 0 && offset + self.size <= self.bound
+    }
+
+    fn about(&self, place: i128, distance: i128) -> bool {
+        (self.rs1 - place).abs() <= distance
+    }
+}
+
+fn two(n: u32) -> i128 {
+    power(n) as i128
+}
+
+/// What rs1 and the offset of an h-word can be: the name, the fewest bytes
+/// that an access of the class has, and the test. A word may be of several.
+type HClass = (&'static str, i128, fn(&HWord) -> bool);
+
+pub const H_CLASSES: [HClass; 20] = [
+    ("rs1 is x0", 1, |h| h.x0),
+    ("rs1 0", 1, |h| !h.x0 && h.rs1 == 0),
+    ("rs1 1 to 2,054, all bytes inside", 1, |h| (1..=2054).contains(&h.rs1) && h.inside(h.offset())),
+    ("rs1 past 2,054, all bytes inside", 1, |h| h.rs1 > 2054 && h.inside(h.offset())),
+    ("offset past 4,095, all bytes inside", 1, |h| h.offset() > 4095 && h.inside(h.offset())),
+    ("rs1 within 9 of the bound", 1, |h| h.about(h.bound, 9)),
+    ("rs1 2^32 or more, only its low half inside", 1, |h| {
+        h.rs1 >= two(32) && !h.inside(h.offset()) && h.inside(h.rs1 % two(32) + h.immediate)
+    }),
+    ("rs1 within 16 of 2^48", 1, |h| h.about(two(48), 16)),
+    ("rs1 within 16 of 2^62", 1, |h| h.about(two(62), 16)),
+    ("rs1 within 16 of 2^63", 1, |h| h.about(two(63), 16)),
+    ("rs1 within 16 of 2^64", 1, |h| h.about(two(64), 16)),
+    ("rs1 is rd or rs2, all bytes inside", 1, |h| h.twice && h.inside(h.offset())),
+    ("offset below 0, later bytes inside", 2, |h| h.offset() < 0 && h.offset() + h.size > 0),
+    ("offset below 0, no byte inside", 1, |h| h.offset() + h.size <= 0),
+    ("offset 0 by an immediate below 0", 1, |h| h.offset() == 0 && h.immediate < 0),
+    ("inside only if the immediate is signed", 1, |h| h.immediate < 0 && h.inside(h.offset()) && !h.inside(h.offset() + 4096)),
+    ("last byte is the region's last", 1, |h| !h.x0 && h.offset() >= 0 && h.offset() + h.size == h.bound),
+    ("first bytes inside, later past the bound", 2, |h| {
+        (0..h.bound).contains(&h.offset()) && h.offset() + h.size > h.bound
+    }),
+    ("offset at the bound or up to 9 past it", 1, |h| (0..=9).contains(&(h.offset() - h.bound))),
+    ("offset 2^64 or more, inside if it wrapped", 1, |h| h.offset() >= two(64) && h.inside(h.offset() - two(64))),
+];
+
+/// The h-words that met no access of a class, of those that can.
+pub fn h_words_unmet(counts: &Counts) -> Vec<String> {
+    let mut unmet = Vec::new();
+    for (class, least, _) in H_CLASSES {
+        let met = counts.h_words.get(class).copied().unwrap_or_default();
+        let sizes = LOAD_TABLE.iter().map(|row| load_size(row.0)).chain(STORE_TABLE.iter().map(|row| store_size(row.0)));
+        for (n, size) in sizes.enumerate() {
+            if met[n] == 0 && size as i128 >= least {
+                unmet.push(format!("{} met no access of the class: {class}", H_NAMES[n]));
+            }
+        }
+    }
+    unmet
 }
 
 /// Every answer of both engines to one word.
@@ -224,6 +342,11 @@ pub fn compare_step(
             entry.0 += 1;
         } else {
             entry.1 += 1;
+        }
+        if let (Some(n), Some(h)) = (h_number(&instruction), HWord::of(&before, &instruction)) {
+            for (class, _, _) in H_CLASSES.into_iter().filter(|(_, _, test)| test(&h)) {
+                counts.h_words.entry(class).or_default()[n] += 1;
+            }
         }
     }
     if let Some(b) = right.step(&mut m, &mut bytes) {
@@ -433,6 +556,7 @@ pub fn rounds(left: &dyn Engine, right: &dyn Engine, seed: u64, number: u64, cou
         for _ in 0..8 {
             any_machine(left, right, &mut supply, &memory, counts);
         }
+        h_words(left, right, &mut supply, round as usize, counts);
         for _ in 0..4 {
             steady_run(left, right, &mut supply, counts);
             crossing_run(left, right, &mut supply, counts);
@@ -474,6 +598,28 @@ fn chosen_word(left: &dyn Engine, right: &dyn Engine, supply: &mut Supply, memor
     compare_step(left, right, &mut m, &mut bytes, counts);
 }
 
+/// How many rounds it takes until each h-word has had each aim.
+pub const H_ROUNDS: u64 = 7;
+
+/// A step and a run of an h-load and an h-store of each aim, the instruction
+/// going by the round; then some through any region.
+fn h_words(left: &dyn Engine, right: &dyn Engine, supply: &mut Supply, round: usize, counts: &mut Counts) {
+    let memory = supply.aimed_memory();
+    for (place, aim) in AIMS.into_iter().enumerate() {
+        for n in [(round + place) % 7, 7 + (round + place) % 4] {
+            let mut bytes = memory.clone();
+            let mut machine = supply.aimed_h_word(aim, n, &mut bytes);
+            compare_run(left, right, &machine, &bytes, 2, counts);
+            compare_step(left, right, &mut machine, &mut bytes, counts);
+        }
+    }
+    for _ in 0..8 {
+        let mut bytes = memory.clone();
+        let mut machine = supply.h_word_of_any_region(&mut bytes);
+        compare_step(left, right, &mut machine, &mut bytes, counts);
+    }
+}
+
 /// A run that goes on for a while in HFI mode, whole and step by step.
 fn steady_run(left: &dyn Engine, right: &dyn Engine, supply: &mut Supply, counts: &mut Counts) {
     let (machine, memory) = supply.steady_world();
@@ -490,7 +636,8 @@ fn steady_run(left: &dyn Engine, right: &dyn Engine, supply: &mut Supply, counts
 /// A run that goes in and out of HFI mode, and a resumption of any state.
 fn crossing_run(left: &dyn Engine, right: &dyn Engine, supply: &mut Supply, counts: &mut Counts) {
     let k = 7 + supply.below(4);
-    let (machine, memory) = supply.crossing_world(k);
+    let (mut machine, mut memory) = supply.crossing_world(k);
+    supply.give_offsets(&mut machine, &mut memory);
     let budget = supply.pick(&[20, 50, 100, 200]) + supply.below(20);
     count_crossings(&machine, &memory, budget, counts);
     compare_run(left, right, &machine, &memory, budget, counts);
@@ -563,6 +710,11 @@ pub fn print_counts(counts: &Counts) {
     println!("instructions (completed, stopped):");
     for (name, (completed, stopped)) in &counts.instructions {
         println!("  {name} {completed} {stopped}");
+    }
+    println!("h-words in HFI mode, region 1 grants: {}", H_NAMES.join(" "));
+    for (class, _, _) in H_CLASSES {
+        let met = counts.h_words.get(class).copied().unwrap_or_default();
+        println!("  {class}: {}", met.map(|count| count.to_string()).join(" "));
     }
     for difference in &counts.differences {
         println!("DIFFERENCE {difference}");

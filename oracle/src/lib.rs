@@ -1,7 +1,8 @@
-//! A second implementation of the machine of document 01, written from that
-//! document and from the RISC-V unprivileged specification alone. It is meant
-//! to be read side by side with them, so it prefers the plain form: whole
-//! numbers in u128 and i128, one byte at a time, one question after the other.
+//! A second implementation of the machine of document 01 as document 02 has
+//! changed it (Job 1), written from those and from the RISC-V unprivileged
+//! specification alone. It is meant to be read side by side with them, so it
+//! prefers the plain form: whole numbers in u128 and i128, one byte at a time,
+//! one question after the other.
 
 pub mod calls;
 pub mod compare;

@@ -12,13 +12,14 @@ fn implicit_reach(machine: &Machine, op: Op, address: u64) -> bool {
     refusal(machine, &access, 0).is_none()
 }
 
-/// Does an h-load or h-store reach the byte? Immediates are -2,048 to 2,047
-/// and byte numbers 0 to 7, so offset + i runs over -2,048 to 2,054.
+/// Does an h-load or h-store reach the byte? rs1 is free and counts (document
+/// 02, Job 1), so an access of one byte has any offset from 0 to the bound: all
+/// bytes of a region that keeps its rule and has the permission.
 fn explicit_reach(machine: &Machine, op: Op, address: u64) -> bool {
     (1..=REGIONS).filter(|n| region_kind(*n) == RegionKind::Explicit).any(|region| {
         let offset = address as i128 - machine.regions[region - 1].base as i128;
         let access = Access { op, place: Place::Explicit { region, offset }, size: 1 };
-        (-2048..=2054).contains(&offset) && refusal(machine, &access, 0).is_none()
+        refusal(machine, &access, 0).is_none()
     })
 }
 

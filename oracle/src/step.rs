@@ -208,9 +208,11 @@ pub fn store_size(kind: StoreKind) -> u64 {
     }
 }
 
-/// The offset of an h-prefixed word into its region. rs1 is ignored.
-fn explicit_offset(_machine: &Machine, _rs1: u64, offset: i64) -> i128 {
-    offset as i128
+/// The offset of an h-prefixed word into its region: "the unsigned value of
+/// rs1 plus the signed immediate, as a whole number that does not wrap"
+/// (document 02, Job 1).
+fn explicit_offset(machine: &Machine, rs1: u64, immediate: i64) -> i128 {
+    machine.get(rs1) as i128 + immediate as i128
 }
 
 /// The data access that an instruction makes.

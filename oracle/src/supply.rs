@@ -1,13 +1,78 @@
 //! Random machines, memories, words and sheets, with a bias to the edges.
 
 use crate::instruction::{
-    encode, HfiKind, ImmediateKind, Instruction, SystemKind, UpperKind, BRANCH_TABLE, HFI_TABLE, IMMEDIATE_TABLE, LOAD_TABLE, REGISTER_TABLE,
+    decode, encode, HfiKind, ImmediateKind, Instruction, SystemKind, UpperKind, BRANCH_TABLE, HFI_TABLE, IMMEDIATE_TABLE, LOAD_TABLE, REGISTER_TABLE,
     SHIFT_TABLE, STORE_TABLE,
 };
 use crate::machine::{Fault, Machine, Region};
 use crate::reach::{executable, readable};
+use crate::step::{load_size, store_size};
 
 const ALL: u64 = u64::MAX;
+
+/// What rs1 and the immediate of an h-word are aimed at.
+#[derive(Clone, Copy, Debug, PartialEq, Eq)]
+pub enum Aim {
+    /// rs1 is x0.
+    X0,
+    /// Another register holds 0.
+    Zero,
+    /// rs1 at most 2,054, all bytes inside.
+    Inside,
+    /// rs1 past 2,054, all bytes inside.
+    Far,
+    /// Offset past 4,095, all bytes inside.
+    Further,
+    /// rs1 about the bound.
+    Bound,
+    /// rs1 above 2^32, its low half inside.
+    LowHalf,
+    /// rs1 about this power of 2.
+    Power(u32),
+    /// rs1 about 2^64 - 1.
+    Ones,
+    /// First bytes before the region, later ones inside.
+    Before,
+    /// All bytes before the region.
+    Below,
+    /// An immediate below 0 that takes rs1 back to offset 0.
+    Back,
+    /// The region's last bytes.
+    Last,
+    /// First bytes inside, later ones past the bound.
+    Over,
+    /// All bytes past the bound.
+    Past,
+    /// A sum of 2^64 or more that would be inside if it wrapped.
+    Around,
+}
+
+pub const AIMS: [Aim; 18] = [
+    Aim::X0,
+    Aim::Zero,
+    Aim::Inside,
+    Aim::Far,
+    Aim::Further,
+    Aim::Bound,
+    Aim::LowHalf,
+    Aim::Power(48),
+    Aim::Power(62),
+    Aim::Power(63),
+    Aim::Ones,
+    Aim::Before,
+    Aim::Below,
+    Aim::Back,
+    Aim::Last,
+    Aim::Over,
+    Aim::Past,
+    Aim::Around,
+];
+
+/// The memory of aimed h-words: longer than an immediate reaches, twice.
+pub const AIMED_LENGTH: usize = 12_288;
+
+/// Registers that a run leaves alone: two offsets inside region 1 and an edge.
+const OFFSETS: [u64; 3] = [17, 18, 29];
 
 /// A small generator of random numbers; the same seed gives the same numbers.
 pub struct Supply {
@@ -54,6 +119,11 @@ impl Supply {
             6 => near,
             _ => self.next(),
         }
+    }
+
+    /// A whole number from one to another, both included.
+    fn between(&mut self, low: i128, high: i128) -> i128 {
+        low + (self.next() as i128).rem_euclid(high - low + 1)
     }
 
     fn register(&mut self) -> u64 {
@@ -188,8 +258,191 @@ impl Supply {
     /// code in the lower half, ordinary data in a block of the upper half,
     /// explicit data anywhere. Locked three times in four.
     pub fn steady_world(&mut self) -> (Machine, Vec<u8>) {
-        let k = 7 + self.below(6); // half of 128 to 4,096 bytes each
-        self.steady_world_of(k)
+        let k = self.pick(&[7, 8, 9, 10, 11, 11, 12, 12]); // half of 128 to 4,096 bytes each
+        let (mut machine, mut memory) = self.steady_world_of(k);
+        self.give_offsets(&mut machine, &mut memory);
+        (machine, memory)
+    }
+
+    /// Puts offsets inside region 1 into registers that a run leaves alone,
+    /// and lets most h-words of the lower half use them, so that runs go on;
+    /// a longer memory often has a region past what an immediate reaches.
+    pub fn give_offsets(&mut self, machine: &mut Machine, memory: &mut [u8]) {
+        let half = memory.len() as u64 / 2;
+        if half > 2_000 && self.once_in(2) {
+            let permission = self.pick(&[3, 3, 3, 3, 1, 2]);
+            machine.regions[0] = Region { base: self.below(64), bound: half + self.below(half), permission };
+        }
+        let region = machine.regions[0];
+        let end = region.bound.min((memory.len() as u64).saturating_sub(region.base)); // of what is in memory
+        let last = end.saturating_sub(48).max(1);
+        machine.x[OFFSETS[0] as usize] = self.below(last).max(24);
+        machine.x[OFFSETS[1] as usize] = (last - self.below(last.min(128))).max(24);
+        machine.x[OFFSETS[2] as usize] = self.edge();
+        for at in (0..memory.len() / 8).map(|n| 4 * n) {
+            let word = u32::from_le_bytes(memory[at..at + 4].try_into().unwrap());
+            let (register, immediate) = match self.below(48) {
+                0 => continue,
+                1 => (OFFSETS[2], self.immediate()),
+                2..=12 => (0, self.below(40) as i64),
+                n => (OFFSETS[n as usize % 2], self.below(64) as i64 - 24),
+            };
+            let aimed = match decode(word) {
+                Some(Instruction::HLoad { kind, rd, .. }) => Instruction::HLoad { kind, rd, rs1: register, offset: immediate },
+                Some(Instruction::HStore { kind, rs2, .. }) => Instruction::HStore { kind, rs1: register, rs2, offset: immediate },
+                _ => continue,
+            };
+            let word = encode(&aimed).expect("in range");
+            memory[at..at + 4].copy_from_slice(&word.to_le_bytes());
+        }
+    }
+
+    /// Random bytes for aimed h-words.
+    pub fn aimed_memory(&mut self) -> Vec<u8> {
+        (0..AIMED_LENGTH).map(|_| self.next() as u8).collect()
+    }
+
+    /// A region 1 that keeps its rule, of `least` to `most` bytes, mostly in
+    /// memory: small ones of all lengths, the largest small one, large ones.
+    fn open_region(&mut self, least: u64, most: u64, wanted: u64) -> Region {
+        let permission = self.pick(&[3, 3, wanted]);
+        let edges = [(0, 65_536, 8), (0, 1 << 32, 0), (0, 1 << 48, 8)];
+        let (base, bound, large) = self.pick(&edges);
+        if least <= bound && bound <= most && self.once_in(4) {
+            return Region { base, bound, permission: permission | large };
+        }
+        let more = match self.below(4) {
+            0 => self.below(9),
+            1 => self.pick(&[2_040u64, 4_080, 8_180]).saturating_sub(least) + self.below(24),
+            2 => self.below(4_096),
+            _ => self.below(64),
+        };
+        let bound = (least + more).min(most);
+        // Most of it in memory, now and then across its end.
+        let last = (AIMED_LENGTH as u64).saturating_sub(if self.once_in(6) { 8 } else { bound });
+        Region { base: self.below(last.max(1)), bound, permission }
+    }
+
+    /// rs1's value and an immediate that come to an offset.
+    fn parted(&mut self, offset: i128) -> (u64, i64) {
+        let low = (offset - ALL as i128).max(-2_048);
+        let immediate = match self.below(3) {
+            0 if low <= 0 && offset >= 0 => 0,
+            1 => self.between(low.max(-16), 16.min(offset).max(low.max(-16))),
+            _ => self.between(low, offset.clamp(low, 2_047)),
+        };
+        ((offset - immediate) as u64, immediate as i64)
+    }
+
+    /// rs1's value, an immediate and a region for an access of `size` bytes,
+    /// so that what the aim says holds.
+    fn aimed_offset(&mut self, aim: Aim, size: u64, wanted: u64) -> (u64, i64, Region) {
+        let (least, most) = match aim {
+            Aim::Inside | Aim::Over | Aim::Around => (size + 1, 1 << 48),
+            Aim::Far => (2_055 + size, 1 << 48),
+            Aim::Further => (4_096 + size, 1 << 48),
+            Aim::LowHalf => (size, 1 << 32),
+            Aim::Back => (size, 4_096),
+            _ => (size, 1 << 48),
+        };
+        let region = self.open_region(least, most, wanted);
+        let (size, bound) = (size as i128, region.bound as i128);
+        let last = bound - size; // the last offset with all bytes inside
+        let held = (AIMED_LENGTH as i128 - region.base as i128 - size).clamp(0, last); // and in memory
+        let small = self.between(-16, 16);
+        let any = if self.once_in(2) { small } else { self.between(-2_048, 2_047) };
+        let (rs1, immediate) = match aim {
+            Aim::X0 | Aim::Zero => (0, self.between(-9, (bound + 9).min(2_047))),
+            Aim::Inside => {
+                let rs1 = self.between(1, held.clamp(1, 2_054));
+                (rs1, self.between((-rs1).max(-2_048), (last - rs1).min(2_047)))
+            }
+            Aim::Far => {
+                let rs1 = self.between(2_055, held.max(2_055));
+                (rs1, self.between(-2_048, (last - rs1).min(2_047)))
+            }
+            Aim::Further => {
+                let offset = self.between(4_096, held.max(4_096));
+                let (rs1, immediate) = self.parted(offset);
+                (rs1 as i128, immediate as i128)
+            }
+            Aim::Bound => ((bound + self.between(-9, 9)).max(0), any),
+            Aim::LowHalf => {
+                let low = self.between(0, held);
+                let immediate = self.between((-low).max(-2_048), (last - low).min(2_047));
+                (((1 + self.next() as i128 % 0xffff_ffff) << 32) + low, immediate)
+            }
+            Aim::Power(n) => ((1 << n) + small, any),
+            Aim::Ones => (ALL as i128 - self.between(0, 15), any),
+            Aim::Before => {
+                let offset = -self.between(1, (size - 1).max(1));
+                let rs1 = self.between(0, 2_048 + offset);
+                (rs1, offset - rs1)
+            }
+            Aim::Below => {
+                let offset = -size - if self.once_in(2) { self.between(0, 8) } else { self.between(0, 2_040) };
+                let rs1 = self.between(0, 2_048 + offset);
+                (rs1, offset - rs1)
+            }
+            Aim::Back => {
+                let rs1 = self.between(1, 2_048);
+                (rs1, -rs1)
+            }
+            Aim::Last | Aim::Over | Aim::Past => {
+                let offset = match aim {
+                    Aim::Last => last,
+                    Aim::Over if size > 1 => self.between(last + 1, bound - 1),
+                    _ => bound + self.between(0, 9),
+                };
+                let (rs1, immediate) = self.parted(offset);
+                (rs1 as i128, immediate as i128)
+            }
+            Aim::Around => {
+                let before = self.between(1, 2_000); // 2^64 - rs1
+                ((1 << 64) - before, self.between(before, (before + last).min(2_047)))
+            }
+        };
+        (rs1 as u64, immediate as i64, region)
+    }
+
+    /// A machine in HFI mode about to make an h-word, the n-th of the loads
+    /// and stores, that is aimed so, through a region that grants it if its
+    /// offset is good. Half of them, and each `Back`, name one register twice.
+    pub fn aimed_h_word(&mut self, aim: Aim, n: usize, memory: &mut [u8]) -> Machine {
+        let mut machine = loop {
+            let machine = self.machine(memory.len());
+            if crate::machine::well_formed(&machine) {
+                break machine;
+            }
+        };
+        machine.mode = 1;
+        machine.pc = self.below(memory.len() as u64 / 4) * 4;
+        machine.regions[2] = Region { base: 0, bound: ALL << 16, permission: 4 };
+        let rs1 = if aim == Aim::X0 { 0 } else { 1 + self.below(31) };
+        let other = if aim == Aim::Back || self.once_in(2) { rs1 } else { self.register() };
+        let (size, wanted) = match n {
+            0..=6 => (load_size(LOAD_TABLE[n].0), 1),
+            _ => (store_size(STORE_TABLE[n - 7].0), 2),
+        };
+        let (value, offset, region) = self.aimed_offset(aim, size, wanted);
+        machine.regions[0] = region;
+        machine.set(rs1, value);
+        let word = match n {
+            0..=6 => Instruction::HLoad { kind: LOAD_TABLE[n].0, rd: other, rs1, offset },
+            _ => Instruction::HStore { kind: STORE_TABLE[n - 7].0, rs1, rs2: other, offset },
+        };
+        let at = machine.pc as usize;
+        memory[at..at + 4].copy_from_slice(&encode(&word).expect("in range").to_le_bytes());
+        machine
+    }
+
+    /// The same through any region, good or broken, with or without the
+    /// permission.
+    pub fn h_word_of_any_region(&mut self, memory: &mut [u8]) -> Machine {
+        let (aim, n) = (self.pick(&AIMS), self.below(11) as usize);
+        let mut machine = self.aimed_h_word(aim, n, memory);
+        machine.regions[0] = self.explicit_region(memory.len());
+        machine
     }
 
     fn steady_world_of(&mut self, k: u64) -> (Machine, Vec<u8>) {
@@ -640,7 +893,7 @@ impl Supply {
         }
         if steady {
             // Registers start at 0: the first words set the pointers.
-            machine.regions[0] = Region { base: self.below(64) * 8, bound: 2100, permission: 3 };
+            machine.regions[0] = Region { base: self.below(64) * 8, bound: self.pick(&[2100, 4200, 6000]), permission: 3 };
             if !self.once_in(4) {
                 let k = if self.once_in(4) { 3 + self.below(14) } else { 13 };
                 machine.regions[1] = Region { base: 0, bound: ALL << k, permission: self.pick(&[1, 3, 3]) };
@@ -674,8 +927,16 @@ impl Supply {
             let word = if steady && line < 4 {
                 let (rd, value) = ([1, 2, 8, 3][line as usize], if line == 3 { 0 } else { 48 + self.below(1900) as i64 });
                 encode(&Instruction::Immediate { kind: ImmediateKind::Addi, rd, rs1: 0, value }).expect("in range")
+            } else if steady && line == 4 {
+                encode(&Instruction::Upper { kind: UpperKind::Lui, rd: OFFSETS[0], field: 1 }).expect("in range")
             } else if steady && !self.once_in(60) {
-                let instruction = self.steady_instruction();
+                let mut instruction = self.steady_instruction();
+                if let Instruction::HLoad { rs1, .. } | Instruction::HStore { rs1, .. } = &mut instruction {
+                    // An offset that the first words have set, or any.
+                    if !self.once_in(12) {
+                        *rs1 = self.pick(&[0, 1, 2, 8, OFFSETS[0]]);
+                    }
+                }
                 encode(&instruction).expect("in range")
             } else {
                 self.word()

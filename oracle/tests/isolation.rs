@@ -1,7 +1,7 @@
 //! Readable, writable and executable bytes against their definition, and the
 //! isolation experiment on the oracle and on engines that leak.
 
-use oracle::compare::{isolation, rounds, Counts, Engine, Oracle};
+use oracle::compare::{h_words_unmet, isolation, rounds, Counts, Engine, Oracle, H_ROUNDS};
 use oracle::instruction::{Instruction, LOAD_TABLE, STORE_TABLE};
 use oracle::reach::{executable, readable, writable};
 use oracle::region::{address, refusal, Access, Op, Place};
@@ -10,22 +10,27 @@ use oracle::supply::Supply;
 use oracle::Machine;
 
 /// Is the byte one of the bytes of some h-prefixed access, and does that byte
-/// pass? Tried for every immediate, width and byte number.
+/// pass? Tried for every immediate, width and byte number; of the values of rs1
+/// exactly one puts that byte there.
 fn h_reach(machine: &Machine, op: Op, byte: u64) -> bool {
-    let mut found = false;
+    let mut machine = *machine;
     for offset in -2048..2048 {
         let words: Vec<Instruction> = match op {
             Op::Load => LOAD_TABLE.iter().map(|row| Instruction::HLoad { kind: row.0, rd: 1, rs1: 5, offset }).collect(),
             _ => STORE_TABLE.iter().map(|row| Instruction::HStore { kind: row.0, rs1: 5, rs2: 6, offset }).collect(),
         };
         for word in words {
-            let access = data_access(machine, &word).unwrap();
-            for i in 0..access.size {
-                found |= address(machine, &access, i) == byte && refusal(machine, &access, i).is_none();
+            for i in 0..data_access(&machine, &word).unwrap().size {
+                machine.x[5] = byte.wrapping_sub(machine.regions[0].base).wrapping_add_signed(-offset).wrapping_sub(i);
+                let access = data_access(&machine, &word).unwrap();
+                assert_eq!(address(&machine, &access, i), byte);
+                if refusal(&machine, &access, i).is_none() {
+                    return true;
+                }
             }
         }
     }
-    found
+    false
 }
 
 /// Likewise for an ordinary access: rs1 is free, so some access has the byte
@@ -77,12 +82,75 @@ fn reach_is_as_defined() {
     assert!(seen.iter().all(|pair| pair[0] > 20 && pair[1] > 20), "{seen:?}");
 }
 
+/// All bytes of a region larger than an immediate can express, and no others.
+#[test]
+fn reach_ends_with_the_region() {
+    for (base, bound, large) in [(0x1000, 5000, 0), (0, 2054, 0), (0, 2055, 0), (0x1234, 1, 0), (0x10000, 0x30000, 8), (0, 1 << 48, 8)] {
+        for permission in 0..4 {
+            let mut machine = Machine { mode: 1, options: 1, ..Machine::default() };
+            machine.regions[0] = oracle::Region { base, bound, permission: permission | large };
+            let places = [0, 1, 2046, 2047, 2048, 2053, 2054, 2055, 2056, 4095, 4096, bound - 1, bound, bound + 1, u64::MAX, u64::MAX - 2047];
+            for place in places {
+                let (byte, inside) = (base.wrapping_add(place), place < bound);
+                let told = (inside && permission & 1 == 1, inside && permission & 2 == 2);
+                assert_eq!((readable(&machine, byte), writable(&machine, byte)), told, "{base:x} {bound:x} {place:x}");
+                assert_eq!((h_reach(&machine, Op::Load, byte), h_reach(&machine, Op::Store, byte)), told);
+                assert!(!executable(&machine, byte));
+            }
+        }
+    }
+    // a region that breaks its rule reaches nothing
+    let mut machine = Machine { mode: 1, options: 1, ..Machine::default() };
+    for (base, bound, permission) in [(0x1000, 0, 3), ((1 << 32) - 8, 16, 3), (0, 0x18000, 11), (1 << 48, 0x10000, 11), (u64::MAX - 7, 8, 3)] {
+        machine.regions[0] = oracle::Region { base, bound, permission };
+        for place in [0, 1, 7, 4095] {
+            let byte = base.wrapping_add(place);
+            assert!(!readable(&machine, byte) && !writable(&machine, byte));
+            assert!(!h_reach(&machine, Op::Load, byte) && !h_reach(&machine, Op::Store, byte));
+        }
+    }
+}
+
 #[test]
 fn holds_of_the_oracle() {
     let mut counts = Counts::default();
     rounds(&Oracle, &Oracle, 77, 40, &mut counts);
     assert!(counts.differences.is_empty(), "{:?}", counts.differences);
     assert!(counts.isolation_steps > 1000 && counts.isolation_differing > 50);
+}
+
+/// The fewest rounds that ask for it meet every class of h-words, whatever the seed.
+#[test]
+fn every_class_of_h_words_is_met() {
+    for seed in 0..10 {
+        let mut counts = Counts::default();
+        rounds(&Oracle, &Oracle, 100 + seed, H_ROUNDS, &mut counts);
+        assert_eq!(h_words_unmet(&counts), Vec::<String>::new());
+    }
+    // Each is asked for: 18 of all eleven words, 2 that a byte cannot have of eight.
+    assert_eq!(h_words_unmet(&Counts::default()).len(), 18 * 11 + 2 * 8);
+}
+
+/// Runs of the isolation experiment complete h-words past what an immediate reaches.
+#[test]
+fn worlds_reach_far() {
+    let mut supply = Supply::new(12);
+    let (mut loads, mut stores) = (0, 0);
+    for _ in 0..200 {
+        let (mut machine, mut memory) = supply.steady_world();
+        for _ in 0..100 {
+            let before = machine;
+            let word = memory.get(machine.pc as usize..machine.pc as usize + 4).map_or(0, |b| u32::from_le_bytes(b.try_into().unwrap()));
+            if oracle::step(&mut machine, &mut memory).0 != 0 {
+                break;
+            }
+            let access = oracle::decode(word).and_then(|word| data_access(&before, &word));
+            if let Some(Access { op, place: Place::Explicit { offset: 2055.., .. }, .. }) = access {
+                *(if op == Op::Load { &mut loads } else { &mut stores }) += 1;
+            }
+        }
+    }
+    assert!(loads > 50 && stores > 50, "{loads} loads, {stores} stores");
 }
 
 /// The oracle with one more effect after each run.

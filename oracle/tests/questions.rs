@@ -440,12 +440,14 @@ fn ten_explicit_data() {
         fixed.regions[0].permission = 1;
         faults(fixed, &memory(0x3000, 0, &[hstore(kind, 6, 7, 0)]), 16, 1, 2, 0x2000);
     }
-    // rs1 is ignored
+    // rs1 counts (tests/offsets.rs has its edges)
     let mut filled = machine;
-    filled.x[7] = ALL;
+    filled.x[7] = 40;
     let mut bytes = memory(0x3000, 0, &[hload(LoadKind::ByteUnsigned, 6, 7, 5)]);
-    bytes[0x2005] = 0x5a;
+    bytes[0x202d] = 0x5a;
     assert_eq!(completes(filled, &bytes).0.x[6], 0x5a);
+    filled.x[7] = ALL;
+    faults(filled, &bytes, 16, 1, 1, 0x2004);
     // a broken region refuses the first byte at base + offset modulo 2^64
     let mut broken = machine;
     broken.regions[0] = Region { base: ALL, bound: 16, permission: 3 };
@@ -499,7 +501,9 @@ fn eleven_absent() {
     let mut machine = inside();
     machine.x[5] = 0x1200;
     stops(machine, &memory(0x1204, 0, &[load(LoadKind::Double, 6, 5, 0)]), 17, 0x1204);
-    stops(machine, &memory(0x1204, 0, &[hload(LoadKind::Double, 6, 5, 8)]), 17, 0x2008);
+    stops(machine, &memory(0x1204, 0, &[hload(LoadKind::Double, 6, 0, 8)]), 17, 0x2008);
+    machine.x[5] = 8;
+    stops(machine, &memory(0x200c, 0, &[hload(LoadKind::Double, 6, 5, 0)]), 17, 0x200c);
 }
 
 #[test]
