@@ -70,8 +70,8 @@ struct koubospar_machine {
 /* ---- stack and cost -------------------------------------------------------------------------------------------- */
 
 /* The bytes of stack that a call takes, what it is called with included: measured by painting, over every stop and every
- * kind of word, and rounded up. `c/try` measures them again and fails where a call takes more. Measured were 2,368 for a
- * step, 2,000 for a run, 16 for a resumption, 67,824 for a sheet, 336 and 384 for decoding and encoding, 432 for the
+ * kind of word, and rounded up. `c/try` measures them again and fails where a call takes more. Measured were 2,384 for a
+ * step, 2,016 for a run, 16 for a resumption, 67,840 for a sheet, 336 and 384 for decoding and encoding, 432 for the
  * probe and 552 for a place. No call's stack grows with the memory, the budget or the sheet. */
 #define KOUBOSPAR_STACK_STEP 3072
 #define KOUBOSPAR_STACK_RUN 2560

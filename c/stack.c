@@ -99,7 +99,8 @@ static void measure(int n)
         all[n].stops |= 1ull << run_stop.stop;
 }
 
-/* A machine at pc 40 whose regions grant code below 100, ordinary data from 400 to 4ff, and 64 bytes from 200 on. */
+/* A machine at pc 40 whose regions grant code below 100, ordinary data from 400 to 4ff, and 64 bytes from 7e0 on, of which
+ * memory has the first 32. */
 static void start(uint64_t mode, uint64_t options, uint32_t at_40)
 {
     memset(&before, 0, sizeof before);
@@ -107,7 +108,7 @@ static void start(uint64_t mode, uint64_t options, uint32_t at_40)
     before.hfi.mode = mode;
     before.hfi.options = options;
     before.hfi.selector = 1;
-    before.hfi.regions[0] = (struct koubospar_region){.base = 0x200, .bound = 0x40, .permission = 3};
+    before.hfi.regions[0] = (struct koubospar_region){.base = 0x7e0, .bound = 0x40, .permission = 3};
     before.hfi.regions[1] = (struct koubospar_region){.base = 0x400, .bound = ~0xffull, .permission = 3};
     before.hfi.regions[2] = (struct koubospar_region){.base = 0, .bound = ~0xffull, .permission = 4};
     for (int n = 1; n < 32; n++)
@@ -123,13 +124,29 @@ static void step_and_run(void)
     measure(RUN);
 }
 
+/* What a word finds in x6: an HFI word's operand, or the address or the offset of data that is granted, granted in part,
+ * absent, and nowhere. */
+static uint64_t operand(uint32_t opcode, uint64_t d)
+{
+    static const uint64_t address[] = {0x410, 0x4fc, 0x7fc, 0xffffffffffffffff};
+    static const uint64_t offset[] = {0x10, 0x3c, 0x1c, 0xffffffffffffffff};
+    switch (opcode) {
+    case 0x5b:
+        return d + 1;
+    case 0x0b:
+    case 0x2b:
+        return offset[d];
+    default:
+        return address[d];
+    }
+}
+
 static void step_and_run_in_each_mode(uint32_t at_40)
 {
-    static const uint64_t data[] = {0x410, 0x4fc, 0x7fc, 0xffffffffffffffff}; /* granted, in part, absent, nowhere */
     for (uint64_t mode = 0; mode < 2; mode++)
         for (uint64_t d = 0; d < 4; d++) {
             start(mode, d * 5, at_40);
-            before.x[6] = at_40 % 128 == 0x5b ? d + 1 : data[d];
+            before.x[6] = operand(at_40 % 128, d);
             step_and_run();
         }
 }

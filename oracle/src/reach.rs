@@ -13,7 +13,7 @@ fn implicit_reach(machine: &Machine, op: Op, address: u64) -> bool {
 }
 
 /// Does an h-load or h-store reach the byte? rs1 is free and counts (document
-/// 02, Job 1), so an access of one byte has any offset from 0 to the bound: all
+/// 02, Job 1), so an access of one byte has any offset from 0 on, below the bound: all
 /// bytes of a region that keeps its rule and has the permission.
 fn explicit_reach(machine: &Machine, op: Op, address: u64) -> bool {
     (1..=REGIONS).filter(|n| region_kind(*n) == RegionKind::Explicit).any(|region| {

@@ -1,4 +1,4 @@
-// The machine of document 01, as one record, and what the calls on it answer. Everything that document 01 says of the
+// The machine of document 01, as one record, and what the calls on it answer. Everything that the documents say of the
 // machine is a definition in specs/; the theorems about these definitions are in proofs/. The code is in the crates above.
 //
 // Every number is 64 bits wide, so that a caller can hand in any wrong value and have it refused.
