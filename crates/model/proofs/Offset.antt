@@ -70,24 +70,24 @@ below-inside base bound i (negsuc n) h e = rw (word-sum base (negsuc n)) (go (lt
         (omega arith, omega arith)
 
 -- a place before a region's start wraps far beyond its bound
-below-word : (offset i bound : ℕ) → offset < 2 ^ 64 → i < 2 ^ 63 → bound ≤ 2 ^ 63
-    → below (signed 64 offset +ℤ pos i) bound ≡ ltb ((offset + i) % 2 ^ 64) bound
-below-word offset i bound h p q = go (ltb offset (2 ^ 63)) refl
+below-word : (w i bound : ℕ) → w < 2 ^ 64 → i < 2 ^ 63 → bound ≤ 2 ^ 63
+    → below (signed 64 w +ℤ pos i) bound ≡ ltb ((w + i) % 2 ^ 64) bound
+below-word w i bound h p q = go (ltb w (2 ^ 63)) refl
   where
     at-least : (n m : ℕ) → n ≡ m → (leb 0 n && ltb n bound) ≡ ltb m bound
     at-least n m e = rw (le-leb 0 n (omega arith), e) refl
 
-    back : (b : Bool) → ltb i (suc (2 ^ 64 - suc offset)) ≡ b → 2 ^ 63 ≤ offset
-        → below (cond b (negsuc (suc (2 ^ 64 - suc offset) - suc i)) (pos (i - suc (2 ^ 64 - suc offset)))) bound ≡ ltb ((offset + i) % 2 ^ 64) bound
-    back true t l = let s = ltb-true i (suc (2 ^ 64 - suc offset)) t in sym (le-ltb ((offset + i) % 2 ^ 64) bound (omega arith))
+    back : (b : Bool) → ltb i (suc (2 ^ 64 - suc w)) ≡ b → 2 ^ 63 ≤ w
+        → below (cond b (negsuc (suc (2 ^ 64 - suc w) - suc i)) (pos (i - suc (2 ^ 64 - suc w)))) bound ≡ ltb ((w + i) % 2 ^ 64) bound
+    back true t l = let s = ltb-true i (suc (2 ^ 64 - suc w)) t in sym (le-ltb ((w + i) % 2 ^ 64) bound (omega arith))
     back false t l =
-        let s = ltb-false i (suc (2 ^ 64 - suc offset)) t in
-        at-least (i - suc (2 ^ 64 - suc offset)) ((offset + i) % 2 ^ 64) (omega arith)
+        let s = ltb-false i (suc (2 ^ 64 - suc w)) t in
+        at-least (i - suc (2 ^ 64 - suc w)) ((w + i) % 2 ^ 64) (omega arith)
 
-    go : (b : Bool) → ltb offset (2 ^ 63) ≡ b
-        → below (cond b (pos offset) (negsuc (2 ^ 64 - suc offset)) +ℤ pos i) bound ≡ ltb ((offset + i) % 2 ^ 64) bound
-    go true t = at-least (offset + i) ((offset + i) % 2 ^ 64) (omega (arith, ltb-true offset (2 ^ 63) t))
-    go false t = back (ltb i (suc (2 ^ 64 - suc offset))) refl (ltb-false offset (2 ^ 63) t)
+    go : (b : Bool) → ltb w (2 ^ 63) ≡ b
+        → below (cond b (pos w) (negsuc (2 ^ 64 - suc w)) +ℤ pos i) bound ≡ ltb ((w + i) % 2 ^ 64) bound
+    go true t = at-least (w + i) ((w + i) % 2 ^ 64) (omega (arith, ltb-true w (2 ^ 63) t))
+    go false t = back (ltb i (suc (2 ^ 64 - suc w))) refl (ltb-false w (2 ^ 63) t)
 
 -- ---- the value of a register, and an immediate of 12 bits
 
@@ -132,13 +132,13 @@ far-outside v imm i bound h (inr (l, m)) u =
     rw (le-ltb imm (2 ^ 63) (omega arith), le-ltb v (suc (2 ^ 64 - suc imm)) (omega arith), le-leb 0 (v - suc (2 ^ 64 - suc imm) + i) (omega arith))
     (le-ltb (v - suc (2 ^ 64 - suc imm) + i) bound (omega arith))
 
--- so with any limit between the two, values from it on are told apart, and below it the sum of the words is asked
-pub below-offset : (limit v imm i bound : ℕ) → 2 ^ 48 + 2 ^ 11 ≤ limit → limit ≤ 2 ^ 62 → fitsSigned 12 imm ≡ true → i < 2 ^ 63 → bound ≤ 2 ^ 48
-    → below (offset v imm +ℤ pos i) bound ≡ (ltb v limit && ltb (((v + imm) % 2 ^ 64 + i) % 2 ^ 64) bound)
-below-offset limit v imm i bound low high f l u = go (ltb v limit) refl (immediate-range imm f)
+-- so with any number between the two for far, values from it on are told apart, and below it the sum of the words is asked
+pub below-offset : (far v imm i bound : ℕ) → 2 ^ 48 + 2 ^ 11 ≤ far → far ≤ 2 ^ 62 → fitsSigned 12 imm ≡ true → i < 2 ^ 63 → bound ≤ 2 ^ 48
+    → below (offset v imm +ℤ pos i) bound ≡ (ltb v far && ltb (((v + imm) % 2 ^ 64 + i) % 2 ^ 64) bound)
+below-offset far v imm i bound low high f l u = go (ltb v far) refl (immediate-range imm f)
   where
-    go : (b : Bool) → ltb v limit ≡ b → Immediate imm → below (offset v imm +ℤ pos i) bound ≡ (b && ltb (((v + imm) % 2 ^ 64 + i) % 2 ^ 64) bound)
+    go : (b : Bool) → ltb v far ≡ b → Immediate imm → below (offset v imm +ℤ pos i) bound ≡ (b && ltb (((v + imm) % 2 ^ 64 + i) % 2 ^ 64) bound)
     go true t r =
-        ap (λ z. below (z +ℤ pos i) bound) (near-sum v imm (omega (arith, ltb-true v limit t)) r)
+        ap (λ z. below (z +ℤ pos i) bound) (near-sum v imm (omega (arith, ltb-true v far t)) r)
         ∙ below-word ((v + imm) % 2 ^ 64) i bound (omega arith) l (omega arith)
-    go false t r = far-outside v imm i bound (omega (arith, ltb-false v limit t)) r u
+    go false t r = far-outside v imm i bound (omega (arith, ltb-false v far t)) r u

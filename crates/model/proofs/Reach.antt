@@ -75,10 +75,10 @@ module _ (rs : List Region) (ns : List ℕ) (p : ℕ) where
 
 -- ---- explicit regions
 
-explicit-there : (rs : List Region) (p : ℕ) (z : ℤ) (n b : ℕ) → Passes (explicitAccess rs 1 p z n) b → InExplicit (region rs 1) p b
+explicit-there : (rs : List Region) (n p : ℕ) (z : ℤ) (k b : ℕ) → Passes (explicitAccess rs n p z k) b → InExplicit (region rs n) p b
 unfolding explicitGrants
-explicit-there rs p z n b h =
-    let r = region rs 1 in
+explicit-there rs n p z k b h =
+    let r = region rs n in
     let g = both (explicitRule r) (permits p r && below (z +ℤ pos (h .index)) (r .bound)) (h .passes) in
     let q = granted-inside r p z (h .index) (h .passes) in
     record {
@@ -89,10 +89,10 @@ explicit-there rs p z n b h =
     }
 
 -- a byte's distance from base is the value of a register, and the immediate is 0
-passes-explicit : (rs : List Region) (p b : ℕ) → InExplicit (region rs 1) p b
-    → Passes (explicitAccess rs 1 p (offset (reg (through (b - region rs 1 .base)) 1) 0) 1) b
-passes-explicit rs p b h =
-    let r = region rs 1 in
+passes-explicit : (rs : List Region) (n p b : ℕ) → InExplicit (region rs n) p b
+    → Passes (explicitAccess rs n p (offset (reg (through (b - region rs n .base)) 1) 0) 1) b
+passes-explicit rs n p b h =
+    let r = region rs n in
     let e = through-reg (b - r .base) in
     record {
       index = 0;
@@ -126,25 +126,25 @@ encodes i h = decode-of-encode i (wordOf (encodeFields i)) (rw h refl)
 
 pub readable-form : (rs : List Region) (b : ℕ) → Readable rs b → InData rs read b
 readable-form rs b (Readable.byLoad w x k rd rs1 imm e h) = inl (granted-there rs dataRegions read _ _ b h)
-readable-form rs b (Readable.byHLoad w x k rd rs1 imm e h) = inr (explicit-there rs read (offset (reg x rs1) imm) (loadWidth k) b h)
+readable-form rs b (Readable.byHLoad w x k rd rs1 imm e h) = inr (explicit-there rs 1 read (offset (reg x rs1) imm) (loadWidth k) b h)
 
 pub form-readable : (rs : List Region) (b : ℕ) → InData rs read b → Readable rs b
 unfolding sext
 form-readable rs b (inl h) =
     Readable.byLoad _ (through b) Lb 0 1 0 (encodes (Load Lb 0 1 0) refl)
     (passes-there rs dataRegions read _ 1 0 b (lit< tt) (through-there b (h .address)) h)
-form-readable rs b (inr h) = Readable.byHLoad _ (through (b - region rs 1 .base)) Lb 0 1 0 (encodes (HLoad Lb 0 1 0) refl) (passes-explicit rs read b h)
+form-readable rs b (inr h) = Readable.byHLoad _ (through (b - region rs 1 .base)) Lb 0 1 0 (encodes (HLoad Lb 0 1 0) refl) (passes-explicit rs 1 read b h)
 
 pub writable-form : (rs : List Region) (b : ℕ) → Writable rs b → InData rs write b
 writable-form rs b (Writable.byStore w x k rs1 rs2 imm e h) = inl (granted-there rs dataRegions write _ _ b h)
-writable-form rs b (Writable.byHStore w x k rs1 rs2 imm e h) = inr (explicit-there rs write (offset (reg x rs1) imm) (storeWidth k) b h)
+writable-form rs b (Writable.byHStore w x k rs1 rs2 imm e h) = inr (explicit-there rs 1 write (offset (reg x rs1) imm) (storeWidth k) b h)
 
 pub form-writable : (rs : List Region) (b : ℕ) → InData rs write b → Writable rs b
 unfolding sext
 form-writable rs b (inl h) =
     Writable.byStore _ (through b) Sb 1 0 0 (encodes (Store Sb 1 0 0) refl)
     (passes-there rs dataRegions write _ 1 0 b (lit< tt) (through-there b (h .address)) h)
-form-writable rs b (inr h) = Writable.byHStore _ (through (b - region rs 1 .base)) Sb 1 0 0 (encodes (HStore Sb 1 0 0) refl) (passes-explicit rs write b h)
+form-writable rs b (inr h) = Writable.byHStore _ (through (b - region rs 1 .base)) Sb 1 0 0 (encodes (HStore Sb 1 0 0) refl) (passes-explicit rs 1 write b h)
 
 pub executable-form : (rs : List Region) (b : ℕ) → Executable rs b → InImplicit rs codeRegions execute b
 executable-form rs b (Executable.byFetch pc q h) = granted-there rs codeRegions execute pc 4 b h
