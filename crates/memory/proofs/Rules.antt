@@ -9,9 +9,9 @@ use lib.Pow.{pow-pos, pow-mono}
 use lib.Bits.{bitAnd, and-mask}
 use borrow.Author.Tests.{leb-true, le-leb}
 use Rattle.words.proofs.Shifts.{one-shl}
+use Rattle.instructions.proofs.Tests.{and-both}
 use Rattle.model.specs.Regions.{implicitRuleAt, smallRule}
 use Rattle.model.specs.declared.Region.{Region}
-use Rattle.model.proofs.Intervals.{both}
 use Rattle.memory.proofs.Truth.{same-order}
 
 -- `!((1 << k) - 1)`
@@ -41,8 +41,8 @@ small-breaks true true false e h = refl
 pub small-bounds : (base bound : ℕ) {e : Bool} → e ≡ leb (base + bound) (2 ^ 48) → (leb 1 bound && (leb bound (2 ^ 32) && e)) ≡ true
     → (1 ≤ bound) × (bound ≤ 2 ^ 32) × (base + bound ≤ 2 ^ 48)
 small-bounds base bound {e} q h =
-    let t = both (leb 1 bound) (leb bound (2 ^ 32) && e) h in
-    let u = both (leb bound (2 ^ 32)) e (t .1) in
+    let t = and-both (leb 1 bound) (leb bound (2 ^ 32) && e) h in
+    let u = and-both (leb bound (2 ^ 32)) e (t .1) in
     (leb-true 1 bound (t .0), leb-true bound (2 ^ 32) (u .0), leb-true (base + bound) (2 ^ 48) (sym q ∙ u .1))
 
 -- the fourth decides

@@ -10,6 +10,7 @@ use lib.ListN.{getD, set}
 use lib.Seq.{getD-set-other}
 use lib.Bits.{and-high, and-zero-l}
 use borrow.Author.Tests.{eqb-true, eqb-false, eq-eqb, le-leb, ltb-false}
+use Rattle.instructions.proofs.Tests.{and-both}
 use Rattle.model.specs.Machine.{reg, setReg, fetchOp, largestOptions, noRegion, entered, exited, withHandler, withSelector, withRegions, withFault, lastRegion}
 use Rattle.model.specs.Regions.{permissionFits, permissionBits, regionKind}
 use Rattle.model.specs.WellFormed.{clearHandler, permissionsFit, faultFits, stateFits, wellFormed}
@@ -17,7 +18,6 @@ use Rattle.model.specs.Hfi.{selected, changed}
 use Rattle.model.specs.declared.Region.{Region}
 use Rattle.model.specs.declared.HfiState.{HfiState}
 use Rattle.model.specs.declared.Machine.{Machine}
-use Rattle.model.proofs.Intervals.{both}
 
 -- the clauses of "well formed", as facts
 pub record Fits (h : HfiState) : Type 0 where
@@ -32,12 +32,12 @@ pub record Fits (h : HfiState) : Type 0 where
 fits : (h : HfiState) → stateFits h ≡ true → Fits h
 unfolding stateFits
 fits h t =
-    let a = both (leb (h .mode) 1) _ t in
-    let b = both (leb (h .reason) 2) _ (a .1) in
-    let c = both (leb (h .options) largestOptions) _ (b .1) in
-    let d = both (eqb (clearHandler (h .handler)) (h .handler)) _ (c .1) in
-    let e = both (leb (h .selector) lastRegion) _ (d .1) in
-    let f = both (permissionsFit 1 (h .regions)) (faultFits (h .fault)) (e .1) in
+    let a = and-both (leb (h .mode) 1) _ t in
+    let b = and-both (leb (h .reason) 2) _ (a .1) in
+    let c = and-both (leb (h .options) largestOptions) _ (b .1) in
+    let d = and-both (eqb (clearHandler (h .handler)) (h .handler)) _ (c .1) in
+    let e = and-both (leb (h .selector) lastRegion) _ (d .1) in
+    let f = and-both (permissionsFit 1 (h .regions)) (faultFits (h .fault)) (e .1) in
     record { mode = a .0; reason = b .0; options = c .0; handler = d .0; selector = e .0; permissions = f .0; fault = f .1 }
 
 fitted : (h : HfiState) → Fits h → stateFits h ≡ true
@@ -50,7 +50,7 @@ pub record Good (m : Machine) : Type 0 where
 
 pub good : (m : Machine) → wellFormed m ≡ true → Good m
 unfolding wellFormed
-good m t = let a = both (eqb (reg (m .x) 0) 0) (stateFits (m .hfi)) t in record { zero = eqb-true _ _ (a .0); state = fits (m .hfi) (a .1) }
+good m t = let a = and-both (eqb (reg (m .x) 0) 0) (stateFits (m .hfi)) t in record { zero = eqb-true _ _ (a .0); state = fits (m .hfi) (a .1) }
 
 pub formed : (m : Machine) → Good m → wellFormed m ≡ true
 unfolding wellFormed
@@ -78,9 +78,9 @@ permissions-set : (rs : List Region) (n k : ℕ) (r : Region) → permissionsFit
 permissions-set [] n k r h f = h
 permissions-set (q ∷ rs) n zero r h f =
     let e : n + 0 ≡ n = omega arith in
-    rw (rw e at f) (both (permissionFits n (q .permission)) (permissionsFit (suc n) rs) h .1)
+    rw (rw e at f) (and-both (permissionFits n (q .permission)) (permissionsFit (suc n) rs) h .1)
 permissions-set (q ∷ rs) n (suc k) r h f =
-    let b = both (permissionFits n (q .permission)) (permissionsFit (suc n) rs) h in
+    let b = and-both (permissionFits n (q .permission)) (permissionsFit (suc n) rs) h in
     let e : n + suc k ≡ suc n + k = omega arith in
     rw (b .0) (permissions-set rs (suc n) k r (b .1) (rw e at f))
 
@@ -89,10 +89,10 @@ permission-at : (rs : List Region) (n k : ℕ) → permissionsFit n rs ≡ true 
 permission-at [] n k h = eq-eqb _ _ (and-zero-l (permissionBits (regionKind (n + k))))
 permission-at (q ∷ rs) n zero h =
     let e : n + 0 ≡ n = omega arith in
-    rw e (both (permissionFits n (q .permission)) (permissionsFit (suc n) rs) h .0)
+    rw e (and-both (permissionFits n (q .permission)) (permissionsFit (suc n) rs) h .0)
 permission-at (q ∷ rs) n (suc k) h =
     let e : n + suc k ≡ suc n + k = omega arith in
-    rw e (permission-at rs (suc n) k (both (permissionFits n (q .permission)) (permissionsFit (suc n) rs) h .1))
+    rw e (permission-at rs (suc n) k (and-both (permissionFits n (q .permission)) (permissionsFit (suc n) rs) h .1))
 
 -- the state after a word of opcode 5b
 module _ (h : HfiState) (f : Fits h) where
@@ -125,7 +125,7 @@ module _ (h : HfiState) (f : Fits h) where
         handler = f .handler;
         selector = f .selector;
         permissions = f .permissions;
-        fault = both (leb (h .fault .occurred) 1) _ (f .fault) .1;
+        fault = and-both (leb (h .fault .occurred) 1) _ (f .fault) .1;
       }
 
   pub exited-fits : (reason pc : ℕ) → leb reason 2 ≡ true → Fits (exited h reason pc)

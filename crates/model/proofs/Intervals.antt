@@ -13,16 +13,11 @@ use lib.Count.{trailingZeros, trailing-of-zero}
 use lib.IntN.{ℤ, pos, _+ℤ_}
 use borrow.Author.Tests.{leb-true, le-leb, lt-ltb, eqb-true, eqb-false, eq-eqb, not-true}
 use Rattle.words.specs.Word.{word}
+use Rattle.instructions.proofs.Tests.{and-both}
 use Rattle.model.specs.Regions.{maskZeros, implicitRule, implicitRuleAt, large, permits, smallRule, largeRule, explicitRule, matches, below, explicitGrants}
 use Rattle.model.specs.Bytes.{byteOf}
 use Rattle.model.specs.declared.Region.{Region}
 use Rattle.model.proofs.Offset.{below-inside}
-
--- a test of two parts that holds
-pub both : (a b : Bool) → (a && b) ≡ true → (a ≡ true) × (b ≡ true)
-both true b e = (refl, e)
-both false true e = (e, refl)
-both false false e = (e, e)
 
 -- ---- implicit regions
 
@@ -39,9 +34,9 @@ implicit-kept r h =
     let shape = eqb (r .bound) (2 ^ 64 - 2 ^ k) in
     let aligned = eqb (r .base % 2 ^ k) 0 in
     let low = leb (r .base + 2 ^ k) (2 ^ 48) in
-    let p = both (leb k 48) (shape && (aligned && low)) h in
-    let q = both shape (aligned && low) (p .1) in
-    let s = both aligned low (q .1) in
+    let p = and-both (leb k 48) (shape && (aligned && low)) h in
+    let q = and-both shape (aligned && low) (p .1) in
+    let s = and-both aligned low (q .1) in
     record {
       small = leb-true k 48 (p .0);
       shape = eqb-true (r .bound) (2 ^ 64 - 2 ^ k) (q .0);
@@ -73,7 +68,7 @@ pub matches-inside : (r : Region) (a : ℕ) → a < 2 ^ 64 → matches r a ≡ t
     → (r .base ≤ a) × (a < r .base + 2 ^ maskZeros (r .bound))
 unfolding matches
 matches-inside r a l h =
-    let p = both (implicitRule r) (eqb (bitAnd a (r .bound)) (r .base)) h in
+    let p = and-both (implicitRule r) (eqb (bitAnd a (r .bound)) (r .base)) h in
     let e = sym (region-masked r a (implicit-kept r (p .0)) l) ∙ eqb-true (bitAnd a (r .bound)) (r .base) (p .1) in
     omega (arith, e, split a (maskZeros (r .bound)), mod-lt a (pow-pos (maskZeros (r .bound))))
 
@@ -89,7 +84,7 @@ inside-matches r a h p q =
 pub matches-low : (r : Region) (a : ℕ) → a < 2 ^ 64 → matches r a ≡ true → a < 2 ^ 48
 unfolding matches
 matches-low r a l h =
-    let p = both (implicitRule r) (eqb (bitAnd a (r .bound)) (r .base)) h in
+    let p = and-both (implicitRule r) (eqb (bitAnd a (r .bound)) (r .base)) h in
     omega (arith, implicit-kept r (p .0) .low, matches-inside r a l h .1)
 
 -- a region that breaks its rule matches nothing
@@ -138,17 +133,17 @@ small-ends : (r : Region) → smallRule r ≡ true → (0 < r .bound) × (r .bas
 small-ends r h =
     let shared = eqb (r .base / 2 ^ 32) ((r .base + r .bound - 1) / 2 ^ 32) in
     let low = leb (r .base + r .bound) (2 ^ 48) in
-    let p = both (leb 1 (r .bound)) (leb (r .bound) (2 ^ 32) && (shared && low)) h in
-    let q = both (leb (r .bound) (2 ^ 32)) (shared && low) (p .1) in
-    (omega (arith, leb-true 1 (r .bound) (p .0)), leb-true (r .base + r .bound) (2 ^ 48) (both shared low (q .1) .1))
+    let p = and-both (leb 1 (r .bound)) (leb (r .bound) (2 ^ 32) && (shared && low)) h in
+    let q = and-both (leb (r .bound) (2 ^ 32)) (shared && low) (p .1) in
+    (omega (arith, leb-true 1 (r .bound) (p .0)), leb-true (r .base + r .bound) (2 ^ 48) (and-both shared low (q .1) .1))
 
 large-ends : (r : Region) → largeRule r ≡ true → (0 < r .bound) × (r .base + r .bound ≤ 2 ^ 48)
 large-ends r h =
     let even = eqb (r .bound % 65536) 0 in
     let some = not (eqb (r .bound) 0) in
     let low = leb (r .base + r .bound) (2 ^ 48) in
-    let p = both (eqb (r .base % 65536) 0) (even && (some && low)) h in
-    let q = both some low (both even (some && low) (p .1) .1) in
+    let p = and-both (eqb (r .base % 65536) 0) (even && (some && low)) h in
+    let q = and-both some low (and-both even (some && low) (p .1) .1) in
     let n = eqb-false (r .bound) 0 (not-true (eqb (r .bound) 0) (q .0)) in
     (omega (arith, n), leb-true (r .base + r .bound) (2 ^ 48) (q .1))
 
@@ -166,8 +161,8 @@ pub granted-inside : (r : Region) (p : ℕ) (offset : ℤ) (i : ℕ) → explici
     → (r .base ≤ byteOf (word 64 (pos (r .base) +ℤ offset)) i) × (byteOf (word 64 (pos (r .base) +ℤ offset)) i < r .base + r .bound)
 unfolding explicitGrants
 granted-inside r p offset i g =
-    let h = both (explicitRule r) (permits p r && below (offset +ℤ pos i) (r .bound)) g in
-    let q = both (permits p r) (below (offset +ℤ pos i) (r .bound)) (h .1) in
+    let h = and-both (explicitRule r) (permits p r && below (offset +ℤ pos i) (r .bound)) g in
+    let q = and-both (permits p r) (below (offset +ℤ pos i) (r .bound)) (h .1) in
     below-inside (r .base) (r .bound) i offset (omega (arith, explicit-ends r (h .0) .1)) (q .1)
 
 -- and, of a region that keeps its rule and has the permission, each byte that lies in it is granted at its distance from base

@@ -22,6 +22,7 @@ use Rattle.instructions.specs.declared.instruction.Instruction.the-variants.{Up
 use Rattle.instructions.specs.declared.instruction.Decoded.{Decoded}
 use Rattle.instructions.specs.declared.instruction.Decoded.the-variants.{Legal, Illegal}
 use Rattle.instructions.proofs.RoundTrip.{decoded-range}
+use Rattle.instructions.proofs.Tests.{and-both}
 use Rattle.model.specs.Machine.{reg, setReg, loadOp, storeOp, fetchOp, largestOptions, inside, locked, redirectsCalls, region, zeroRegions, entered, exited, machine, lastRegion}
 use Rattle.model.specs.Regions.{dataRegions, codeRegions, permissionFits, matches, firstMatch}
 use Rattle.model.specs.WellFormed.{wellFormed}
@@ -37,7 +38,6 @@ use Rattle.model.specs.declared.HfiState.{HfiState}
 use Rattle.model.specs.declared.Machine.{Machine}
 use Rattle.model.specs.declared.Verdict.{Verdict}
 use Rattle.model.specs.declared.Verdict.the-variants.{Passed, Refused, Absent}
-use Rattle.model.proofs.Intervals.{both}
 use Rattle.model.proofs.Formed.{Good, good, formed, zero-kept, changed-fits, selected-fits, entered-fits, exited-fits, handler-fits, regions-fit, fault-fits}
 use Rattle.model.proofs.Reach.{load-width, store-width, encodes}
 
@@ -125,7 +125,7 @@ match-numbered : (rs : List Region) (ns : List ℕ) (a : ℕ) → Numbered ns �
 unfolding firstMatch
 match-numbered rs [] a h = refl
 match-numbered rs (n ∷ ns) a h =
-    let p = both (leb n lastRegion) (Numbered ns) h in
+    let p = and-both (leb n lastRegion) (Numbered ns) h in
     go (matches (region rs n) a) (p .0) (match-numbered rs ns a (p .1))
   where
     go : (b : Bool) → leb n lastRegion ≡ true → leb (firstMatch rs ns a) lastRegion ≡ true → leb (cond b n (firstMatch rs ns a)) lastRegion ≡ true
@@ -277,7 +277,7 @@ module _ (m : Machine) where
   hfi-moves next SelectRegion rd rs1 rs2 n e =
       let a = reg (m .x) rs1 in
       unlocked next _ n refl refl
-      (λ g. record { zero = g .zero; state = regions-fit (m .hfi) (g .state) a (m .hfi .regions) (both (leb 1 a) (leb a lastRegion) (not-not _ e) .1) (g .state .permissions) })
+      (λ g. record { zero = g .zero; state = regions-fit (m .hfi) (g .state) a (m .hfi .regions) (and-both (leb 1 a) (leb a lastRegion) (not-not _ e) .1) (g .state .permissions) })
   hfi-moves next SetBase rd rs1 rs2 n e = changes next _ n e (λ g. selected-fits (m .hfi) (g .state) e)
   hfi-moves next GetBase rd rs1 rs2 n e = assigns m next rd _
   hfi-moves next SetBound rd rs1 rs2 n e = changes next _ n e (λ g. selected-fits (m .hfi) (g .state) e)

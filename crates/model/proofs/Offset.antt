@@ -31,6 +31,7 @@ word-sum base (negsuc n) = go (ltb base (suc n)) refl
     go true t = omega (arith, ltb-true base (suc n) t)
     go false t = omega (arith, ltb-false base (suc n) t)
 
+-- the 64 bits of the number that 64 bits stand for
 word-signed : (n : ℕ) → n < 2 ^ 64 → word 64 (signed 64 n) ≡ n
 word-signed n h = go (ltb n (2 ^ 63)) refl
   where

@@ -22,13 +22,14 @@ use Rattle.instructions.specs.declared.instruction.Instruction.{Instruction}
 use Rattle.instructions.specs.declared.instruction.Instruction.the-variants.{Load, Store, HLoad, HStore}
 use Rattle.instructions.specs.declared.instruction.Decoded.the-variants.{Legal}
 use Rattle.instructions.proofs.RoundTrip.{decode-of-encode}
+use Rattle.instructions.proofs.Tests.{and-both}
 use Rattle.model.specs.Machine.{reg, region}
 use Rattle.model.specs.Regions.{read, write, execute, permits, below, dataRegions, codeRegions, matches, firstMatch, granting, implicitGrants, explicitRule, explicitGrants}
 use Rattle.model.specs.Bytes.{byteOf}
 use Rattle.model.specs.Access.{effectiveAddress, offset, loadWidth, storeWidth, implicitAccess, explicitAccess}
 use Rattle.model.specs.Reach.{Passes, Readable, Writable, Executable}
 use Rattle.model.specs.declared.Region.{Region}
-use Rattle.model.proofs.Intervals.{both, explicit-ends, granted-inside, inside-granted}
+use Rattle.model.proofs.Intervals.{explicit-ends, granted-inside, inside-granted}
 
 -- ---- the closed forms
 
@@ -79,11 +80,11 @@ explicit-there : (rs : List Region) (n p : ℕ) (z : ℤ) (k b : ℕ) → Passes
 unfolding explicitGrants
 explicit-there rs n p z k b h =
     let r = region rs n in
-    let g = both (explicitRule r) (permits p r && below (z +ℤ pos (h .index)) (r .bound)) (h .passes) in
+    let g = and-both (explicitRule r) (permits p r && below (z +ℤ pos (h .index)) (r .bound)) (h .passes) in
     let q = granted-inside r p z (h .index) (h .passes) in
     record {
       rule = g .0;
-      permitted = both (permits p r) (below (z +ℤ pos (h .index)) (r .bound)) (g .1) .0;
+      permitted = and-both (permits p r) (below (z +ℤ pos (h .index)) (r .bound)) (g .1) .0;
       start = rw (h .there) (q .0);
       end = rw (h .there) (q .1);
     }
@@ -168,5 +169,5 @@ granted-by rs (n ∷ ns) p b X h g = go (matches (region rs n) b) refl g (grante
   where
     go : (t : Bool) → matches (region rs n) b ≡ t → granting rs p (cond t n (firstMatch rs ns b)) ≡ true
         → (granting rs p (firstMatch rs ns b) ≡ true → X) → X
-    go true e g k = h .0 e (both (not (eqb n 0)) (permits p (region rs n)) g .1)
+    go true e g k = h .0 e (and-both (not (eqb n 0)) (permits p (region rs n)) g .1)
     go false e g k = k g

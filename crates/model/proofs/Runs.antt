@@ -9,6 +9,7 @@ use native.Mathlib.Omega.{arith}
 use lib.Dec.{eqb, ltb}
 use lib.ListN.{length, getD}
 use borrow.Author.Tests.{eqb-true, eq-eqb, ne-eqb, eqb-false}
+use Rattle.instructions.proofs.Tests.{and-both}
 use Rattle.model.specs.Machine.{inside}
 use Rattle.model.specs.WellFormed.{wellFormed}
 use Rattle.model.specs.Outcome.{Outcome}
@@ -19,7 +20,6 @@ use Rattle.model.specs.Isolation.{Locked}
 use Rattle.model.specs.declared.Machine.{Machine}
 use Rattle.model.proofs.Bytes.{length-written, written-other}
 use Rattle.model.proofs.Cleared.{passing}
-use Rattle.model.proofs.Intervals.{both}
 use Rattle.model.proofs.Moves.{Settings, settings, Stored, clash, step-does}
 
 -- ---- for the loop
@@ -119,7 +119,7 @@ never-zero m mem budget =
 module _ (m : Machine) (mem : List ℕ) where
   proper-parts : ((not (eqb (step m mem .result .stop) 0) || eqb (step m mem .result .address) 0) ≡ true)
       × ((not (eqb (step m mem .result .stop) 20) && not (eqb (step m mem .result .stop) 21)) ≡ true)
-  proper-parts = both _ _ (step-does m mem .stop)
+  proper-parts = and-both _ _ (step-does m mem .stop)
 
   pub no-address : step m mem .result .stop ≡ 0 → step m mem .result .address ≡ 0
   no-address e =
@@ -127,7 +127,7 @@ module _ (m : Machine) (mem : List ℕ) where
       eqb-true _ 0 (rw z at (proper-parts .0))
 
   not-spent : step m mem .result .stop ≡ 21 → ⊥
-  not-spent e = clash (ap not (eq-eqb _ 21 e)) (both (not (eqb (step m mem .result .stop) 20)) _ (proper-parts .1) .1)
+  not-spent e = clash (ap not (eq-eqb _ 21 e)) (and-both (not (eqb (step m mem .result .stop) 20)) _ (proper-parts .1) .1)
 
 -- so it says that the budget is used up; a run that began in HFI mode is then still in it
 module _ (m : Machine) (mem : List ℕ) (budget : ℕ) (q : runCall m mem budget .result .stop ≡ 21) where
