@@ -1,14 +1,15 @@
 -- The order of signed numbers, and their shift to the right, by the code's way.
 -- Assumes nothing.
 use mathlib.Core.Path.{_≡_, refl, sym, ap, _∙_}
-use mathlib.Core.Bool.{Bool, true, false}
+use mathlib.Core.Bool.{Bool, true, false, not, true≢false}
 use Prim.Native.Nat.{ℕ, suc, _+_, _-_, _/_, _^_, _<_, _≤_}
 use native.Mathlib.Nat.{mod-eq-of-lt, lt-of-le-of-lt, div-le-self}
 use native.Mathlib.Omega.{arith}
 use lib.Dec.{ltb}
 use lib.Pow.{pow-pos, ones-split, high, ones-lt}
 use lib.Bits.{bitXor}
-use lib.Signed.{ltZ, shrZ}
+use lib.IntN.{pos, negsuc}
+use lib.Signed.{ltZ, shrZ, nonNeg}
 use borrow.Author.Tests.{ltb-true, ltb-false, lt-ltb, le-ltb}
 use Rattle.words.specs.Word.{signed, word}
 use Rattle.words.proofs.Extend.{xor-clear, xor-set, halves}
@@ -68,8 +69,32 @@ shift-high k x n h l =
     rw (le-ltb x (2 ^ (k - 1)) h, c) (rw (mod-eq-of-lt d) (omega arith))
 
 -- the test for the sign bit: x is at most, or above, the ones of k bits shifted right by one
-pub sign-clear : (k x : ℕ) → 0 < k → k ≤ 64 → x ≤ 0xffffffffffffffff / 2 ^ (64 - k) / 2 ^ 1 → x < 2 ^ (k - 1)
-sign-clear k x h l t = omega (arith, all-ones k l, halves k h, pow-pos (k - 1))
+pub sign-clear : (k x top : ℕ) → 0 < k → top ≡ 2 ^ k - 1 → x ≤ top / 2 ^ 1 → x < 2 ^ (k - 1)
+sign-clear k x top h e t = omega (arith, halves k h, pow-pos (k - 1))
 
-pub sign-set : (k x : ℕ) → 0 < k → k ≤ 64 → 0xffffffffffffffff / 2 ^ (64 - k) / 2 ^ 1 < x → 2 ^ (k - 1) ≤ x
-sign-set k x h l t = omega (arith, all-ones k l, halves k h, pow-pos (k - 1))
+pub sign-set : (k x top : ℕ) → 0 < k → top ≡ 2 ^ k - 1 → top / 2 ^ 1 < x → 2 ^ (k - 1) ≤ x
+sign-set k x top h e t = omega (arith, halves k h, pow-pos (k - 1))
+
+-- the same as one test
+pub sign-test : (k x : ℕ) → 0 < k → ltb ((2 ^ k - 1) / 2 ^ 1) x ≡ not (nonNeg (signed k x))
+sign-test k x h = go (ltb x (2 ^ (k - 1))) refl
+  where
+    go : (b : Bool) → ltb x (2 ^ (k - 1)) ≡ b → ltb ((2 ^ k - 1) / 2 ^ 1) x ≡ not (nonNeg (signed k x))
+    go true e = rw e (le-ltb _ x (omega (arith, ltb-true x (2 ^ (k - 1)) e, halves k h)))
+    go false e = rw e (lt-ltb _ x (omega (arith, ltb-false x (2 ^ (k - 1)) e, halves k h, pow-pos (k - 1))))
+
+-- what is read with the sign bit set, and with it clear
+pub negative : (k x : ℕ) → not (nonNeg (signed k x)) ≡ true → (signed k x ≡ negsuc (2 ^ k - suc x)) × (2 ^ (k - 1) ≤ x)
+negative k x = go (ltb x (2 ^ (k - 1))) refl
+  where
+    go : (b : Bool) → ltb x (2 ^ (k - 1)) ≡ b → not (nonNeg (signed k x)) ≡ true
+        → (signed k x ≡ negsuc (2 ^ k - suc x)) × (2 ^ (k - 1) ≤ x)
+    go true e f = absurd (true≢false (sym (rw e at f)))
+    go false e f = (rw e refl, ltb-false x (2 ^ (k - 1)) e)
+
+pub not-negative : (k x : ℕ) → not (nonNeg (signed k x)) ≡ false → signed k x ≡ pos x
+not-negative k x = go (ltb x (2 ^ (k - 1))) refl
+  where
+    go : (b : Bool) → ltb x (2 ^ (k - 1)) ≡ b → not (nonNeg (signed k x)) ≡ false → signed k x ≡ pos x
+    go true e f = rw e refl
+    go false e f = absurd (true≢false (rw e at f))

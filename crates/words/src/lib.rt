@@ -1,8 +1,10 @@
 // Bits of 64-bit words. The codec takes words apart and puts them together by these functions.
 ghost use mathlib.Core.Path.{_≡_};
-ghost use Prim.Native.Nat.{_+_, _*_, _^_, _<_, _≤_};
+ghost use Prim.Native.Nat.{_+_, _-_, _*_, _^_, _<_, _≤_};
 ghost use lib.Signed.{ltZ, shrZ};
 ghost use Rattle.words.specs.Word.{field, signed, word, sext, fitsSigned};
+
+pub mod integer;
 
 // The `width` bits of `x` from bit `at`.
 pub fn bits(x: u64, at: u64, width: u64) -> u64
@@ -44,15 +46,23 @@ pub fn signed_less(a: u64, b: u64) -> bool
     (a ^ 0x8000_0000_0000_0000) < (b ^ 0x8000_0000_0000_0000)
 }
 
+// The largest number of `width` bits.
+pub fn ones(width: u64) -> u64
+    requires { ⌜ (0 < width) × (width ≤ 64) ⌝ }
+    ensures { λ r. ⌜ r ≡ 2 ^ width - 1 ⌝ }
+{
+    0xffff_ffff_ffff_ffff >> (64 - width)
+}
+
 // The `width` bits `x`, read as a signed number, shifted right by `n`. Of a negative number the complement is shifted.
 pub fn shift_right_signed(x: u64, width: u64, n: u64) -> u64
     requires { ⌜ (0 < width) × (width ≤ 64) × (n < width) × (x < 2 ^ width) ⌝ }
     ensures { λ r. ⌜ r ≡ word width (shrZ (signed width x) (2 ^ n)) ⌝ }
 {
-    let ones = 0xffff_ffff_ffff_ffff >> (64 - width);
-    if x <= (ones >> 1) {
+    let top = ones(width);
+    if x <= (top >> 1) {
         x >> n
     } else {
-        ones - ((ones - x) >> n)
+        top - ((top - x) >> n)
     }
 }
