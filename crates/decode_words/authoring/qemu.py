@@ -19,7 +19,7 @@ EBREAK = 0x00100073
 
 
 def image(word):
-    """An ELF file whose one segment is the page, entered at the word: from there one falls or jumps into an EBREAK or out of memory."""
+    """An ELF file of the one page, entered at the word: from there one falls or jumps into an EBREAK or out of memory."""
     page = [EBREAK] * 1024
     page[START // 4] = word
     head = struct.pack("<16sHHIQQQIHHHHHH", b"\x7fELF\2\1\1", 2, 243, 1, PAGE + START, 64, 0, 0, 64, 56, 1, 0, 0, 0)
