@@ -12,6 +12,7 @@ import zlib
 
 HERE = os.path.dirname(os.path.abspath(__file__))
 ONES = (1 << 64) - 1
+BINUTILS = "riscv64-linux-gnu-"
 
 
 def generator():
@@ -69,6 +70,7 @@ PROGRAMS = [
     ("sieve", (0, 0, 0), (0x8000, mask(15), 3), (0, mask(12), 4), 18, primes()),
     ("matrix", (0, 0, 0), (0x4000, mask(14), 3), (0, mask(12), 4), 18, matrix()),
     ("copy", (0x2000, 0x800, 3), (0, 0, 0), (0, mask(13), 4), 20, copy()),
+    ("matrix-mul", (0, 0, 0), (0x4000, mask(14), 3), (0, mask(12), 4), 18, matrix()),
 ]
 
 
@@ -76,9 +78,9 @@ def assemble(path):
     folder = tempfile.mkdtemp()
     source, thing, image = (os.path.join(folder, n) for n in ("a.s", "a.o", "a.bin"))
     open(source, "w").write(".option norvc\n" + open(path).read())
-    subprocess.run(["riscv64-unknown-elf-as", "-march=rv64i", "-mno-relax", source, "-o", thing], check=True)
-    subprocess.run(["riscv64-unknown-elf-ld", "--no-relax", "-Ttext=0", "-e", "0", thing, "-o", thing + "2"], check=True)
-    subprocess.run(["riscv64-unknown-elf-objcopy", "-O", "binary", "-j", ".text", thing + "2", image], check=True)
+    subprocess.run([BINUTILS + "as", "-march=rv64im", "-mno-relax", source, "-o", thing], check=True)
+    subprocess.run([BINUTILS + "ld", "--no-relax", "-Ttext=0", "-e", "0", thing, "-o", thing + "2"], check=True)
+    subprocess.run([BINUTILS + "objcopy", "-O", "binary", "-j", ".text", thing + "2", image], check=True)
     blob = open(image, "rb").read()
     return struct.unpack("<%dI" % (len(blob) // 4), blob)
 

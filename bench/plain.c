@@ -1,7 +1,7 @@
-/* A plain switch interpreter of the machine of document 01, with Job 1 of
-   document 02: RV64I with HFI checks on every fetch, load and store. It is the
-   measure of speed; nothing is decoded ahead or remembered from one step to
-   the next. */
+/* A plain switch interpreter of the machine of document 01, with Jobs 1 and 2
+   of document 02: RV64I and RV64M with HFI checks on every fetch, load and
+   store. It is the measure of speed; nothing is decoded ahead or remembered
+   from one step to the next. */
 #include "machine.h"
 
 #include <string.h>
@@ -106,6 +106,30 @@ static inline int64_t extend(uint64_t v, unsigned width)
 static inline uint64_t word_value(uint64_t v)
 {
     return (uint64_t)(int64_t)(int32_t)v;
+}
+
+/* What RV64M makes of two values. C leaves the division by zero undefined, and
+   that of the most negative number by -1; so -1 divides by changing the sign. */
+static inline uint64_t product_or_quotient(unsigned funct3, uint64_t p, uint64_t q)
+{
+    switch (funct3) {
+    case 0: return p * q;
+    case 1: return (uint64_t)((__int128)(int64_t)p * (int64_t)q >> 64);
+    case 2: return (uint64_t)((__int128)(int64_t)p * (__int128)q >> 64);
+    case 3: return (uint64_t)((unsigned __int128)p * q >> 64);
+    case 4: return q == 0 ? ~(uint64_t)0 : q == ~(uint64_t)0 ? 0 - p : (uint64_t)((int64_t)p / (int64_t)q);
+    case 5: return q == 0 ? ~(uint64_t)0 : p / q;
+    case 6: return q == 0 ? p : q == ~(uint64_t)0 ? 0 : (uint64_t)((int64_t)p % (int64_t)q);
+    default: return q == 0 ? p : p % q;
+    }
+}
+
+/* The word forms: of the low halves, extended as the operation reads them. */
+static inline uint64_t word_product_or_quotient(unsigned funct3, uint64_t p, uint64_t q)
+{
+    if (funct3 & 1)
+        return word_value(product_or_quotient(funct3, (uint32_t)p, (uint32_t)q));
+    return word_value(product_or_quotient(funct3, word_value(p), word_value(q)));
 }
 
 /* Which permission bits each region has. */
@@ -289,6 +313,8 @@ static inline uint64_t one_step(struct machine *m, uint8_t *memory, size_t lengt
             case 6: v = x[rs1] | x[rs2]; break;
             default: v = x[rs1] & x[rs2]; break;
             }
+        } else if (funct7 == 1) {
+            v = product_or_quotient(funct3, x[rs1], x[rs2]);
         } else if (funct7 == 32 && funct3 == 0) {
             v = x[rs1] - x[rs2];
         } else if (funct7 == 32 && funct3 == 5) {
@@ -304,6 +330,11 @@ static inline uint64_t one_step(struct machine *m, uint8_t *memory, size_t lengt
         case 1: v = word_value(x[rs1] << (x[rs2] & 31)); break;
         case 5: v = word_value((uint32_t)x[rs1] >> (x[rs2] & 31)); break;
         case 32 << 3 | 5: v = (uint64_t)(int64_t)((int32_t)x[rs1] >> (x[rs2] & 31)); break;
+        case 1 << 3:
+        case 1 << 3 | 4:
+        case 1 << 3 | 5:
+        case 1 << 3 | 6:
+        case 1 << 3 | 7: v = word_product_or_quotient(funct3, x[rs1], x[rs2]); break;
         default: STOP(13);
         }
         goto write_rd;

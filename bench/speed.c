@@ -1,4 +1,4 @@
-/* speed RUNS: times runs of the four programs by both engines in turn, and prints the steps a second of each and the
+/* speed RUNS: times runs of the five programs by both engines in turn, and prints the steps a second of each and the
    ratio. speed ENGINE PROGRAM: one run, for counting instructions; PROGRAM from 0 on, or no run at all for 9.
    Every run starts from a fresh machine in locked HFI mode and fresh memory; only the run call is timed. Stop, steps
    and x10 are checked each time. */
@@ -76,7 +76,7 @@ int main(int argc, char **argv)
         return 0;
     }
     int runs = argc > 1 ? atoi(argv[1]) : 50;
-    printf("program      steps   plain best (median)  proved best (median)  ratio of the best (of the medians)\n");
+    printf("program        steps   plain best (median)  proved best (median)  ratio of the best (of the medians)\n");
     for (size_t p = 0; p < number; p++) {
         double rate[2], middle[2];
         double *t = malloc(2 * (size_t)runs * sizeof *t);
@@ -88,7 +88,7 @@ int main(int argc, char **argv)
             rate[e] = (double)programs[p].steps / t[e * runs] / 1e6;
             middle[e] = (double)programs[p].steps / t[e * runs + runs / 2] / 1e6;
         }
-        printf("%-8s %9.0f   %6.1f (%6.1f) M/s   %6.1f (%6.1f) M/s   %.2f (%.2f)\n", programs[p].name, (double)programs[p].steps,
+        printf("%-10s %9.0f   %6.1f (%6.1f) M/s   %6.1f (%6.1f) M/s   %.2f (%.2f)\n", programs[p].name, (double)programs[p].steps,
                rate[0], middle[0], rate[1], middle[1], rate[1] / rate[0], middle[1] / middle[0]);
         free(t);
     }
