@@ -16,8 +16,8 @@ use Rattle.instructions.specs.declared.kind.StoreKind.the-variants.{Sb, 
 use Rattle.instructions.specs.declared.kind.ImmediateKind.the-variants.{Addi, Slti, Sltiu, Xori, Ori, Andi}
 use Rattle.instructions.specs.declared.kind.ShiftKind.the-variants.{Slli, Srli, Srai}
 use Rattle.instructions.specs.declared.kind.ShiftWordKind.the-variants.{Slliw, Srliw, Sraiw}
-use Rattle.instructions.specs.declared.kind.RegisterKind.the-variants.{Add, Sub, Sll, Slt, Sltu, Xor, Srl, Sra, Or, And}
-use Rattle.instructions.specs.declared.kind.RegisterWordKind.the-variants.{Addw, Subw, Sllw, Srlw, Sraw}
+use Rattle.instructions.specs.declared.kind.RegisterKind.the-variants.{Add, Sub, Sll, Slt, Sltu, Xor, Srl, Sra, Or, And, Mul, Mulh, Mulhsu, Mulhu, Div, Divu, Rem, Remu}
+use Rattle.instructions.specs.declared.kind.RegisterWordKind.the-variants.{Addw, Subw, Sllw, Srlw, Sraw, Mulw, Divw, Divuw, Remw, Remuw}
 use Rattle.instructions.specs.declared.kind.SystemKind.the-variants.{Ecall, Ebreak}
 use Rattle.instructions.specs.declared.kind.HfiKind.the-variants.{Enter, EnterJump, Exit, SelectRegion, SetBase, GetBase, SetBound, GetBound, SetPermission, GetPermission, SetHandler, GetHandler, ResetRegions}
 use Rattle.instructions.specs.declared.instruction.Instruction.{Instruction}
@@ -86,6 +86,20 @@ rows =
     ∷ (0x00fd9b3b, RegisterWord Sllw 22 27 15)  -- sllw x22, x27, x15
     ∷ (0x00245ebb, RegisterWord Srlw 29 8 2)  -- srlw x29, x8, x2
     ∷ (0x415a52bb, RegisterWord Sraw 5 20 21)  -- sraw x5, x20, x21
+    -- "RV32M Standard Extension" and "RV64M Standard Extension"
+    ∷ (0x02e806b3, Register Mul 13 16 14)  -- mul x13, x16, x14
+    ∷ (0x021e1a33, Register Mulh 20 28 1)  -- mulh x20, x28, x1
+    ∷ (0x0334adb3, Register Mulhsu 27 9 19)  -- mulhsu x27, x9, x19
+    ∷ (0x026ab1b3, Register Mulhu 3 21 6)  -- mulhu x3, x21, x6
+    ∷ (0x03814533, Register Div 10 2 24)  -- div x10, x2, x24
+    ∷ (0x02b758b3, Register Divu 17 14 11)  -- divu x17, x14, x11
+    ∷ (0x03dd6c33, Register Rem 24 26 29)  -- rem x24, x26, x29
+    ∷ (0x0303ffb3, Register Remu 31 7 16)  -- remu x31, x7, x16
+    ∷ (0x023983bb, RegisterWord Mulw 7 19 3)  -- mulw x7, x19, x3
+    ∷ (0x035fc73b, RegisterWord Divw 14 31 21)  -- divw x14, x31, x21
+    ∷ (0x02a1d43b, RegisterWord Divuw 8 3 10)  -- divuw x8, x3, x10
+    ∷ (0x03c867bb, RegisterWord Remw 15 16 28)  -- remw x15, x16, x28
+    ∷ (0x02fdfb3b, RegisterWord Remuw 22 27 15)  -- remuw x22, x27, x15
     -- h-loads and h-stores
     ∷ (0x35b0860b, HLoad Lb 12 1 0x35b)  -- .insn i 0x0b, 0, x12, x1, 0x35b
     ∷ (0xca56998b, HLoad Lh 19 13 (2 ^ 64 - 0x35b))  -- .insn i 0x0b, 1, x19, x13, -0x35b
@@ -210,9 +224,12 @@ illegal =
     ∷ 0x0200909b  -- slliw by 32
     ∷ 0x40551ab3  -- sll with the funct7 of sra
     ∷ 0x40554ab3  -- xor, the same
-    ∷ 0x02550ab3  -- mul
+    ∷ 0x42550ab3  -- mul with the bit of sub
+    ∷ 0x04550ab3  -- no operation has funct7 2
     ∷ 0x00552abb  -- no operation on words has funct3 2
-    ∷ 0x02550abb  -- mulw
+    ∷ 0x02551abb  -- mulh has no word form
+    ∷ 0x02552abb  -- nor mulhsu
+    ∷ 0x02553abb  -- nor mulhu
     ∷ 0x0000100f  -- fence.i
     ∷ 0x30001073  -- csrw mstatus, x0
     ∷ 0x00200073  -- no system call has funct12 2

@@ -163,6 +163,14 @@ register-code RegisterKind.Srl = record { small = lit< tt; found = λ X make non
 register-code RegisterKind.Sra = record { small = lit< tt; found = λ X make none. refl }
 register-code RegisterKind.Or = record { small = lit< tt; found = λ X make none. refl }
 register-code RegisterKind.And = record { small = lit< tt; found = λ X make none. refl }
+register-code RegisterKind.Mul = record { small = lit< tt; found = λ X make none. refl }
+register-code RegisterKind.Mulh = record { small = lit< tt; found = λ X make none. refl }
+register-code RegisterKind.Mulhsu = record { small = lit< tt; found = λ X make none. refl }
+register-code RegisterKind.Mulhu = record { small = lit< tt; found = λ X make none. refl }
+register-code RegisterKind.Div = record { small = lit< tt; found = λ X make none. refl }
+register-code RegisterKind.Divu = record { small = lit< tt; found = λ X make none. refl }
+register-code RegisterKind.Rem = record { small = lit< tt; found = λ X make none. refl }
+register-code RegisterKind.Remu = record { small = lit< tt; found = λ X make none. refl }
 
 pub register-word-code : (k : RegisterWordKind) → Found registerWordCode registerWordKinds 10 k
 register-word-code RegisterWordKind.Addw = record { small = lit< tt; found = λ X make none. refl }
@@ -170,6 +178,11 @@ register-word-code RegisterWordKind.Subw = record { small = lit< tt; found = λ 
 register-word-code RegisterWordKind.Sllw = record { small = lit< tt; found = λ X make none. refl }
 register-word-code RegisterWordKind.Srlw = record { small = lit< tt; found = λ X make none. refl }
 register-word-code RegisterWordKind.Sraw = record { small = lit< tt; found = λ X make none. refl }
+register-word-code RegisterWordKind.Mulw = record { small = lit< tt; found = λ X make none. refl }
+register-word-code RegisterWordKind.Divw = record { small = lit< tt; found = λ X make none. refl }
+register-word-code RegisterWordKind.Divuw = record { small = lit< tt; found = λ X make none. refl }
+register-word-code RegisterWordKind.Remw = record { small = lit< tt; found = λ X make none. refl }
+register-word-code RegisterWordKind.Remuw = record { small = lit< tt; found = λ X make none. refl }
 
 pub system-code : (k : SystemKind) → Found systemCode systemKinds 12 k
 system-code SystemKind.Ecall = record { small = lit< tt; found = λ X make none. refl }

@@ -1,5 +1,6 @@
 -- The codes of each group's kinds: the RISC-V unprivileged specification's listings "RV32I Base
--- Instruction Set" and "RV64I Base Instruction Set", a row a line.
+-- Instruction Set", "RV64I Base Instruction Set" and, for the rows with funct7 0000001, "RV32M" and
+-- "RV64M Standard Extension", a row a line.
 -- h-prefixed words have the codes of ordinary loads and stores (document 01, "Instructions").
 -- The kinds are declared in src/kind.rt. Assumes nothing.
 use mathlib.Core.Bool.{Bool, true, false, _&&_, _||_}
@@ -22,9 +23,9 @@ use Rattle.instructions.specs.declared.kind.ShiftKind.the-variants.{Slli
 use Rattle.instructions.specs.declared.kind.ShiftWordKind.{ShiftWordKind}
 use Rattle.instructions.specs.declared.kind.ShiftWordKind.the-variants.{Slliw, Srliw, Sraiw}
 use Rattle.instructions.specs.declared.kind.RegisterKind.{RegisterKind}
-use Rattle.instructions.specs.declared.kind.RegisterKind.the-variants.{Add, Sub, Sll, Slt, Sltu, Xor, Srl, Sra, Or, And}
+use Rattle.instructions.specs.declared.kind.RegisterKind.the-variants.{Add, Sub, Sll, Slt, Sltu, Xor, Srl, Sra, Or, And, Mul, Mulh, Mulhsu, Mulhu, Div, Divu, Rem, Remu}
 use Rattle.instructions.specs.declared.kind.RegisterWordKind.{RegisterWordKind}
-use Rattle.instructions.specs.declared.kind.RegisterWordKind.the-variants.{Addw, Subw, Sllw, Srlw, Sraw}
+use Rattle.instructions.specs.declared.kind.RegisterWordKind.the-variants.{Addw, Subw, Sllw, Srlw, Sraw, Mulw, Divw, Divuw, Remw, Remuw}
 use Rattle.instructions.specs.declared.kind.SystemKind.{SystemKind}
 use Rattle.instructions.specs.declared.kind.SystemKind.the-variants.{Ecall, Ebreak}
 use Rattle.instructions.specs.declared.kind.HfiKind.{HfiKind}
@@ -119,9 +120,19 @@ registerCode Srl = functs 0b0000000 0b101
 registerCode Sra = functs 0b0100000 0b101
 registerCode Or = functs 0b0000000 0b110
 registerCode And = functs 0b0000000 0b111
+registerCode Mul = functs 0b0000001 0b000
+registerCode Mulh = functs 0b0000001 0b001
+registerCode Mulhsu = functs 0b0000001 0b010
+registerCode Mulhu = functs 0b0000001 0b011
+registerCode Div = functs 0b0000001 0b100
+registerCode Divu = functs 0b0000001 0b101
+registerCode Rem = functs 0b0000001 0b110
+registerCode Remu = functs 0b0000001 0b111
 
 abbrev pub registerKinds : List RegisterKind
-registerKinds = Add ∷ Sub ∷ Sll ∷ Slt ∷ Sltu ∷ Xor ∷ Srl ∷ Sra ∷ Or ∷ And ∷ []
+registerKinds =
+    Add ∷ Sub ∷ Sll ∷ Slt ∷ Sltu ∷ Xor ∷ Srl ∷ Sra ∷ Or ∷ And
+    ∷ Mul ∷ Mulh ∷ Mulhsu ∷ Mulhu ∷ Div ∷ Divu ∷ Rem ∷ Remu ∷ []
 
 -- funct7 and funct3 of opcode OP-32
 abbrev pub registerWordCode : RegisterWordKind → ℕ
@@ -130,9 +141,14 @@ registerWordCode Subw = functs 0b0100000 0b000
 registerWordCode Sllw = functs 0b0000000 0b001
 registerWordCode Srlw = functs 0b0000000 0b101
 registerWordCode Sraw = functs 0b0100000 0b101
+registerWordCode Mulw = functs 0b0000001 0b000
+registerWordCode Divw = functs 0b0000001 0b100
+registerWordCode Divuw = functs 0b0000001 0b101
+registerWordCode Remw = functs 0b0000001 0b110
+registerWordCode Remuw = functs 0b0000001 0b111
 
 abbrev pub registerWordKinds : List RegisterWordKind
-registerWordKinds = Addw ∷ Subw ∷ Sllw ∷ Srlw ∷ Sraw ∷ []
+registerWordKinds = Addw ∷ Subw ∷ Sllw ∷ Srlw ∷ Sraw ∷ Mulw ∷ Divw ∷ Divuw ∷ Remw ∷ Remuw ∷ []
 
 -- funct12 of opcode SYSTEM
 abbrev pub systemCode : SystemKind → ℕ

@@ -101,6 +101,22 @@ pub const OR: u64 = 0b0000000_110;
 
 pub const AND: u64 = 0b0000000_111;
 
+pub const MUL: u64 = 0b0000001_000;
+
+pub const MULH: u64 = 0b0000001_001;
+
+pub const MULHSU: u64 = 0b0000001_010;
+
+pub const MULHU: u64 = 0b0000001_011;
+
+pub const DIV: u64 = 0b0000001_100;
+
+pub const DIVU: u64 = 0b0000001_101;
+
+pub const REM: u64 = 0b0000001_110;
+
+pub const REMU: u64 = 0b0000001_111;
+
 // funct7 and funct3 of opcode OP-32.
 pub const ADDW: u64 = 0b0000000_000;
 
@@ -111,6 +127,16 @@ pub const SLLW: u64 = 0b0000000_001;
 pub const SRLW: u64 = 0b0000000_101;
 
 pub const SRAW: u64 = 0b0100000_101;
+
+pub const MULW: u64 = 0b0000001_000;
+
+pub const DIVW: u64 = 0b0000001_100;
+
+pub const DIVUW: u64 = 0b0000001_101;
+
+pub const REMW: u64 = 0b0000001_110;
+
+pub const REMUW: u64 = 0b0000001_111;
 
 // funct12 of opcode SYSTEM.
 pub const ECALL: u64 = 0;
@@ -253,6 +279,14 @@ impl RegisterKind {
             RegisterKind::Sra => SRA,
             RegisterKind::Or => OR,
             RegisterKind::And => AND,
+            RegisterKind::Mul => MUL,
+            RegisterKind::Mulh => MULH,
+            RegisterKind::Mulhsu => MULHSU,
+            RegisterKind::Mulhu => MULHU,
+            RegisterKind::Div => DIV,
+            RegisterKind::Divu => DIVU,
+            RegisterKind::Rem => REM,
+            RegisterKind::Remu => REMU,
         }
     }
 }
@@ -267,6 +301,11 @@ impl RegisterWordKind {
             RegisterWordKind::Sllw => SLLW,
             RegisterWordKind::Srlw => SRLW,
             RegisterWordKind::Sraw => SRAW,
+            RegisterWordKind::Mulw => MULW,
+            RegisterWordKind::Divw => DIVW,
+            RegisterWordKind::Divuw => DIVUW,
+            RegisterWordKind::Remw => REMW,
+            RegisterWordKind::Remuw => REMUW,
         }
     }
 }

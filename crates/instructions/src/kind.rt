@@ -64,6 +64,14 @@ pub enum RegisterKind {
     Sra,
     Or,
     And,
+    Mul,
+    Mulh,
+    Mulhsu,
+    Mulhu,
+    Div,
+    Divu,
+    Rem,
+    Remu,
 }
 
 pub enum RegisterWordKind {
@@ -72,6 +80,11 @@ pub enum RegisterWordKind {
     Sllw,
     Srlw,
     Sraw,
+    Mulw,
+    Divw,
+    Divuw,
+    Remw,
+    Remuw,
 }
 
 pub enum SystemKind {

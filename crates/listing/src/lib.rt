@@ -141,6 +141,14 @@ pub fn register(code: u64, rd: u64, rs1: u64, rs2: u64) -> Decoded
         code::SRA => Legal(Instruction::Register(RegisterKind::Sra, rd, rs1, rs2)),
         code::OR => Legal(Instruction::Register(RegisterKind::Or, rd, rs1, rs2)),
         code::AND => Legal(Instruction::Register(RegisterKind::And, rd, rs1, rs2)),
+        code::MUL => Legal(Instruction::Register(RegisterKind::Mul, rd, rs1, rs2)),
+        code::MULH => Legal(Instruction::Register(RegisterKind::Mulh, rd, rs1, rs2)),
+        code::MULHSU => Legal(Instruction::Register(RegisterKind::Mulhsu, rd, rs1, rs2)),
+        code::MULHU => Legal(Instruction::Register(RegisterKind::Mulhu, rd, rs1, rs2)),
+        code::DIV => Legal(Instruction::Register(RegisterKind::Div, rd, rs1, rs2)),
+        code::DIVU => Legal(Instruction::Register(RegisterKind::Divu, rd, rs1, rs2)),
+        code::REM => Legal(Instruction::Register(RegisterKind::Rem, rd, rs1, rs2)),
+        code::REMU => Legal(Instruction::Register(RegisterKind::Remu, rd, rs1, rs2)),
         _ => Illegal,
     }
 }
@@ -154,6 +162,11 @@ pub fn register_word(code: u64, rd: u64, rs1: u64, rs2: u64) -> Decoded
         code::SLLW => Legal(Instruction::RegisterWord(RegisterWordKind::Sllw, rd, rs1, rs2)),
         code::SRLW => Legal(Instruction::RegisterWord(RegisterWordKind::Srlw, rd, rs1, rs2)),
         code::SRAW => Legal(Instruction::RegisterWord(RegisterWordKind::Sraw, rd, rs1, rs2)),
+        code::MULW => Legal(Instruction::RegisterWord(RegisterWordKind::Mulw, rd, rs1, rs2)),
+        code::DIVW => Legal(Instruction::RegisterWord(RegisterWordKind::Divw, rd, rs1, rs2)),
+        code::DIVUW => Legal(Instruction::RegisterWord(RegisterWordKind::Divuw, rd, rs1, rs2)),
+        code::REMW => Legal(Instruction::RegisterWord(RegisterWordKind::Remw, rd, rs1, rs2)),
+        code::REMUW => Legal(Instruction::RegisterWord(RegisterWordKind::Remuw, rd, rs1, rs2)),
         _ => Illegal,
     }
 }

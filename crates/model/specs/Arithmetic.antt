@@ -1,11 +1,13 @@
--- What RV64I's operations make of two values, over the width of the operands (specification, chapters "RV32I" and "RV64I").
+-- What the operations make of two values, over the width of the operands (specification, chapters "RV32I", "RV64I" and "M").
 -- The kinds are declared in instructions/src/kind.rt. Assumes nothing.
 use mathlib.Core.Bool.{Bool, not, cond}
 use Prim.Native.Nat.{ℕ, _+_, _-_, _*_, _/_, _%_, _^_}
 use lib.Dec.{eqb, ltb}
 use lib.Bits.{bitAnd, bitOr, bitXor}
+use lib.IntN.{pos, _*ℤ_}
 use lib.Signed.{ltZ, shrZ}
 use Rattle.words.specs.Word.{field, signed, word, sext}
+use Rattle.words.specs.Integer.{lowHalf, highHalf, quotient, remainder}
 use Rattle.instructions.specs.declared.kind.BranchKind.{BranchKind}
 use Rattle.instructions.specs.declared.kind.BranchKind.the-variants.{Beq, Bne, Blt, Bge, Bltu, Bgeu}
 use Rattle.instructions.specs.declared.kind.LoadKind.{LoadKind}
@@ -17,9 +19,9 @@ use Rattle.instructions.specs.declared.kind.ShiftKind.the-variants.{Slli, Srli,
 use Rattle.instructions.specs.declared.kind.ShiftWordKind.{ShiftWordKind}
 use Rattle.instructions.specs.declared.kind.ShiftWordKind.the-variants.{Slliw, Srliw, Sraiw}
 use Rattle.instructions.specs.declared.kind.RegisterKind.{RegisterKind}
-use Rattle.instructions.specs.declared.kind.RegisterKind.the-variants.{Add, Sub, Sll, Slt, Sltu, Xor, Srl, Sra, Or, And}
+use Rattle.instructions.specs.declared.kind.RegisterKind.the-variants.{Add, Sub, Sll, Slt, Sltu, Xor, Srl, Sra, Or, And, Mul, Mulh, Mulhsu, Mulhu, Div, Divu, Rem, Remu}
 use Rattle.instructions.specs.declared.kind.RegisterWordKind.{RegisterWordKind}
-use Rattle.instructions.specs.declared.kind.RegisterWordKind.the-variants.{Addw, Subw, Sllw, Srlw, Sraw}
+use Rattle.instructions.specs.declared.kind.RegisterWordKind.the-variants.{Addw, Subw, Sllw, Srlw, Sraw, Mulw, Divw, Divuw, Remw, Remuw}
 
 -- a < b, read as signed numbers of w bits
 abbrev pub signedLess : ℕ → ℕ → ℕ → Bool
@@ -41,6 +43,14 @@ operate w Srl a b = a / 2 ^ (b % w)
 operate w Sra a b = word w (shrZ (signed w a) (2 ^ (b % w)))
 operate w Or a b = bitOr a b
 operate w And a b = bitAnd a b
+operate w Mul a b = lowHalf w (signed w a *ℤ signed w b)
+operate w Mulh a b = highHalf w (signed w a *ℤ signed w b)
+operate w Mulhsu a b = highHalf w (signed w a *ℤ pos b)
+operate w Mulhu a b = highHalf w (pos a *ℤ pos b)
+operate w Div a b = quotient w (signed w a) (signed w b)
+operate w Divu a b = quotient w (pos a) (pos b)
+operate w Rem a b = remainder w (signed w a) (signed w b)
+operate w Remu a b = remainder w (pos a) (pos b)
 
 -- a word form: the operation on the low 32 bits, its result sign extended
 abbrev pub operateWord : RegisterKind → ℕ → ℕ → ℕ
@@ -53,6 +63,11 @@ ofRegisterWord Subw = Sub
 ofRegisterWord Sllw = Sll
 ofRegisterWord Srlw = Srl
 ofRegisterWord Sraw = Sra
+ofRegisterWord Mulw = Mul
+ofRegisterWord Divw = Div
+ofRegisterWord Divuw = Divu
+ofRegisterWord Remw = Rem
+ofRegisterWord Remuw = Remu
 
 abbrev pub ofImmediate : ImmediateKind → RegisterKind
 ofImmediate Addi = Add
