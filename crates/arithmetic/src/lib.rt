@@ -14,6 +14,14 @@ use instructions::kind::ShiftWordKind;
 use std::num::wrapping_add_u64;
 use std::num::wrapping_sub_u64;
 use words::bits;
+use words::integer::divide;
+use words::integer::divide_signed;
+use words::integer::multiply;
+use words::integer::multiply_high;
+use words::integer::multiply_high_mixed;
+use words::integer::multiply_high_signed;
+use words::integer::remainder;
+use words::integer::remainder_signed;
 use words::shift_right_signed;
 use words::sign_extend;
 use words::signed_less;
@@ -39,6 +47,14 @@ pub fn operate(k: RegisterKind, a: u64, b: u64) -> u64
         RegisterKind::Sra => shift_right_signed(a, 64, b % 64),
         RegisterKind::Or => a | b,
         RegisterKind::And => a & b,
+        RegisterKind::Mul => multiply(a, b),
+        RegisterKind::Mulh => multiply_high_signed(a, b),
+        RegisterKind::Mulhsu => multiply_high_mixed(a, b),
+        RegisterKind::Mulhu => multiply_high(a, b),
+        RegisterKind::Div => divide_signed(a, b, 64),
+        RegisterKind::Divu => divide(a, b, 64),
+        RegisterKind::Rem => remainder_signed(a, b, 64),
+        RegisterKind::Remu => remainder(a, b),
     }
 }
 
@@ -53,6 +69,11 @@ fn operate_32(k: RegisterWordKind, a: u64, b: u64) -> u64
         RegisterWordKind::Sllw => bits(a << (b % 32), 0, 32),
         RegisterWordKind::Srlw => a >> (b % 32),
         RegisterWordKind::Sraw => shift_right_signed(a, 32, b % 32),
+        RegisterWordKind::Mulw => bits(a * b, 0, 32),
+        RegisterWordKind::Divw => divide_signed(a, b, 32),
+        RegisterWordKind::Divuw => divide(a, b, 32),
+        RegisterWordKind::Remw => remainder_signed(a, b, 32),
+        RegisterWordKind::Remuw => remainder(a, b),
     }
 }
 

@@ -47,7 +47,7 @@ exact a b =
     ap₂ (λ (m n : ℕ). m * n) p q ∙ cross-terms (a / 2 ^ 32) (a % 2 ^ 32) (b / 2 ^ 32) (b % 2 ^ 32) (2 ^ 32)
 
 -- a product of two halves leaves room for two halves more
-half-product : (m n : ℕ) → m < 2 ^ 32 → n < 2 ^ 32 → m * n ≤ 0xfffffffe00000001
+pub half-product : (m n : ℕ) → m < 2 ^ 32 → n < 2 ^ 32 → m * n ≤ 0xfffffffe00000001
 half-product m n h l =
     let p : m ≤ 0xffffffff = omega arith in
     let q : n ≤ 0xffffffff = omega arith in

@@ -7,13 +7,13 @@ use native.Mathlib.Nat.{mod-eq-of-lt, mod-zero, mod-le, mod-self, div-le-self, l
 use native.Mathlib.Omega.{arith}
 use lib.Dec.{eqb}
 use lib.IntN.{ℤ, pos, negsuc, negℤ, natAbs}
-use lib.Pow.{pow-pos}
+use lib.Pow.{pow-pos, ones-lt}
 use lib.Signed.{quotZ, remZ, nonNeg}
 use borrow.Author.Tests.{lt-ltb, eqb-true, eqb-false, eq-eqb, ne-eqb, not-true, not-false}
 use Rattle.words.specs.Word.{signed, word}
 use Rattle.words.specs.Integer.{quotient, remainder}
 use Rattle.words.proofs.Signed.{negative, not-negative}
-use Rattle.words.proofs.Residues.{word-neg}
+use Rattle.words.proofs.Residues.{word-lt, word-neg}
 
 -- n or -n
 abbrev pub signedBy : Bool → ℕ → ℤ
@@ -81,6 +81,14 @@ pub quotient-word : (w : ℕ) (n d : ℤ) → (natAbs d ≡ 0 → ⊥) → quoti
 unfolding quotient
 quotient-word w n d e = rw (ne-eqb (natAbs d) 0 e) refl
 
+pub quotient-lt : (w : ℕ) (n d : ℤ) → quotient w n d < 2 ^ w
+unfolding quotient
+quotient-lt w n d = go (eqb (natAbs d) 0) refl
+  where
+    go : (b : Bool) → eqb (natAbs d) 0 ≡ b → quotient w n d < 2 ^ w
+    go true e = rw e (ones-lt w)
+    go false e = rw e (word-lt w (quotZ n d))
+
 pub quotient-unsigned : (w a b : ℕ) → a < 2 ^ w → (b ≡ 0 → ⊥) → quotient w (pos a) (pos b) ≡ a / b
 quotient-unsigned w a b h e = quotient-word w (pos a) (pos b) e ∙ mod-eq-of-lt (lt-of-le-of-lt (div-le-self a b) h)
 
@@ -98,6 +106,9 @@ remainder-word w n d = go (eqb (natAbs d) 0) refl
     go : (b : Bool) → eqb (natAbs d) 0 ≡ b → remainder w n d ≡ word w (remZ n d)
     go true e = rw e (ap (word w) (rem-zero n d (eqb-true (natAbs d) 0 e)))
     go false e = rw e refl
+
+pub remainder-lt : (w : ℕ) (n d : ℤ) → remainder w n d < 2 ^ w
+remainder-lt w n d = rw (remainder-word w n d) (word-lt w (remZ n d))
 
 pub remainder-unsigned : (w a b : ℕ) → a < 2 ^ w → remainder w (pos a) (pos b) ≡ a % b
 remainder-unsigned w a b h = remainder-word w (pos a) (pos b) ∙ mod-eq-of-lt (lt-of-le-of-lt (mod-le a b) h)

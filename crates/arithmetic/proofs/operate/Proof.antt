@@ -59,6 +59,54 @@ enum-told-9 c = search needs
 enum-told-10 : tie.Need-enum-told-10
 enum-told-10 c = search needs
 
+enum-told-11 : tie.Need-enum-told-11
+enum-told-11 c = search needs
+
+multiply-requires : tie.Need-multiply-requires
+multiply-requires c κs = search needs
+
+enum-told-12 : tie.Need-enum-told-12
+enum-told-12 c = search needs
+
+multiply-high-signed-requires : tie.Need-multiply-high-signed-requires
+multiply-high-signed-requires c κs = search needs
+
+enum-told-13 : tie.Need-enum-told-13
+enum-told-13 c = search needs
+
+multiply-high-mixed-requires : tie.Need-multiply-high-mixed-requires
+multiply-high-mixed-requires c κs = search needs
+
+enum-told-14 : tie.Need-enum-told-14
+enum-told-14 c = search needs
+
+multiply-high-requires : tie.Need-multiply-high-requires
+multiply-high-requires c κs = search needs
+
+enum-told-15 : tie.Need-enum-told-15
+enum-told-15 c = search needs
+
+divide-signed-requires : tie.Need-divide-signed-requires
+divide-signed-requires c κs = search needs
+
+enum-told-16 : tie.Need-enum-told-16
+enum-told-16 c = search needs
+
+divide-requires : tie.Need-divide-requires
+divide-requires c κs = search needs
+
+enum-told-17 : tie.Need-enum-told-17
+enum-told-17 c = search needs
+
+remainder-signed-requires : tie.Need-remainder-signed-requires
+remainder-signed-requires c κs = search needs
+
+enum-told-18 : tie.Need-enum-told-18
+enum-told-18 c = search needs
+
+remainder-requires : tie.Need-remainder-requires
+remainder-requires c κs = search needs
+
 returns : tie.Need-returns
 returns c = rw (c .before .enum-told .given .1, c .wrapping-add-u64 .ensures)
 
@@ -92,6 +140,30 @@ returns-9 c = rw (c .enum-told9 .given .1)
 returns-10 : tie.Need-returns-10
 returns-10 c = rw (c .enum-told10 .given .1)
 
+returns-11 : tie.Need-returns-11
+returns-11 c = rw (c .before .enum-told11 .given .1, c .multiply .ensures)
+
+returns-12 : tie.Need-returns-12
+returns-12 c = rw (c .before .enum-told12 .given .1, c .multiply-high-signed .ensures)
+
+returns-13 : tie.Need-returns-13
+returns-13 c = rw (c .before .enum-told13 .given .1, c .multiply-high-mixed .ensures)
+
+returns-14 : tie.Need-returns-14
+returns-14 c = rw (c .before .enum-told14 .given .1, c .multiply-high .ensures)
+
+returns-15 : tie.Need-returns-15
+returns-15 c = rw (c .before .enum-told15 .given .1, c .divide-signed .ensures)
+
+returns-16 : tie.Need-returns-16
+returns-16 c = rw (c .before .enum-told16 .given .1, c .divide .ensures)
+
+returns-17 : tie.Need-returns-17
+returns-17 c = rw (c .before .enum-told17 .given .1, c .remainder-signed .ensures)
+
+returns-18 : tie.Need-returns-18
+returns-18 c = rw (c .before .enum-told18 .given .1, c .remainder .ensures)
+
 pub operate-spec : {M : Type 1} → statement M
 operate-spec =
     tie.close
@@ -114,6 +186,22 @@ operate-spec =
     shift-right-signed-requires
     enum-told-9
     enum-told-10
+    enum-told-11
+    multiply-requires
+    enum-told-12
+    multiply-high-signed-requires
+    enum-told-13
+    multiply-high-mixed-requires
+    enum-told-14
+    multiply-high-requires
+    enum-told-15
+    divide-signed-requires
+    enum-told-16
+    divide-requires
+    enum-told-17
+    remainder-signed-requires
+    enum-told-18
+    remainder-requires
     returns
     returns-2
     returns-3
@@ -123,4 +211,12 @@ operate-spec =
     returns-7
     returns-8
     returns-9
-    returns-10)
+    returns-10
+    returns-11
+    returns-12
+    returns-13
+    returns-14
+    returns-15
+    returns-16
+    returns-17
+    returns-18)

@@ -1,8 +1,12 @@
-use mathlib.Core.Path.{refl}
+use mathlib.Core.Path.{refl, sym, _∙_}
 use Prim.Native.Nat.{_%_, _^_}
+use native.Mathlib.Omega.{arith}
 use lib.Signed.{shrZ}
 use Rattle.words.specs.Word.{signed}
-use Rattle.arithmetic.proofs.Word.{word-lt, shift-lt, low, low-of-wrapped}
+use Rattle.words.proofs.Residues.{word-lt}
+use Rattle.words.proofs.Products.{low-signed, half-product}
+use Rattle.words.proofs.Quotients.{quotient-lt, remainder-lt}
+use Rattle.arithmetic.proofs.Word.{shift-lt, low, low-of-wrapped, narrow}
 use borrow.Author.Needs.{needs}
 use Rattle.arithmetic.proofs.operate_32.Statement.{statement}
 use Rattle.arithmetic.proofs.operate_32.Tie as tie
@@ -49,6 +53,39 @@ enum-told-5 c = search needs
 shift-right-signed-requires : tie.Need-shift-right-signed-requires
 shift-right-signed-requires c κs = search needs
 
+enum-told-6 : tie.Need-enum-told-6
+enum-told-6 c = search needs
+
+mul-bits : tie.Need-mul-bits
+mul-bits c = let s = c .before .before in omega (arith, half-product (s .args .a) (s .args .b) (s .pre .0) (s .pre .1))
+
+bits-requires-4 : tie.Need-bits-requires-4
+bits-requires-4 c κs = search needs
+
+enum-told-7 : tie.Need-enum-told-7
+enum-told-7 c = search needs
+
+divide-signed-requires : tie.Need-divide-signed-requires
+divide-signed-requires c κs = search needs
+
+enum-told-8 : tie.Need-enum-told-8
+enum-told-8 c = search needs
+
+divide-requires : tie.Need-divide-requires
+divide-requires c κs = search needs
+
+enum-told-9 : tie.Need-enum-told-9
+enum-told-9 c = search needs
+
+remainder-signed-requires : tie.Need-remainder-signed-requires
+remainder-signed-requires c κs = search needs
+
+enum-told-10 : tie.Need-enum-told-10
+enum-told-10 c = search needs
+
+remainder-requires : tie.Need-remainder-requires
+remainder-requires c κs = search needs
+
 returns : tie.Need-returns
 returns c = rw (c .before .enum-told .given .1) (low _ (c .bits .ensures))
 
@@ -66,6 +103,27 @@ returns-5 c =
     let a = c .before .before .before .args in
     let e = c .shift-right-signed .ensures in
     rw (c .before .enum-told5 .given .1) (e, rw e (word-lt 32 (shrZ (signed 32 (a .a)) (2 ^ (a .b % 32)))))
+
+returns-6 : tie.Need-returns-6
+returns-6 c =
+    let s = c .before .before .before in
+    let e = low _ (c .bits4 .ensures) in
+    rw (c .before .enum-told6 .given .1) (e .0 ∙ sym (low-signed 32 (s .args .a) (s .args .b) (s .pre .0) (s .pre .1)), e .1)
+
+returns-7 : tie.Need-returns-7
+returns-7 c = let e = c .divide-signed .ensures in rw (c .before .enum-told7 .given .1) (e, rw e (quotient-lt 32 _ _))
+
+returns-8 : tie.Need-returns-8
+returns-8 c = let e = c .divide .ensures in rw (c .before .enum-told8 .given .1) (e, rw e (quotient-lt 32 _ _))
+
+returns-9 : tie.Need-returns-9
+returns-9 c = let e = c .remainder-signed .ensures in rw (c .before .enum-told9 .given .1) (e, rw e (remainder-lt 32 _ _))
+
+returns-10 : tie.Need-returns-10
+returns-10 c =
+    let s = c .before .before .before in
+    let e = c .remainder .ensures ∙ narrow (s .args .a) (s .args .b) (s .pre .0) in
+    rw (c .before .enum-told10 .given .1) (e, rw e (remainder-lt 32 _ _))
 
 pub operate-32-spec : {M : Type 1} → statement M
 operate-32-spec =
@@ -85,8 +143,24 @@ operate-32-spec =
     shr-result
     enum-told-5
     shift-right-signed-requires
+    enum-told-6
+    mul-bits
+    bits-requires-4
+    enum-told-7
+    divide-signed-requires
+    enum-told-8
+    divide-requires
+    enum-told-9
+    remainder-signed-requires
+    enum-told-10
+    remainder-requires
     returns
     returns-2
     returns-3
     returns-4
-    returns-5)
+    returns-5
+    returns-6
+    returns-7
+    returns-8
+    returns-9
+    returns-10)
