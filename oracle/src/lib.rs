@@ -7,6 +7,7 @@
 pub mod calls;
 pub mod compare;
 pub mod instruction;
+pub mod m_words;
 pub mod machine;
 pub mod numbers;
 #[cfg(feature = "proved")]

@@ -329,7 +329,7 @@ fn remainder(dividend: i128, divisor: i128) -> u64 {
     wrap(if divisor == 0 { dividend } else { dividend % divisor })
 }
 
-fn register_value(kind: RegisterKind, a: u64, b: u64) -> u64 {
+pub fn register_value(kind: RegisterKind, a: u64, b: u64) -> u64 {
     let low = |a: u64| low_word(a) as i128;
     match kind {
         RegisterKind::Add => wrap(a as i128 + b as i128),

@@ -70,16 +70,40 @@ fn calls() {
     assert!(oracle::calls::directed().len() >= 774);
 }
 
+fn authored(name: &str) -> String {
+    text(&format!("crates/values/authoring/{name}.columns"))
+}
+
+fn good(report: oracle::vectors::Report, least: usize) {
+    assert_eq!(report.failed, 0, "{:?}", report.lines);
+    assert!(report.passed >= least, "{} passed", report.passed);
+}
+
 #[test]
 fn values() {
-    let report = oracle::vectors::check_columns(&text("crates/values/authoring/values.columns"));
-    assert_eq!(report.failed, 0, "{:?}", report.lines);
-    assert!(report.passed > 1000);
+    good(oracle::vectors::check_columns(&authored("values")), 1207);
 }
 
 #[test]
 fn words() {
-    let report = oracle::vectors::check_words(&text("crates/decode_words/authoring/words.columns"));
-    assert_eq!(report.failed, 0, "{:?}", report.lines);
-    assert!(report.passed > 5000);
+    good(oracle::vectors::check_words(&text("crates/decode_words/authoring/words.columns")), 6588);
+}
+
+#[test]
+fn llvm() {
+    good(oracle::vectors::check_llvm_columns(&text("crates/decode_words/authoring/llvm.columns")), 169);
+}
+
+#[test]
+fn dart() {
+    for (name, least) in [("dart-rv64i", 362), ("dart-rv64m", 104), ("dart-beyond", 176)] {
+        good(oracle::vectors::check_dart_columns(&authored(name), &mut oracle::run), least);
+    }
+}
+
+/// Each of the 13 with 22 times 22 pairs of operands, QEMU's results.
+#[test]
+fn rv64m_table() {
+    let (operands, words, results) = (authored("operands"), authored("rv64m"), authored("rv64m-results"));
+    good(oracle::vectors::check_table(&operands, &words, &results, &mut oracle::run), 13 * 22 * 22);
 }
