@@ -329,6 +329,22 @@ fn word_at(memory: &[u8], pc: u64) -> Option<u32> {
     Some(u32::from_le_bytes(bytes.try_into().unwrap()))
 }
 
+/// Counts a word that was fetched by its instruction, its stop and its classes.
+fn count_word(before: &Machine, instruction: &Instruction, stop: u64, counts: &mut Counts) {
+    let entry = counts.instructions.entry(name(instruction)).or_default();
+    if stop == 0 {
+        entry.0 += 1;
+    } else {
+        entry.1 += 1;
+    }
+    m_words::count(before, instruction, &mut counts.m_words);
+    if let (Some(n), Some(h)) = (h_number(instruction), HWord::of(before, instruction)) {
+        for (class, _, _) in H_CLASSES.into_iter().filter(|(_, _, test)| test(&h)) {
+            counts.h_words.entry(class).or_default()[n] += 1;
+        }
+    }
+}
+
 /// One step of both engines; the left one is the measure. Answers whether the
 /// step completed.
 pub fn compare_step(
@@ -344,18 +360,7 @@ pub fn compare_step(
     let a = left.step(machine, memory).expect("the measure steps");
     *counts.step_stops.entry(a.0).or_default() += 1;
     if let (Some(instruction), true) = (word.and_then(decode), ![1, 3, 10, 11, 12].contains(&a.0)) {
-        let entry = counts.instructions.entry(name(&instruction)).or_default();
-        if a.0 == 0 {
-            entry.0 += 1;
-        } else {
-            entry.1 += 1;
-        }
-        m_words::count(&before, &instruction, &mut counts.m_words);
-        if let (Some(n), Some(h)) = (h_number(&instruction), HWord::of(&before, &instruction)) {
-            for (class, _, _) in H_CLASSES.into_iter().filter(|(_, _, test)| test(&h)) {
-                counts.h_words.entry(class).or_default()[n] += 1;
-            }
-        }
+        count_word(&before, &instruction, a.0, counts);
     }
     if let Some(b) = right.step(&mut m, &mut bytes) {
         counts.compared += 1;
@@ -733,6 +738,13 @@ pub fn print_counts(counts: &Counts) {
     for (name, (completed, stopped)) in &counts.instructions {
         println!("  {name} {completed} {stopped}");
     }
+    print_classes(counts);
+    for difference in &counts.differences {
+        println!("DIFFERENCE {difference}");
+    }
+}
+
+fn print_classes(counts: &Counts) {
     println!("h-words in HFI mode, region 1 grants: {}", H_NAMES.join(" "));
     for (class, _, _) in H_CLASSES {
         let met = counts.h_words.get(class).copied().unwrap_or_default();
@@ -742,8 +754,5 @@ pub fn print_counts(counts: &Counts) {
     for (class, _, _) in M_CLASSES {
         let met = counts.m_words.get(class).copied().unwrap_or_default();
         println!("  {class}: {}", met.map(|count| count.to_string()).join(" "));
-    }
-    for difference in &counts.differences {
-        println!("DIFFERENCE {difference}");
     }
 }

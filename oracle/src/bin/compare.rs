@@ -271,7 +271,7 @@ fn stored(engine: &dyn Engine, counts: &mut Counts) {
         }
         println!("words: {passed} passed, {failed} failed");
     }
-    let (directed, random) = (oracle::calls::directed(), oracle::calls::random(20, oracle::calls::RANDOM));
+    let (directed, random) = (oracle::calls::directed(), oracle::calls::random());
     let (mut passed, mut failed) = (0, 0);
     for call in directed.iter().map(|row| &row.call).chain(&random) {
         let Some(answer) = call.answer(engine) else { continue };
