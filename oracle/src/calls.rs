@@ -274,7 +274,8 @@ const fn minus(number: u64) -> u64 {
 
 const LEAST: u64 = 1 << 63;
 
-/// Operands and what the 13 words make of them, in the order of `M_ROWS`.
+/// Operands and what the 13 words make of them, in the order of `M_ROWS`; the
+/// long ones by Python's whole numbers.
 const M_VALUES: [(u64, u64, [u64; 13]); 13] = [
     (20, 6, [120, 0, 0, 0, 3, 3, 2, 2, 120, 3, 3, 2, 2]),
     // 2^64 - 20 is 6 times 2aaaaaaaaaaaaaa7 and 2; 2^32 - 20 is 6 times 2aaaaaa7 and 2
