@@ -1,7 +1,7 @@
 #!/usr/bin/env python3
-"""Random RV64I programs as run sheets, with the output that QEMU's results give.
+"""Random RV64I programs as run sheets, and from p150 on RV64I and RV64M ones, with the output that QEMU's results give.
 
-Writes crates/sheets/data/p000 ... and programs.expected here (name line, then output).
+Writes crates/sheets/data/p000 ... and, if a file is named, to it the expected output (name line, then output).
 Each program runs at 1000 in HFI mode with data at 4000 to 4fff and ends by
 ECALL. The registers and the number of steps are QEMU's; the rest of the first
 line (18, pc of the ECALL, zeros) follows from document 01.
@@ -16,10 +16,11 @@ import tempfile
 HERE = os.path.dirname(os.path.abspath(__file__))
 OUT = os.path.join(HERE, "..", "..", "crates", "sheets", "data")
 CODE, DATA, STUB, DUMP = 0x1000, 0x4000, 0x8000, 0xA000
-CPU = ("rv64,c=false,m=false,a=false,f=false,d=false,"
+CPU = ("rv64,c=false,m=%s,a=false,f=false,d=false,"
        "zba=false,zbb=false,zbc=false,zbs=false,Zicsr=false,Zifencei=false")
+TOOLS = "riscv64-linux-gnu-"
 M = (1 << 64) - 1
-NUMBER = 150
+BASE, NUMBER = 150, 200     # the programs of RV64I alone, all
 
 
 def R(op, f3, f7, rd, rs1, rs2): return f7 << 25 | rs2 << 20 | rs1 << 15 | f3 << 12 | rd << 7 | op
@@ -41,6 +42,7 @@ def J(rd, off):
 
 OPS = [(0x33, f3, 0) for f3 in range(8)] + [(0x33, 0, 32), (0x33, 5, 32)]
 OPS += [(0x3b, 0, 0), (0x3b, 0, 32), (0x3b, 1, 0), (0x3b, 5, 0), (0x3b, 5, 32)]
+OPS_M = [(0x33, f3, 1) for f3 in range(8)] + [(0x3b, f3, 1) for f3 in (0, 4, 5, 6, 7)]
 
 
 def edge(r):
@@ -58,13 +60,24 @@ def edge(r):
     return r.getrandbits(64)
 
 
-def program(r):
-    """Words of the program and the start of the data. x1, x2 point into the data,
+def pair(r):
+    """Operands for RV64M words: a divisor of zero, overflow, the same in the low words alone, signs, any."""
+    dirt = [r.getrandbits(32) << 32, r.getrandbits(32) << 32]
+    small = [r.randrange(-100, 100) & M, r.choice([-7, -3, -2, -1, 1, 2, 3, 10]) & M]
+    return r.choice([(edge(r), 0), (1 << 63, M), (dirt[0] | 1 << 31, dirt[1] | 0xffffffff), (dirt[0] | edge(r) >> 32, dirt[1]),
+                     small, (small[0], small[0]), (edge(r), edge(r)), (r.getrandbits(64), r.getrandbits(64))])
+
+
+def program(r, ops, first):
+    """Words of the program, whose register operations are `ops`, and the start of the data. Each operation of `first` is
+    made once of x5 and x6, aimed, and what it gives is stored. x1, x2 point into the data,
     x4 into the middle of the code, x28 counts loops down, x30 and x31 are not used."""
     free = [n for n in range(3, 30) if n != 4 and n != 28]
     words = [U(0x37, 1, 4), I(0x13, 0, 1, 1, 0x400), U(0x37, 2, 5), I(0x13, 0, 2, 2, -0x400), U(0x37, 4, 2), I(0x13, 0, 4, 4, -0x800)]
     for i, n in enumerate(free):
         words.append(I(0x03, 3, n, 1, 8 * i - 0x400))
+    for i, op in enumerate(first):
+        words += [R(*op, 7, 5, 6), S(0x23, 3, 1, 7, 0x300 + 8 * i)]
     body = []
 
     def rd(): return r.choice(free) if r.randrange(16) else 0
@@ -82,7 +95,7 @@ def program(r):
             loop = len(body)
             body.append(I(0x13, 0, 28, 28, -1))
         elif k < 34:
-            body.append(R(*r.choice(OPS), rd(), rs(), rs()))
+            body.append(R(*r.choice(ops), rd(), rs(), rs()))
         elif k < 50:
             imm = r.choice([-2048, -1, 0, 1, 2047, r.randrange(-2048, 2048), r.randrange(-2048, 2048)])
             body.append(I(*r.choice([(0x13, 0), (0x13, 2), (0x13, 3), (0x13, 4), (0x13, 6), (0x13, 7), (0x1b, 0)]), rd(), rs(), imm))
@@ -114,6 +127,8 @@ def program(r):
     words += [U(0x37, 26, 4), U(0x37, 27, 5), I(0x03, 3, 25, 26, 0), I(0x13, 1, 24, 29, 7), I(0x13, 5, 23, 29, 57),
               R(0x33, 6, 0, 29, 24, 23), R(0x33, 4, 0, 29, 29, 25), I(0x13, 0, 26, 26, 8), B(6, 26, 27, -24), 0x73]
     data = [edge(r) for _ in range(64)] + [r.getrandbits(64) for _ in range(64)]
+    if first:
+        data[free.index(5)], data[free.index(6)] = pair(r)
     return words, data
 
 
@@ -140,9 +155,9 @@ finish:
 def assemble(folder, text, at):
     source, thing, image = (os.path.join(folder, n) for n in ("a.s", "a.o", "a.bin"))
     open(source, "w").write(text)
-    subprocess.run(["riscv64-unknown-elf-as", "-march=rv64i", "-mno-relax", source, "-o", thing], check=True)
-    subprocess.run(["riscv64-unknown-elf-ld", "--no-relax", "-Ttext=%#x" % at, "-e", "0", thing, "-o", thing + "2"], check=True)
-    subprocess.run(["riscv64-unknown-elf-objcopy", "-O", "binary", "-j", ".text", thing + "2", image], check=True)
+    subprocess.run([TOOLS + "as", "-march=rv64i", "-mno-relax", source, "-o", thing], check=True)
+    subprocess.run([TOOLS + "ld", "--no-relax", "-Ttext=%#x" % at, "-e", "0", thing, "-o", thing + "2"], check=True)
+    subprocess.run([TOOLS + "objcopy", "-O", "binary", "-j", ".text", thing + "2", image], check=True)
     return open(image, "rb").read()
 
 
@@ -154,6 +169,7 @@ def elf(image):
 
 
 def main():
+    """The expected output goes to the file that the command line names, if it names one."""
     folder = tempfile.mkdtemp()
     stub = assemble(folder, STUB_TEXT, STUB)
     os.makedirs(OUT, exist_ok=True)
@@ -161,7 +177,7 @@ def main():
     expected = []
     for number in range(NUMBER):
         r = random.Random(1000 + number)
-        words, data = program(r)
+        words, data = program(r, OPS, []) if number < BASE else program(r, OPS + 3 * OPS_M, OPS_M)
         last = CODE + 4 * (len(words) - 1)
         assert last < 0x2000
         image = bytearray(65536)
@@ -175,7 +191,7 @@ def main():
         image[STUB:STUB + len(stub)] = stub
         open(path, "wb").write(elf(bytes(image)))
         os.chmod(path, 0o755)
-        out = subprocess.run(["qemu-riscv64", "-cpu", CPU, "-singlestep", "-d", "exec,nochain", "-D", trace, path],
+        out = subprocess.run(["qemu-riscv64", "-cpu", CPU % ("false" if number < BASE else "true"), "-singlestep", "-d", "exec,nochain", "-D", trace, path],
                              stdout=subprocess.PIPE, timeout=20)
         if out.returncode != 0 or len(out.stdout) != 240:
             sys.exit("%d: qemu answered %d, %d bytes" % (number, out.returncode, len(out.stdout)))
@@ -186,7 +202,8 @@ def main():
         open(os.path.join(OUT, name), "w").write(sheet)
         expected.append("%s\n18,%x,%x,0,0,0,0,0,0\n" % (name, steps, last)
                         + "".join("%d,%x\n" % (n, values[n]) for n in range(1, 30) if values[n]))
-    open(os.path.join(HERE, "programs.expected"), "w").write("".join(expected))
+    if len(sys.argv) == 2:
+        open(sys.argv[1], "w").write("".join(expected))
     print(NUMBER, "programs")
 
 

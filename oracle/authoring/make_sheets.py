@@ -2,7 +2,8 @@
 """Writes the sheets of crates/sheets/data and the page sheets.md beside this file.
 
 Each sheet stands below with the first line of its output, worked out by hand
-from document 01, as document 02 has changed it. `oracle sheets FOLDER` then
+from document 01, as document 02 has changed it; some of RV64M with all their
+registers too. `oracle sheets FOLDER` then
 prints what the oracle makes of them, and `--check FILE` holds that against the
 lines here. `--store ORACLE` writes data/index and stdout, the answers being the
 oracle's, if its first lines are those here.
@@ -15,6 +16,7 @@ HERE = os.path.dirname(os.path.abspath(__file__))
 SHEETS = os.path.join(HERE, "..", "..", "crates", "sheets", "data")
 
 rows = []       # (name, bytes, first line, what it shows, sentence)
+registers = {}  # name: number and value of each register that is not 0
 sections = []   # (index of first row, title)
 
 
@@ -363,8 +365,12 @@ for name, word, shows in [
     ("illegal-zero", 0, "the zero word"),
     ("illegal-all-ones", 0xffffffff, "the word of ones"),
     ("illegal-half-word", 0x00000001, "a half-word"),
-    ("illegal-multiply", 0x02b50533, "MUL"),
-    ("illegal-divide-word", 0x02b5453b, "DIVW"),
+    ("illegal-multiply-bit-26", 0x06b50533, "MUL with bit 26"),
+    ("illegal-multiply-bit-30", 0x42b50533, "MUL with bit 30"),
+    ("illegal-divide-word-bit-31", 0x82b5453b, "DIVW with bit 31"),
+    ("illegal-op-32-funct3-1", 0x02b5153b, "funct7 1 of OP-32 with funct3 1: no high half of a word"),
+    ("illegal-op-32-funct3-2", 0x02b5253b, "the same with funct3 2"),
+    ("illegal-op-32-funct3-3", 0x02b5353b, "the same with funct3 3"),
     ("illegal-fence-i", 0x0000100f, "FENCE.I"),
     ("illegal-csr", 0xc0002573, "a CSR read"),
     ("illegal-ecall-with-rd", 0x000000f3, "ECALL with rd 1"),
@@ -760,6 +766,161 @@ sheet("code-changes-itself", program(lui(5, 0x500), I(0x13, 0, 5, 5, 0x513), sto
       "18,5,14,0,0,0,0,0,0", "a stored word is run (locked, readable and writable code)", "Is the word legal?")
 
 
+# ---------------------------------------------------------------- RV64M
+section("Multiplying and dividing (document 02, Job 2)")
+ADD_M = "02, Job 2: Add RV64M from the unprivileged specification: the eight 64-bit operations and the five word ones."
+BY_ZERO = "02, Job 2: Division by zero gives all ones as quotient and the dividend as remainder."
+OVERFLOW = "02, Job 2: The most negative number divided by -1 gives itself, with remainder 0."
+HIGH = "02, Job 2: The high half of a product is exact for signed, unsigned and mixed operands"
+WORDS = "02, Job 2: Word forms should share the facts of the 64-bit ones"
+LEGAL = "02, Job 2: These words are no longer stopped with 13."
+A51 = BY_ZERO + " (Reading A51: of a word form the low 32 bits, sign extended, and 64 ones.)"
+LEAST, LEAST_WORD = 1 << 63, 0xffffffff80000000
+M_OPS = {"mul": (0x33, 0), "mulh": (0x33, 1), "mulhsu": (0x33, 2), "mulhu": (0x33, 3), "div": (0x33, 4), "divu": (0x33, 5),
+         "rem": (0x33, 6), "remu": (0x33, 7), "mulw": (0x3b, 0), "divw": (0x3b, 4), "divuw": (0x3b, 5), "remw": (0x3b, 6),
+         "remuw": (0x3b, 7)}
+
+
+def m(name, rd, rs1, rs2):
+    op, f3 = M_OPS[name]
+    return R(op, f3, 1, rd, rs1, rs2)
+
+
+def m_sheet(name, content, first, shows, sentence, values):
+    """A sheet whose registers were worked out by hand too; those not named are 0."""
+    registers[name] = {n: v & ONES for n, v in values.items() if v}
+    sheet(name, content, first, shows, sentence)
+
+
+def doubles(*values):
+    """Lines of doublewords from 1000 on."""
+    return "".join("%x,%08x\n%x,%08x\n" % (0x1000 + 8 * i, v & 0xffffffff, 0x1004 + 8 * i, v >> 32 & 0xffffffff)
+                   for i, v in enumerate(values))
+
+
+def with_operands(operands, *words, **how):
+    """x5, x6 and so on are doublewords from 1000 on, x8 is 1000."""
+    loads = [load(LD, 5 + i, 8, 8 * i) for i in range(len(operands))]
+    return program(lui(8, 1), *loads, *words, ECALL, r2=DATA, more=doubles(*operands), **how)
+
+
+# Eight pairs each and what comes of them.
+CASES = {
+    "mul": [(6, 7, 42), (-6, 7, -42), (-6, -7, 42), (0, -1, 0), (1 << 32, 1 << 32, 0), (LEAST, 2, 0), (-1, -1, 1),
+            (0x123456789, 16, 0x1234567890)],
+    "mulh": [(6, 7, 0), (-6, 7, -1), (-6, -7, 0), (1 << 32, 1 << 32, 1), (LEAST, 2, -1), (LEAST, LEAST, 1 << 62), (-1, -1, 0),
+             (LEAST, LEAST - 1, 3 << 62)],
+    "mulhsu": [(6, 7, 0), (-6, 7, -1), (6, -7, 5), (-6, -7, -6), (-1, -1, -1), (LEAST, 2, -1), (2, LEAST, 1), (LEAST, -1, LEAST)],
+    "mulhu": [(6, 7, 0), (-6, 7, 6), (6, -7, 5), (-6, -7, -13), (-1, -1, -2), (LEAST, 2, 1), (LEAST, LEAST, 1 << 62),
+              (1 << 32, 1 << 32, 1)],
+    "div": [(7, 2, 3), (-7, 2, -3), (7, -2, -3), (-7, -2, 3), (7, 0, -1), (LEAST, -1, LEAST), (6, 7, 0),
+            (LEAST, 3, -0x2aaaaaaaaaaaaaaa)],
+    "divu": [(7, 2, 3), (-7, 2, 0x7ffffffffffffffc), (7, -2, 0), (-7, -2, 0), (7, 0, -1), (LEAST, -1, 0), (-1, 1, -1),
+             (-1, 10, 0x1999999999999999)],
+    "rem": [(7, 2, 1), (-7, 2, -1), (7, -2, 1), (-7, -2, -1), (7, 0, 7), (LEAST, -1, 0), (6, 7, 6), (LEAST, 3, -2)],
+    "remu": [(7, 2, 1), (-7, 2, 1), (7, -2, 7), (-7, -2, -7), (7, 0, 7), (LEAST, -1, LEAST), (-7, 0, -7), (-1, 10, 5)],
+    "mulw": [(6, 7, 42), (-6, 7, -42), (-6, -7, 42), (0x10000, 0x8000, LEAST_WORD), (0x10000, 0x10000, 0),
+             (0x80000000, -1, LEAST_WORD), (0x500000003, 0x7777777700000005, 15), (0xffffffff, 0xffffffff, 1)],
+    "divw": [(7, 2, 3), (-7, 2, -3), (7, -2, -3), (-7, -2, 3), (7, 1 << 32, -1), (0x80000000, 0xffffffff, LEAST_WORD),
+             (0xabcd000000000007, 2, 3), (0x80000000, 3, -0x2aaaaaaa)],
+    "divuw": [(7, 2, 3), (-7, 2, 0x7ffffffc), (7, -2, 0), (0xffffffff, 1, -1), (7, 0, -1), (7, 1 << 32, -1),
+              (0x80000000, 0xffffffff, 0), (0x1ffffffff, 10, 0x19999999)],
+    "remw": [(7, 2, 1), (-7, 2, -1), (7, -2, 1), (-7, -2, -1), (0x180000005, 1 << 32, LEAST_WORD + 5), (0x80000000, 0xffffffff, 0),
+             (0xabcd000000000007, 2, 1), (0x80000000, 3, -2)],
+    "remuw": [(7, 2, 1), (-7, 2, 1), (7, -2, 7), (-7, -2, -7), (0x180000005, 0, LEAST_WORD + 5), (0x80000005, 1 << 32, LEAST_WORD + 5),
+              (0x80000000, 0xffffffff, LEAST_WORD), (0x1ffffffff, 10, 5)],
+}
+for name, cases in CASES.items():
+    words, values = [lui(8, 1)], {8: 0x1000, 5: cases[7][0], 6: cases[7][1]}
+    for k, (a, b, result) in enumerate(cases):
+        words += [load(LD, 5, 8, 16 * k), load(LD, 6, 8, 16 * k + 8), m(name, 10 + k, 5, 6)]
+        values[10 + k] = result
+    shows = "x10 to x17: " + "; ".join("%x, %x: %x" % tuple(v & ONES for v in case) for case in cases)
+    more = doubles(*[v for a, b, _ in cases for v in (a, b)])
+    for mode, options in (("locked", 1), ("unlocked", 0)):
+        m_sheet("%s-%s" % (name, mode), program(*words, ECALL, options=options, r2=DATA, more=more), "18,19,64,0,0,0,0,0,0",
+                shows + ", " + mode, ADD_M, values)
+
+sheet("legal-multiply", program(NOP, 0x02b50533), "13,2,8,0,0,0,0,0,0", "MUL passes; the zero word after it is illegal", LEGAL)
+sheet("legal-divide-word", program(NOP, 0x02b5453b), "13,2,8,0,0,0,0,0,0", "DIVW passes; the zero word after it is illegal", LEGAL)
+m_sheet("divide-by-zero-quotient", program(addi(5, 0, 5), m("div", 10, 5, 0), m("divu", 11, 5, 0), m("divw", 12, 5, 0), m("divuw", 13, 5, 0), ECALL),
+        "18,5,14,0,0,0,0,0,0", "5 divided by zero: 64 ones from all four", BY_ZERO, {5: 5, 10: -1, 11: -1, 12: -1, 13: -1})
+m_sheet("divide-by-zero-remainder", program(addi(5, 0, 5), m("rem", 10, 5, 0), m("remu", 11, 5, 0), m("remw", 12, 5, 0), m("remuw", 13, 5, 0), ECALL),
+        "18,5,14,0,0,0,0,0,0", "5 divided by zero leaves 5 in all four", BY_ZERO, {5: 5, 10: 5, 11: 5, 12: 5, 13: 5})
+m_sheet("divide-by-zero-negative", program(addi(5, 0, -5), *[m(n, 10 + i, 5, 0) for i, n in enumerate(["div", "divu", "rem", "remu", "divw", "divuw", "remw", "remuw"])],
+        ECALL), "18,9,24,0,0,0,0,0,0", "-5 divided by zero: ones, and -5", BY_ZERO, {5: -5, 10: -1, 11: -1, 12: -5, 13: -5, 14: -1, 15: -1, 16: -5, 17: -5})
+m_sheet("divide-zero-by-zero", program(*[m(n, 10 + i, 0, 0) for i, n in enumerate(["div", "divu", "rem", "remu", "divw", "divuw", "remw", "remuw"])], ECALL),
+        "18,8,20,0,0,0,0,0,0", "x0 divided by x0: ones, and 0", BY_ZERO, {10: -1, 11: -1, 14: -1, 15: -1})
+m_sheet("divide-by-zero-word-remainder", with_operands([0x1234567880000005], m("remw", 10, 5, 0), m("remuw", 11, 5, 0), m("rem", 12, 5, 0), m("remu", 13, 5, 0)),
+        "18,6,18,0,0,0,0,0,0", "the low word 80000005 sign extended, signed or not; the 64-bit forms leave all of it", A51,
+        {5: 0x1234567880000005, 8: 0x1000, 10: LEAST_WORD + 5, 11: LEAST_WORD + 5, 12: 0x1234567880000005, 13: 0x1234567880000005})
+m_sheet("divide-by-zero-low-word", with_operands([0x700000009, 1 << 32], m("divw", 10, 5, 6), m("divuw", 11, 5, 6), m("remw", 12, 5, 6), m("remuw", 13, 5, 6),
+        m("div", 14, 5, 6), m("remu", 15, 5, 6)), "18,9,24,0,0,0,0,0,0", "a divisor of 2^32 is zero to a word form only", A51,
+        {5: 0x700000009, 6: 1 << 32, 8: 0x1000, 10: -1, 11: -1, 12: 9, 13: 9, 14: 7, 15: 9})
+m_sheet("divide-overflow", program(addi(5, 0, 1), slli(5, 5, 63), addi(6, 0, -1), m("div", 10, 5, 6), m("rem", 11, 5, 6), m("divu", 12, 5, 6), m("remu", 13, 5, 6),
+        ECALL), "18,7,1c,0,0,0,0,0,0", "-2^63 divided by -1; unsigned it is the smaller number", OVERFLOW, {5: LEAST, 6: -1, 10: LEAST, 13: LEAST})
+m_sheet("divide-overflow-word", program(lui(5, 0x80000), addi(6, 0, -1), m("divw", 10, 5, 6), m("remw", 11, 5, 6), m("div", 12, 5, 6), m("divuw", 13, 5, 6),
+        m("remuw", 14, 5, 6), ECALL), "18,7,1c,0,0,0,0,0,0", "-2^31 divided by -1; DIV has room for 2^31", OVERFLOW,
+        {5: LEAST_WORD, 6: -1, 10: LEAST_WORD, 12: 0x80000000, 14: LEAST_WORD})
+m_sheet("divide-overflow-word-upper-half", with_operands([0x1234567880000000, 0x9abcdef0ffffffff], m("divw", 10, 5, 6), m("remw", 11, 5, 6), m("rem", 12, 5, 6)),
+        "18,6,18,0,0,0,0,0,0", "the same below other upper halves", OVERFLOW,
+        {5: 0x1234567880000000, 6: 0x9abcdef0ffffffff, 8: 0x1000, 10: LEAST_WORD, 12: 0x1234567880000000})
+m_sheet("divide-least-by-one", program(addi(5, 0, 1), slli(5, 5, 63), addi(6, 0, 1), m("div", 10, 5, 6), m("rem", 11, 5, 6), ECALL),
+        "18,5,14,0,0,0,0,0,0", "-2^63 divided by 1 is itself too", ADD_M, {5: LEAST, 6: 1, 10: LEAST})
+m_sheet("divide-rounds-toward-zero", program(addi(5, 0, -1), addi(6, 0, 2), m("div", 10, 5, 6), m("rem", 11, 5, 6), m("divw", 12, 5, 6), m("remw", 13, 5, 6),
+        ECALL), "18,6,18,0,0,0,0,0,0", "-1 by 2 is 0, and -1 remains", ADD_M, {5: -1, 6: 2, 11: -1, 13: -1})
+m_sheet("high-half-three-readings", program(addi(5, 0, -1), m("mulh", 10, 5, 5), m("mulhsu", 11, 5, 5), m("mulhu", 12, 5, 5), m("mul", 13, 5, 5), ECALL),
+        "18,5,14,0,0,0,0,0,0", "ones by ones: 0, -1, -2, and 1 below each", HIGH, {5: -1, 11: -1, 12: -2, 13: 1})
+m_sheet("high-half-mixed-not-symmetric", program(addi(5, 0, -3), addi(6, 0, 5), m("mulhsu", 10, 5, 6), m("mulhsu", 11, 6, 5), ECALL),
+        "18,4,10,0,0,0,0,0,0", "-3 by 5 is -1; 5 by 2^64 - 3 is 4", HIGH, {5: -3, 6: 5, 10: -1, 11: 4})
+m_sheet("high-half-carry", with_operands([0x1ffffffff], m("mulhu", 10, 5, 5), m("mul", 11, 5, 5), m("mulh", 12, 5, 5), m("mulhsu", 13, 5, 5)),
+        "18,6,18,0,0,0,0,0,0", "(2^33 - 1)^2 is 2^66 - 2^34 + 1: the middle products carry", HIGH,
+        {5: 0x1ffffffff, 8: 0x1000, 10: 3, 11: 0xfffffffc00000001, 12: 3, 13: 3})
+m_sheet("high-half-largest", with_operands([LEAST - 1, LEAST], m("mulh", 10, 5, 5), m("mulh", 11, 6, 6), m("mulh", 12, 5, 6), m("mulhsu", 13, 6, 5), m("mulhu", 14, 6, 6)),
+        "18,8,20,0,0,0,0,0,0", "2^63 - 1 and -2^63 with themselves and each other", HIGH,
+        {5: LEAST - 1, 6: LEAST, 8: 0x1000, 10: 0x3fffffffffffffff, 11: 1 << 62, 12: 3 << 62, 13: 3 << 62, 14: 1 << 62})
+m_sheet("word-forms-upper-halves", with_operands([0xdeadbeef00000014, 0x0badcafefffffffa], *[m(n, 10 + i, 5, 6) for i, n in enumerate(
+        ["mulw", "divw", "remw", "divuw", "remuw"])]), "18,8,20,0,0,0,0,0,0", "20 and -6 below other upper halves", WORDS,
+        {5: 0xdeadbeef00000014, 6: 0x0badcafefffffffa, 8: 0x1000, 10: -120, 11: -3, 12: 2, 14: 20})
+sheet("word-forms-as-64-bit-forms", with_operands(
+    [0x7654321080000001, 0xfffffffd], I(0x1b, 0, 10, 5, 0), I(0x1b, 0, 11, 6, 0), m("divw", 12, 5, 6), m("div", 13, 10, 11), B(1, 12, 13, 20),
+    m("remw", 14, 5, 6), m("rem", 15, 10, 11), B(1, 14, 15, 8), J(0, 8), EBREAK), "18,c,34,0,0,0,0,0,0",
+    "DIVW and REMW are DIV and REM of the words sign extended", WORDS)
+sheet("divide-parts-make-the-whole", with_operands(
+    [-7 & ONES, 2], m("div", 10, 5, 6), m("rem", 11, 5, 6), m("mul", 12, 10, 6), R(0x33, 0, 0, 12, 12, 11), B(0, 12, 5, 8), EBREAK),
+    "18,8,24,0,0,0,0,0,0", "quotient by divisor and remainder are the dividend", ADD_M)
+m_sheet("multiply-into-x0", program(addi(5, 0, 3), m("mul", 0, 5, 5), m("mulhu", 0, 5, 5), m("mulw", 0, 5, 5), ECALL), "18,4,10,0,0,0,0,0,0",
+        "products for x0 are lost", ADD_M, {5: 3})
+m_sheet("divide-into-x0", program(addi(5, 0, 3), m("div", 0, 5, 0), m("remu", 0, 5, 0), m("divuw", 0, 5, 5), ECALL), "18,4,10,0,0,0,0,0,0",
+        "quotients for x0 are lost, those by zero too", ADD_M, {5: 3})
+m_sheet("multiply-rd-is-rs1", program(addi(5, 0, 3), addi(6, 0, 4), m("mul", 5, 5, 6), m("mul", 5, 5, 6), ECALL), "18,4,10,0,0,0,0,0,0", "3 by 4 by 4",
+        ADD_M, {5: 48, 6: 4})
+m_sheet("divide-rd-is-rs2", program(addi(5, 0, 100), addi(6, 0, 7), m("div", 6, 5, 6), m("rem", 6, 5, 6), ECALL), "18,4,10,0,0,0,0,0,0",
+        "100 by 7 is 14; 100 by that leaves 2", ADD_M, {5: 100, 6: 2})
+m_sheet("multiply-one-register", program(addi(5, 0, 3), m("mul", 5, 5, 5), m("mul", 5, 5, 5), m("divu", 5, 5, 5), m("remw", 5, 5, 5), ECALL),
+        "18,5,14,0,0,0,0,0,0", "3, 9, 81, 1, 0", ADD_M, {})
+m_sheet("multiply-every-register", program(addi(1, 0, 3), *[m("mul", n, n - 1, 1) for n in range(2, 32)], ECALL), "18,1f,7c,0,0,0,0,0,0",
+        "powers of 3 in x1 to x31", ADD_M, {n: 3 ** n for n in range(1, 32)})
+m_sheet("multiply-then-exit", program(addi(5, 0, 6), addi(6, 0, 7), m("mul", 10, 5, 6), EXIT, options=5, handler=0x100), "20,4,100,1,c,0,0,0,0",
+        "locked, exits redirected", ADD_M, {5: 6, 6: 7, 10: 42})
+m_sheet("divide-then-refused", program(addi(5, 0, 100), addi(6, 0, 7), m("divu", 10, 5, 6), load(LB, 11, 10, 0)), "16,3,c,0,0,1,0,1,e",
+        "a quotient as an address", ADD_M, {5: 100, 6: 7, 10: 14})
+m_sheet("multiply-as-offset", program(addi(5, 0, 0x80), addi(6, 0, 0x20), m("mul", 7, 5, 6), hload(LD, 10, 7, -8), hload(LD, 11, 7, -7), r1=FOUR_KIB, more=END_LINES),
+        "16,4,10,0,0,1,1,1,3000", "a product as the offset of an h-load", ADD_M, {5: 0x80, 6: 0x20, 7: 0x1000, 10: 0x8123456789abcdef})
+sheet("multiply-not-executable", program(NOP, m("mul", 10, 5, 6), r3=(0, mask(2), 4)), "11,1,4,0,0,1,0,3,4", "11 as for any word", LEGAL)
+sheet("multiply-half-executable", program(m("mul", 10, 5, 6), r3=(0, mask(1), 4)), "11,0,0,0,0,1,0,3,2", "its third byte is refused", LEGAL)
+sheet("divide-pc-2", program(m("div", 10, 5, 6), m("div", 10, 5, 6), pc=2), "10,0,2,0,0,0,0,0,0", "10 as for any word", LEGAL)
+sheet("divide-last-word", program(m("div", 10, 5, 6), pc=0xfffc, at=0xfffc, r3=(0, mask(17), 4)), "12,1,10000,0,0,0,0,0,0",
+      "it runs, the next word is absent", LEGAL)
+sheet("multiply-budget-used-up", program(addi(5, 0, 3), m("mul", 5, 5, 5), m("mul", 5, 5, 5), budget=2), "21,2,8,0,0,0,0,0,0", "a step each", ADD_M)
+m_sheet("factorial-of-20", program(addi(10, 0, 1), addi(5, 0, 20), m("mul", 10, 10, 5), addi(5, 5, -1), B(1, 5, 0, -8), ECALL),
+        "18,3e,14,0,0,0,0,0,0", "2432902008176640000, the largest that fits", ADD_M, {10: 2432902008176640000})
+m_sheet("greatest-common-divisor", program(addi(5, 0, 1071), addi(6, 0, 462), m("remu", 7, 5, 6), addi(5, 6, 0), addi(6, 7, 0), B(1, 6, 0, -12), ECALL),
+        "18,e,18,0,0,0,0,0,0", "of 1071 and 462: 147, 21, 0 remain", ADD_M, {5: 21})
+m_sheet("decimal-digits", program(addi(5, 0, 1987), addi(6, 0, 10), m("remu", 7, 5, 6), m("divu", 5, 5, 6), slli(10, 10, 4), R(0x33, 0, 0, 10, 10, 7),
+        B(1, 5, 0, -16), ECALL), "18,16,1c,0,0,0,0,0,0", "the digits of 1987 from the last on", ADD_M, {6: 10, 7: 1, 10: 0x7891})
+
+
 def write():
     names = [r[0] for r in rows]
     assert len(set(names)) == len(names), [n for n in names if names.count(n) > 1]
@@ -771,7 +932,7 @@ def write():
     out = ["# Stored sheets", "",
            "One file a sheet. The first lines were worked out by hand from document 01, or from",
            "document 02 where a row says `02` (they stand in `oracle/authoring/make_sheets.py`, which",
-           "writes this page), and then confirmed by the oracle. The sheets stand in `crates/sheets/data`; `crates/sheets/stdout` has",
+           "writes this page, and so do the registers of most RV64M sheets), and then confirmed by the oracle. The sheets stand in `crates/sheets/data`; `crates/sheets/stdout` has",
            "for each a line with its name and then the whole output.", ""]
     starts = dict(sections)
     for i, (name, _, first, shows, sentence) in enumerate(rows):
@@ -785,16 +946,20 @@ def write():
 def check(path):
     lines = open(path, encoding="latin-1").read().split("\n")
     names = set(r[0] for r in rows)
-    got = {}
-    for i, line in enumerate(lines):
-        if line in names:
-            got[line] = lines[i + 1]
+    at = {line: i for i, line in enumerate(lines) if line in names}
     bad = 0
     for name, _, first, _, _ in rows:
-        if got.get(name) != first:
+        printed = lines[at[name] + 1] if name in at else None
+        if printed != first:
             bad += 1
-            print("%s: by hand %s, printed %s" % (name, first, got.get(name)))
-    print(len(rows), "sheets,", bad, "differ")
+            print("%s: by hand %s, printed %s" % (name, first, printed))
+        elif name in registers:
+            told = ["%d,%x" % pair for pair in sorted(registers[name].items())]
+            got = lines[at[name] + 2:at[name] + 2 + len(told)]
+            if got != told or "," in lines[at[name] + 2 + len(told)]:
+                bad += 1
+                print("%s: by hand %s, printed %s" % (name, told, got))
+    print(len(rows), "sheets,", len(registers), "of them with registers,", bad, "differ")
     return bad
 
 

@@ -5,6 +5,8 @@
 //! come from the supply.
 
 use crate::compare::Engine;
+use crate::instruction::{encode, m_kind, Instruction, M_WORDS};
+use crate::m_words::PAIRS;
 use crate::machine::{Machine, Region};
 use crate::supply::Supply;
 
@@ -240,6 +242,134 @@ fn hload_by(funct3: u32, rd: u32, rs1: u32, offset: i32) -> u32 {
 fn hstore_by(funct3: u32, rs2: u32, rs1: u32, offset: i32) -> u32 {
     s_type(0x2b, funct3, rs1, rs2, offset)
 }
+
+/// An RV64M word: its name, its opcode and its funct3.
+type MRow = (&'static str, u32, u32);
+
+/// In the manual's order, OP then OP-32.
+const M_ROWS: [MRow; 13] = [
+    ("mul", 0x33, 0),
+    ("mulh", 0x33, 1),
+    ("mulhsu", 0x33, 2),
+    ("mulhu", 0x33, 3),
+    ("div", 0x33, 4),
+    ("divu", 0x33, 5),
+    ("rem", 0x33, 6),
+    ("remu", 0x33, 7),
+    ("mulw", 0x3b, 0),
+    ("divw", 0x3b, 4),
+    ("divuw", 0x3b, 5),
+    ("remw", 0x3b, 6),
+    ("remuw", 0x3b, 7),
+];
+
+fn m_word((_, opcode, funct3): MRow, rd: u32, rs1: u32, rs2: u32) -> u32 {
+    1 << 25 | rs2 << 20 | rs1 << 15 | funct3 << 12 | rd << 7 | opcode
+}
+
+/// The 64-bit form of a number below 0.
+const fn minus(number: u64) -> u64 {
+    number.wrapping_neg()
+}
+
+const LEAST: u64 = 1 << 63;
+
+/// Operands and what the 13 words make of them, in the order of `M_ROWS`; the
+/// long ones by Python's whole numbers.
+const M_VALUES: [(u64, u64, [u64; 13]); 13] = [
+    (20, 6, [120, 0, 0, 0, 3, 3, 2, 2, 120, 3, 3, 2, 2]),
+    // 2^64 - 20 is 6 times 2aaaaaaaaaaaaaa7 and 2; 2^32 - 20 is 6 times 2aaaaaa7 and 2
+    (minus(20), 6, [minus(120), ALL, ALL, 5, minus(3), 0x2aaa_aaaa_aaaa_aaa7, minus(2), 2, minus(120), minus(3), 0x2aaa_aaa7, minus(2), 2]),
+    // 20 (2^64 - 6) is 19 times 2^64 and some
+    (20, minus(6), [minus(120), ALL, 19, 19, minus(3), 0, 2, 20, minus(120), minus(3), 0, 2, 20]),
+    // (2^64 - 20) (2^64 - 6) is 2^128 - 26 times 2^64 and 120
+    (minus(20), minus(6), [120, 0, minus(20), minus(26), 3, 0, minus(2), minus(20), 120, 3, 0, minus(2), minus(20)]),
+    (5, 0, [0, 0, 0, 0, ALL, ALL, 5, 5, 0, ALL, ALL, 5, 5]),
+    (minus(5), 0, [0, 0, 0, 0, ALL, ALL, minus(5), minus(5), 0, ALL, ALL, minus(5), minus(5)]),
+    // the low words are 0 and -1
+    (LEAST, ALL, [LEAST, 0, LEAST, LEAST - 1, LEAST, 0, 0, LEAST, 0, 0, 0, 0, 0]),
+    (ALL, ALL, [1, 0, ALL, minus(2), 1, 1, 0, 0, 1, 1, 1, 0, 0]),
+    (LEAST, LEAST, [0, 1 << 62, 3 << 62, 1 << 62, 1, 1, 0, 0, 0, ALL, ALL, 0, 0]),
+    // the most negative word and -1, with other upper halves
+    (
+        0x1234_5678_8000_0000,
+        0x9abc_def0_ffff_ffff,
+        [
+            0x6dcb_a987_8000_0000,
+            0xf8cc_93d6_03bf_e670,
+            0x0b00_ea4e_83bf_e670,
+            0x0b00_ea4e_83bf_e670,
+            0,
+            0,
+            0x1234_5678_8000_0000,
+            0x1234_5678_8000_0000,
+            0xffff_ffff_8000_0000,
+            0xffff_ffff_8000_0000,
+            0,
+            0,
+            0xffff_ffff_8000_0000,
+        ],
+    ),
+    // a divisor of 2^32: a word form divides by zero
+    (
+        0xdead_beef_8000_0005,
+        1 << 32,
+        [
+            0x8000_0005_0000_0000,
+            0xffff_ffff_dead_beef,
+            0xffff_ffff_dead_beef,
+            0xdead_beef,
+            0xffff_ffff_dead_bef0,
+            0xdead_beef,
+            0xffff_ffff_8000_0005,
+            0x8000_0005,
+            0,
+            ALL,
+            ALL,
+            0xffff_ffff_8000_0005,
+            0xffff_ffff_8000_0005,
+        ],
+    ),
+    // the most negative word and -1, above zeros
+    (
+        0x8000_0000,
+        0xffff_ffff,
+        [
+            0x7fff_ffff_8000_0000,
+            0,
+            0,
+            0,
+            0,
+            0,
+            0x8000_0000,
+            0x8000_0000,
+            0xffff_ffff_8000_0000,
+            0xffff_ffff_8000_0000,
+            0,
+            0,
+            0xffff_ffff_8000_0000,
+        ],
+    ),
+    (
+        0x0123_4567_89ab_cdef,
+        0xfedc_ba98_7654_3210,
+        [
+            0x2236_d88f_e561_8cf0,
+            0xfffe_b499_23cc_0953,
+            0x0121_fa00_ad77_d742,
+            0x0121_fa00_ad77_d742,
+            0,
+            0,
+            0x0123_4567_89ab_cdef,
+            0x0123_4567_89ab_cdef,
+            0xffff_ffff_e561_8cf0,
+            ALL,
+            1,
+            ALL,
+            0x1357_9bdf,
+        ],
+    ),
+];
 
 fn unchanged(_: &mut Machine) {}
 
@@ -823,6 +953,113 @@ impl List {
         });
     }
 
+    /// Document 02, Job 2: what the 13 words make of their operands, outside HFI mode.
+    fn m_values(&mut self) {
+        for (a, b, results) in M_VALUES {
+            for (row, result) in M_ROWS.into_iter().zip(results) {
+                let world = outside(m_word(row, 7, 5, 6)).with(|m| (m.x[5], m.x[6]) = (a, b));
+                self.step(&format!("{} {a:x}, {b:x}", row.0), world, 0, |m| (m.x[7], m.pc) = (result, 0x44));
+            }
+        }
+    }
+
+    /// Registers that are one: operands are those before the step, and x0 stays 0.
+    fn m_registers(&mut self) {
+        let (a, b, results) = M_VALUES[2];
+        // -20 with itself, and with x0 as the second
+        let itself = [400, 0, minus(20), minus(40), 1, 1, 0, 0, 400, 1, 1, 0, 0];
+        let by_zero = [0, 0, 0, 0, ALL, ALL, minus(20), minus(20), 0, ALL, ALL, minus(20), minus(20)];
+        for (n, row) in M_ROWS.into_iter().enumerate() {
+            let world = |rd: u32, rs1: u32, rs2: u32| {
+                let base = if n % 2 == 0 { outside } else { inside };
+                base(m_word(row, rd, rs1, rs2)).with(|m| (m.x[5], m.x[6], m.x[8]) = (a, b, minus(20)))
+            };
+            let set = |rd: usize, value: u64| move |m: &mut Machine| (m.x[rd], m.pc) = (value, 0x44);
+            self.step(&format!("{} into x0", row.0), world(0, 5, 6), 0, |m| m.pc = 0x44);
+            self.step(&format!("{}, rd is rs1", row.0), world(5, 5, 6), 0, set(5, results[n]));
+            self.step(&format!("{}, rd is rs2", row.0), world(6, 5, 6), 0, set(6, results[n]));
+            self.step(&format!("{}, rs1 is rs2", row.0), world(31, 8, 8), 0, set(31, itself[n]));
+            self.step(&format!("{}, one register for all", row.0), world(8, 8, 8), 0, set(8, itself[n]));
+            self.step(&format!("{}, rs1 is x0", row.0), world(7, 0, 6), 0, set(7, 0));
+            self.step(&format!("{}, rs2 is x0", row.0), world(7, 8, 0), 0, set(7, by_zero[n]));
+            self.step(&format!("{}, x0 for all", row.0), world(0, 0, 0), 0, |m| m.pc = 0x44);
+        }
+    }
+
+    /// "These words are no longer stopped with 13"; all that is asked of another word is asked of them.
+    fn m_asked(&mut self) {
+        for (n, row) in M_ROWS.into_iter().enumerate() {
+            let (a, b, results) = M_VALUES[n];
+            let word = m_word(row, 7, 5, 6);
+            let operands = |base: World| base.with(|m| (m.x[5], m.x[6]) = (a, b));
+            let done = |m: &mut Machine| (m.x[7], m.pc) = (results[n], 0x44);
+            self.step(&format!("{}, the last word of memory", row.0), operands(outside(word).length(0x44)), 0, done);
+            self.step(&format!("{} inside, options {n}", row.0), operands(inside(word)).with(|m| m.options = n as u64), 0, done);
+            let bare = |m: &mut Machine| (m.regions[0], m.regions[1]) = Default::default();
+            self.step(&format!("{} locked, no data region", row.0), operands(inside(word)).with(bare).with(|m| m.options = 1), 0, done);
+            let length = 0x40 + n % 4;
+            let short = format!("step: {}, memory ends at {length:x}", row.0);
+            self.add(&short, Request::Step, operands(outside(word)).length(length), (12, 0, length as u64), unchanged);
+            let barred = operands(inside(word)).with(|m| m.regions[2].permission = 0);
+            self.step(&format!("{}, region 3 without execute", row.0), barred, 11, |m| m.fault = fault(3, 3, 0x40));
+            let half = operands(inside(word)).with(|m| m.regions[2] = Region { base: 0x40, bound: mask(1), permission: 4 });
+            self.step(&format!("{}, its third byte is refused", row.0), half, 11, |m| m.fault = fault(0, 3, 0x42));
+            self.step(&format!("{}, pc 3e", row.0), operands(outside(word)).with(|m| m.pc = 0x3e), 10, unchanged);
+            self.step(&format!("{}, not well formed", row.0), operands(outside(word)).with(|m| m.selector = 4), 3, unchanged);
+            self.run(&format!("{}, budget 0", row.0), operands(outside(word)), 0, (21, 0), unchanged);
+        }
+    }
+
+    /// Words beside them that stay illegal: no high half in 32 bits, and other funct7.
+    fn m_neighbours(&mut self) {
+        for (place, world) in [("outside", outside as fn(u32) -> World), ("inside", inside)] {
+            for funct3 in 1..4 {
+                let word = m_word(("", 0x3b, funct3), 7, 5, 6);
+                self.step(&format!("{place}, OP-32 with funct7 1, funct3 {funct3}"), world(word), 13, unchanged);
+            }
+            for bit in 26..32u32 {
+                for row in [M_ROWS[0], M_ROWS[4], M_ROWS[8], M_ROWS[12]] {
+                    let word = m_word(row, 7, 5, 6) | 1 << bit;
+                    self.step(&format!("{place}, {} with bit {bit}", row.0), world(word), 13, unchanged);
+                }
+            }
+        }
+    }
+
+    /// Runs: products and quotients of what the steps before have left, in and out of HFI mode.
+    fn m_runs(&mut self) {
+        let [mul, mulhu, divu, remu] = [0, 3, 5, 7].map(|n| M_ROWS[n]);
+        // 5 times 4 times ... times 1
+        const BACK: u32 = 0xfe02_9ce3; // bne x5, x0, -8
+        let factorial = outside(m_word(mul, 7, 7, 5)).put(0x44, addi(5, 5, -1)).put(0x48, BACK).put(0x4c, ECALL);
+        self.run("5 factorial", factorial.with(|m| (m.x[5], m.x[7]) = (5, 1)), 50, (18, 15), |m| (m.x[5], m.x[7], m.pc) = (0, 120, 0x4c));
+        // the greatest common divisor of 48 and 36: 48, 36, 12, 0
+        const AGAIN: u32 = 0xfe03_1ae3; // bne x6, x0, -12
+        let common = outside(m_word(remu, 7, 5, 6)).put(0x44, addi(5, 6, 0)).put(0x48, addi(6, 7, 0)).put(0x4c, AGAIN).put(0x50, EBREAK);
+        self.run("greatest common divisor of 48 and 36", common.with(|m| (m.x[5], m.x[6]) = (48, 36)), 50, (19, 8), |m| {
+            (m.x[5], m.x[6], m.x[7], m.pc) = (12, 0, 0, 0x50);
+        });
+        // a product's two halves in HFI mode, then a quotient outside
+        let crossing = outside(hfi(ENTER)).with(|m| (m.x[5], m.x[6]) = (1, ALL));
+        let crossing = crossing.put(0x44, m_word(mulhu, 7, 6, 6)).put(0x48, m_word(mul, 8, 6, 6)).put(0x4c, hfi(EXIT));
+        let crossing = crossing.put(0x50, m_word(divu, 6, 6, 7)).put(0x54, ECALL);
+        self.run("enters, multiplies, exits, divides", crossing, 50, (18, 5), |m| {
+            (m.options, m.reason, m.exit_pc, m.pc) = (1, 1, 0x4c, 0x54);
+            (m.x[7], m.x[8], m.x[6], m.fault.occurred) = (minus(2), 1, 1, 0);
+        });
+        let divide = inside(m_word(divu, 7, 5, 0)).put(0x44, hfi(EXIT)).with(|m| m.options = 1);
+        self.run("divides by zero, exits", divide, 50, (20, 2), |m| {
+            (m.x[7], m.mode, m.reason, m.exit_pc, m.pc) = (ALL, 0, 1, 0x44, 0x48);
+        });
+        let last = outside(NOP).put(0xfffc, m_word(mul, 7, 5, 6)).length(ROOM).with(|m| (m.pc, m.x[5], m.x[6]) = (0xfffc, 3, 4));
+        self.add("run: mul in the last word, then off the end", Request::Run(5), last, (12, 1, 0x10000), |m| {
+            (m.x[7], m.pc) = (12, 0x10000);
+        });
+        let fetched = outside(store(2, 8, 0, 0x44)).with(|m| (m.x[5], m.x[6], m.x[8]) = (6, 7, m_word(mul, 7, 5, 6) as u64));
+        let kept = m_word(mul, 7, 5, 6) as u64;
+        self.run("stores a mul as its next word", fetched, 2, (21, 2), |m| (m.x[7], m.pc) = (42, 0x48)).stores(0x44, 4, kept);
+    }
+
     /// "Outside HFI mode regions are not consulted."
     fn not_consulted(&mut self) {
         let bare = |word: u32| outside(word).with(|m| (m.regions, m.x[8]) = (Default::default(), 0x700));
@@ -1057,21 +1294,29 @@ pub fn directed() -> Vec<Directed> {
     list.offsets_absent();
     list.offsets_of_broken_regions();
     list.offsets_in_runs();
+    list.m_values();
+    list.m_registers();
+    list.m_asked();
+    list.m_neighbours();
+    list.m_runs();
     // A call that two subjects share stands once, under the first.
     let mut seen = std::collections::HashSet::new();
     list.all.retain(|row| seen.insert(row.call.unnamed()));
     list.all
 }
 
-/// Random calls: runs that cross the mode, steps of one word, short runs and
-/// resumptions of any machine.
-pub fn random(seed: u64, number: usize) -> Vec<Call> {
-    let mut supply = Supply::new(seed);
-    (0..number).map(|n| random_call(&mut supply, n)).collect()
+/// Random calls: those of the base, then those with RV64M words.
+pub fn random() -> Vec<Call> {
+    let (mut base, mut supply) = (Supply::of_base(20), Supply::new(21));
+    let first = (0..RANDOM).map(|n| random_call(&mut base, n));
+    let second = (0..RANDOM_M).map(|n| random_m_call(&mut supply, n));
+    first.chain(second).enumerate().map(|(n, (request, machine, lent))| random_named(n, request, machine, &lent)).collect()
 }
 
-fn random_call(supply: &mut Supply, n: usize) -> Call {
-    let (request, machine, lent) = match n % 8 {
+/// Runs that cross the mode, steps of one word, short runs and resumptions of
+/// any machine.
+fn random_call(supply: &mut Supply, n: usize) -> (Request, Machine, Vec<u8>) {
+    match n % 8 {
         0 | 1 => {
             let (machine, memory) = supply.crossing_world(7);
             (Request::Run(supply.below(60)), machine, memory)
@@ -1089,10 +1334,40 @@ fn random_call(supply: &mut Supply, n: usize) -> Call {
             let (machine, memory) = supply.single_step(256);
             (Request::Step, machine, memory)
         }
-    };
+    }
+}
+
+/// Steps of one RV64M word with aimed operands, runs of RV64M words alone, and
+/// runs that cross the mode with some among others.
+fn random_m_call(supply: &mut Supply, n: usize) -> (Request, Machine, Vec<u8>) {
+    match n % 4 {
+        0 | 1 => {
+            let (mut memory, turn) = (vec![0; 64], n / 4 * 2 + n % 4);
+            let machine = supply.aimed_m_word(PAIRS[turn % PAIRS.len()], turn % M_WORDS, turn, &mut memory);
+            (Request::Step, machine, memory)
+        }
+        2 => {
+            let mut machine = supply.well_formed_machine(128);
+            (machine.mode, machine.pc) = (supply.below(2), 0);
+            machine.regions[2] = Region { base: 0, bound: mask(7), permission: 4 };
+            let words = (0..31).map(|_| {
+                let (rd, rs1, rs2) = (supply.below(8), supply.below(16), supply.below(8));
+                encode(&Instruction::Register { kind: m_kind(supply.below(M_WORDS as u64) as usize), rd, rs1, rs2 }).expect("in range")
+            });
+            let memory = words.chain([ECALL]).flat_map(|word| word.to_le_bytes()).collect();
+            (Request::Run(supply.below(40)), machine, memory)
+        }
+        _ => {
+            let (machine, memory) = supply.crossing_world(7);
+            (Request::Run(supply.below(60)), machine, memory)
+        }
+    }
+}
+
+fn random_named(n: usize, request: Request, machine: Machine, lent: &[u8]) -> Call {
     let length = lent.len();
     let mut bytes = vec![0; ROOM];
-    bytes[..length].copy_from_slice(&lent);
+    bytes[..length].copy_from_slice(lent);
     // A byte past the end, which no call may touch.
     bytes[length] = 0xee;
     Call { name: format!("random {n}"), request, machine, length, bytes }
@@ -1110,11 +1385,12 @@ pub fn stored() -> (String, String) {
     for row in directed() {
         both(&row.call, Some(&row.told));
     }
-    for call in random(20, RANDOM) {
+    for call in random() {
         both(&call, None);
     }
     (data, printed)
 }
 
-/// How many of the stored calls are random.
-pub const RANDOM: usize = 160;
+/// How many of the stored calls are random, of the base and with RV64M words.
+const RANDOM: usize = 160;
+const RANDOM_M: usize = 80;

@@ -2,7 +2,8 @@
 
 use std::collections::BTreeMap;
 
-use crate::instruction::{decode, encode, name, HfiKind, Instruction, LOAD_TABLE, STORE_TABLE};
+use crate::instruction::{decode, encode, name, HfiKind, Instruction, LOAD_TABLE, M_WORDS, STORE_TABLE};
+use crate::m_words::{self, M_CLASSES, PAIRS};
 use crate::machine::Machine;
 use crate::numbers::{bit, power};
 use crate::reach::writable;
@@ -118,6 +119,8 @@ pub struct Counts {
     pub instructions: BTreeMap<String, (u64, u64)>,
     /// H-words by what rs1 and the offset are (`H_CLASSES`) and by instruction (`h_number`).
     pub h_words: BTreeMap<&'static str, [u64; H_WORDS]>,
+    /// RV64M words by what their operands are (`M_CLASSES`) and by word.
+    pub m_words: m_words::Met,
     /// What happened in the runs that cross the mode, by kind.
     pub crossings: BTreeMap<&'static str, u64>,
     pub resume_stops: BTreeMap<u64, u64>,
@@ -156,6 +159,10 @@ impl Counts {
         for (class, met) in other.h_words {
             let entry = self.h_words.entry(class).or_default();
             (0..H_WORDS).for_each(|n| entry[n] += met[n]);
+        }
+        for (class, met) in other.m_words {
+            let entry = self.m_words.entry(class).or_default();
+            (0..M_WORDS).for_each(|n| entry[n] += met[n]);
         }
         self.run_steps += other.run_steps;
         self.isolation_steps += other.isolation_steps;
@@ -322,6 +329,22 @@ fn word_at(memory: &[u8], pc: u64) -> Option<u32> {
     Some(u32::from_le_bytes(bytes.try_into().unwrap()))
 }
 
+/// Counts a word that was fetched by its instruction, its stop and its classes.
+fn count_word(before: &Machine, instruction: &Instruction, stop: u64, counts: &mut Counts) {
+    let entry = counts.instructions.entry(name(instruction)).or_default();
+    if stop == 0 {
+        entry.0 += 1;
+    } else {
+        entry.1 += 1;
+    }
+    m_words::count(before, instruction, &mut counts.m_words);
+    if let (Some(n), Some(h)) = (h_number(instruction), HWord::of(before, instruction)) {
+        for (class, _, _) in H_CLASSES.into_iter().filter(|(_, _, test)| test(&h)) {
+            counts.h_words.entry(class).or_default()[n] += 1;
+        }
+    }
+}
+
 /// One step of both engines; the left one is the measure. Answers whether the
 /// step completed.
 pub fn compare_step(
@@ -337,17 +360,7 @@ pub fn compare_step(
     let a = left.step(machine, memory).expect("the measure steps");
     *counts.step_stops.entry(a.0).or_default() += 1;
     if let (Some(instruction), true) = (word.and_then(decode), ![1, 3, 10, 11, 12].contains(&a.0)) {
-        let entry = counts.instructions.entry(name(&instruction)).or_default();
-        if a.0 == 0 {
-            entry.0 += 1;
-        } else {
-            entry.1 += 1;
-        }
-        if let (Some(n), Some(h)) = (h_number(&instruction), HWord::of(&before, &instruction)) {
-            for (class, _, _) in H_CLASSES.into_iter().filter(|(_, _, test)| test(&h)) {
-                counts.h_words.entry(class).or_default()[n] += 1;
-            }
-        }
+        count_word(&before, &instruction, a.0, counts);
     }
     if let Some(b) = right.step(&mut m, &mut bytes) {
         counts.compared += 1;
@@ -557,6 +570,7 @@ pub fn rounds(left: &dyn Engine, right: &dyn Engine, seed: u64, number: u64, cou
             any_machine(left, right, &mut supply, &memory, counts);
         }
         h_words(left, right, &mut supply, round as usize, counts);
+        m_word_pairs(left, right, &mut supply, round as usize, counts);
         for _ in 0..4 {
             steady_run(left, right, &mut supply, counts);
             crossing_run(left, right, &mut supply, counts);
@@ -617,6 +631,19 @@ fn h_words(left: &dyn Engine, right: &dyn Engine, supply: &mut Supply, round: us
         let mut bytes = memory.clone();
         let mut machine = supply.h_word_of_any_region(&mut bytes);
         compare_step(left, right, &mut machine, &mut bytes, counts);
+    }
+}
+
+/// A step and a run of each RV64M word with each pair of operands; the
+/// registers go by the round.
+fn m_word_pairs(left: &dyn Engine, right: &dyn Engine, supply: &mut Supply, round: usize, counts: &mut Counts) {
+    for (place, aim) in PAIRS.into_iter().enumerate() {
+        for n in 0..M_WORDS {
+            let mut bytes = vec![0; 16];
+            let mut machine = supply.aimed_m_word(aim, n, round + place, &mut bytes);
+            compare_run(left, right, &machine, &bytes, 1, counts);
+            compare_step(left, right, &mut machine, &mut bytes, counts);
+        }
     }
 }
 
@@ -711,12 +738,21 @@ pub fn print_counts(counts: &Counts) {
     for (name, (completed, stopped)) in &counts.instructions {
         println!("  {name} {completed} {stopped}");
     }
+    print_classes(counts);
+    for difference in &counts.differences {
+        println!("DIFFERENCE {difference}");
+    }
+}
+
+fn print_classes(counts: &Counts) {
     println!("h-words in HFI mode, region 1 grants: {}", H_NAMES.join(" "));
     for (class, _, _) in H_CLASSES {
         let met = counts.h_words.get(class).copied().unwrap_or_default();
         println!("  {class}: {}", met.map(|count| count.to_string()).join(" "));
     }
-    for difference in &counts.differences {
-        println!("DIFFERENCE {difference}");
+    println!("RV64M words by operands: {}", m_words::names().join(" "));
+    for (class, _, _) in M_CLASSES {
+        let met = counts.m_words.get(class).copied().unwrap_or_default();
+        println!("  {class}: {}", met.map(|count| count.to_string()).join(" "));
     }
 }

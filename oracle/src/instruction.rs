@@ -74,6 +74,19 @@ pub enum RegisterKind {
     Sllw,
     Srlw,
     Sraw,
+    Mul,
+    Mulh,
+    Mulhsu,
+    Mulhu,
+    Div,
+    Divu,
+    Rem,
+    Remu,
+    Mulw,
+    Divw,
+    Divuw,
+    Remw,
+    Remuw,
 }
 
 #[derive(Clone, Copy, Debug, PartialEq, Eq)]
@@ -192,8 +205,8 @@ pub const SHIFT_TABLE: [(ShiftKind, u64, u64, u64, u32); 6] = [
     (ShiftKind::Sraiw, 0x1b, 5, 0b0100000, 5),
 ];
 
-/// kind, opcode, funct3, funct7
-pub const REGISTER_TABLE: [(RegisterKind, u64, u64, u64); 15] = [
+/// kind, opcode, funct3, funct7; the rows of RV64I, then those of RV64M.
+pub const REGISTER_TABLE: [(RegisterKind, u64, u64, u64); 28] = [
     (RegisterKind::Add, 0x33, 0, 0b0000000),
     (RegisterKind::Sub, 0x33, 0, 0b0100000),
     (RegisterKind::Sll, 0x33, 1, 0b0000000),
@@ -209,7 +222,31 @@ pub const REGISTER_TABLE: [(RegisterKind, u64, u64, u64); 15] = [
     (RegisterKind::Sllw, 0x3b, 1, 0b0000000),
     (RegisterKind::Srlw, 0x3b, 5, 0b0000000),
     (RegisterKind::Sraw, 0x3b, 5, 0b0100000),
+    (RegisterKind::Mul, 0x33, 0, 0b0000001),
+    (RegisterKind::Mulh, 0x33, 1, 0b0000001),
+    (RegisterKind::Mulhsu, 0x33, 2, 0b0000001),
+    (RegisterKind::Mulhu, 0x33, 3, 0b0000001),
+    (RegisterKind::Div, 0x33, 4, 0b0000001),
+    (RegisterKind::Divu, 0x33, 5, 0b0000001),
+    (RegisterKind::Rem, 0x33, 6, 0b0000001),
+    (RegisterKind::Remu, 0x33, 7, 0b0000001),
+    (RegisterKind::Mulw, 0x3b, 0, 0b0000001),
+    (RegisterKind::Divw, 0x3b, 4, 0b0000001),
+    (RegisterKind::Divuw, 0x3b, 5, 0b0000001),
+    (RegisterKind::Remw, 0x3b, 6, 0b0000001),
+    (RegisterKind::Remuw, 0x3b, 7, 0b0000001),
 ];
+
+/// How many rows of `REGISTER_TABLE` are of RV64I.
+pub const BASE_ROWS: usize = 15;
+
+/// The words of RV64M: eight of 64 bits, five of 32.
+pub const M_WORDS: usize = REGISTER_TABLE.len() - BASE_ROWS;
+
+/// The n-th kind of RV64M.
+pub fn m_kind(n: usize) -> RegisterKind {
+    REGISTER_TABLE[BASE_ROWS + n].0
+}
 
 /// The instruction a 32-bit word stands for; none if the word is illegal.
 pub fn decode(word: u32) -> Option<Instruction> {

@@ -311,7 +311,26 @@ fn shift_value(kind: ShiftKind, a: u64, amount: u64) -> u64 {
     }
 }
 
-fn register_value(kind: RegisterKind, a: u64, b: u64) -> u64 {
+/// The high half of a product, rounded downward as two's complement is.
+fn high(product: i128) -> u64 {
+    wrap(product.div_euclid(power(64) as i128))
+}
+
+/// "The quotient of division by zero has all bits set"; others are rounded
+/// towards zero. The most negative number divided by -1 comes to a number that
+/// wraps to the dividend.
+fn quotient(dividend: i128, divisor: i128) -> u64 {
+    wrap(if divisor == 0 { -1 } else { dividend / divisor })
+}
+
+/// "The remainder of division by zero equals the dividend"; another has the
+/// dividend's sign.
+fn remainder(dividend: i128, divisor: i128) -> u64 {
+    wrap(if divisor == 0 { dividend } else { dividend % divisor })
+}
+
+pub fn register_value(kind: RegisterKind, a: u64, b: u64) -> u64 {
+    let low = |a: u64| low_word(a) as i128;
     match kind {
         RegisterKind::Add => wrap(a as i128 + b as i128),
         RegisterKind::Sub => wrap(a as i128 - b as i128),
@@ -328,6 +347,19 @@ fn register_value(kind: RegisterKind, a: u64, b: u64) -> u64 {
         RegisterKind::Sllw => word_extended(shift_left(low_word(a), b % 32)),
         RegisterKind::Srlw => word_extended(shift_right(low_word(a), b % 32)),
         RegisterKind::Sraw => shift_right_signed(signed(a, 32), b % 32),
+        RegisterKind::Mul => wrap(signed(a, 64) * signed(b, 64)),
+        RegisterKind::Mulh => high(signed(a, 64) * signed(b, 64)),
+        RegisterKind::Mulhsu => high(signed(a, 64) * b as i128),
+        RegisterKind::Mulhu => (a as u128 * b as u128 / power(64)) as u64,
+        RegisterKind::Div => quotient(signed(a, 64), signed(b, 64)),
+        RegisterKind::Divu => quotient(a as i128, b as i128),
+        RegisterKind::Rem => remainder(signed(a, 64), signed(b, 64)),
+        RegisterKind::Remu => remainder(a as i128, b as i128),
+        RegisterKind::Mulw => word_extended(wrap(signed(a, 32) * signed(b, 32))),
+        RegisterKind::Divw => word_extended(quotient(signed(a, 32), signed(b, 32))),
+        RegisterKind::Divuw => word_extended(quotient(low(a), low(b))),
+        RegisterKind::Remw => word_extended(remainder(signed(a, 32), signed(b, 32))),
+        RegisterKind::Remuw => word_extended(remainder(low(a), low(b))),
     }
 }
 

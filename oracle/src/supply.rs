@@ -1,8 +1,8 @@
 //! Random machines, memories, words and sheets, with a bias to the edges.
 
 use crate::instruction::{
-    decode, encode, HfiKind, ImmediateKind, Instruction, SystemKind, UpperKind, BRANCH_TABLE, HFI_TABLE, IMMEDIATE_TABLE, LOAD_TABLE, REGISTER_TABLE,
-    SHIFT_TABLE, STORE_TABLE,
+    decode, encode, HfiKind, ImmediateKind, Instruction, RegisterKind, SystemKind, UpperKind, BASE_ROWS, BRANCH_TABLE, HFI_TABLE, IMMEDIATE_TABLE,
+    LOAD_TABLE, REGISTER_TABLE, SHIFT_TABLE, STORE_TABLE,
 };
 use crate::machine::{Fault, Machine, Region};
 use crate::reach::{executable, readable};
@@ -77,11 +77,18 @@ const OFFSETS: [u64; 3] = [17, 18, 29];
 /// A small generator of random numbers; the same seed gives the same numbers.
 pub struct Supply {
     state: u64,
+    /// How many rows of `REGISTER_TABLE` it draws from.
+    rows: usize,
 }
 
 impl Supply {
     pub fn new(seed: u64) -> Supply {
-        Supply { state: seed }
+        Supply { state: seed, rows: REGISTER_TABLE.len() }
+    }
+
+    /// As before Job 2, so that what was stored then stays as it was.
+    pub fn of_base(seed: u64) -> Supply {
+        Supply { state: seed, rows: BASE_ROWS }
     }
 
     pub fn next(&mut self) -> u64 {
@@ -135,6 +142,11 @@ impl Supply {
         }
     }
 
+    fn register_kind(&mut self) -> RegisterKind {
+        let rows = self.rows;
+        self.pick(&REGISTER_TABLE[..rows]).0
+    }
+
     fn immediate(&mut self) -> i64 {
         match self.below(4) {
             0 => self.pick(&[-2048, -2047, -1, 0, 1, 2046, 2047]),
@@ -176,7 +188,7 @@ impl Supply {
                 let row = self.pick(&SHIFT_TABLE);
                 Instruction::Shift { kind: row.0, rd, rs1, amount: self.below(1 << row.4) }
             }
-            30..=34 => Instruction::Register { kind: self.pick(&REGISTER_TABLE).0, rd, rs1, rs2 },
+            30..=34 => Instruction::Register { kind: self.register_kind(), rd, rs1, rs2 },
             35 => Instruction::Fence { rd, rs1, spare: self.below(4096) },
             36 => Instruction::System { kind: self.pick(&[SystemKind::Ecall, SystemKind::Ebreak]) },
             _ => {
@@ -242,7 +254,7 @@ impl Supply {
             Instruction::Branch { offset, .. } => *offset = short,
             Instruction::System { .. } | Instruction::Hfi { .. } => {
                 if !self.once_in(6) {
-                    return Instruction::Register { kind: self.pick(&REGISTER_TABLE).0, rd: rd_steady, rs1: 5, rs2: 6 };
+                    return Instruction::Register { kind: self.register_kind(), rd: rd_steady, rs1: 5, rs2: 6 };
                 }
             }
             Instruction::Upper { rd, .. }
@@ -409,12 +421,7 @@ impl Supply {
     /// and stores, that is aimed so, through a region that grants it if its
     /// offset is good. Half of them, and each `Back`, name one register twice.
     pub fn aimed_h_word(&mut self, aim: Aim, n: usize, memory: &mut [u8]) -> Machine {
-        let mut machine = loop {
-            let machine = self.machine(memory.len());
-            if crate::machine::well_formed(&machine) {
-                break machine;
-            }
-        };
+        let mut machine = self.well_formed_machine(memory.len());
         machine.mode = 1;
         machine.pc = self.below(memory.len() as u64 / 4) * 4;
         machine.regions[2] = Region { base: 0, bound: ALL << 16, permission: 4 };
@@ -458,12 +465,7 @@ impl Supply {
             };
             memory[at..at + 4].copy_from_slice(&word.to_le_bytes());
         }
-        let mut machine = loop {
-            let machine = self.machine(length);
-            if crate::machine::well_formed(&machine) {
-                break machine;
-            }
-        };
+        let mut machine = self.well_formed_machine(length);
         machine.mode = 1;
         machine.options = self.below(16) | if self.once_in(2) { 1 } else { 0 };
         machine.regions[2] = Region { base: 0, bound: ALL << k, permission: 4 };
@@ -772,6 +774,15 @@ impl Supply {
             self.spoil(&mut machine);
         }
         machine
+    }
+
+    pub fn well_formed_machine(&mut self, length: usize) -> Machine {
+        loop {
+            let machine = self.machine(length);
+            if crate::machine::well_formed(&machine) {
+                return machine;
+            }
+        }
     }
 
     fn pointer(&mut self, machine: &Machine, length: usize) -> u64 {

@@ -58,7 +58,7 @@ fn fence_set(set: u64) -> String {
     text
 }
 
-/// Assembly text of an RV64I instruction, in the form of the LLVM rows.
+/// Assembly text of an RV64I or RV64M instruction, in the form of the LLVM rows.
 pub fn assembly(instruction: &Instruction) -> String {
     let r = |n: u64| ABI[n as usize];
     let lower = |kind: String| kind.to_lowercase();
@@ -110,8 +110,18 @@ fn byte_list(text: &str) -> Vec<u8> {
     (0..text.len() / 2).map(|i| hex(&text[2 * i..2 * i + 2]) as u8).collect()
 }
 
-/// LLVM rows: file, assembly text, bytes. RV64I rows decode to that text and
-/// encode back; CSR words, FENCE.I, RV64M words and half-words are illegal.
+/// Does the word decode to that text, and encode back?
+fn spells(word: u32, text: &str) -> bool {
+    decode(word).is_some_and(|instruction| encode(&instruction) == Some(word) && assembly(&instruction) == text)
+}
+
+/// Is a half-word illegal, whatever stands above it?
+fn half_illegal(half: u32) -> bool {
+    [0u32, 0xffff, 0x0013, half].iter().all(|upper| decode(half + upper * 65536).is_none())
+}
+
+/// LLVM rows: file, assembly text, bytes. RV64I and RV64M rows decode to that
+/// text and encode back; CSR words, FENCE.I and half-words are illegal.
 pub fn check_llvm(text: &str) -> Report {
     let mut report = Report::default();
     let (mut legal, mut illegal) = (0, 0);
@@ -119,32 +129,35 @@ pub fn check_llvm(text: &str) -> Report {
         let fields: Vec<&str> = row.split('\t').collect();
         let bytes = byte_list(fields[2]);
         if bytes.len() == 2 {
-            let half = bytes[0] as u32 + bytes[1] as u32 * 256;
-            let good = [0u32, 0xffff, 0x0013, half].iter().all(|upper| decode(half + upper * 65536).is_none());
-            report.note(good, format!("a half-word passes: {row}"));
+            report.note(half_illegal(bytes[0] as u32 + bytes[1] as u32 * 256), format!("a half-word passes: {row}"));
             illegal += 1;
             continue;
         }
         let word = u32::from_le_bytes([bytes[0], bytes[1], bytes[2], bytes[3]]);
-        let outside = fields[0].ends_with("m-valid")
-            || fields[1].starts_with("csr")
-            || fields[1] == "fence.i"
-            || fields[1] == "unimp";
-        if outside {
+        if fields[1].starts_with("csr") || fields[1] == "fence.i" || fields[1] == "unimp" {
             report.note(decode(word).is_none(), format!("passes: {row}"));
             illegal += 1;
         } else {
-            let good = match decode(word) {
-                None => false,
-                Some(instruction) => {
-                    encode(&instruction) == Some(word) && assembly(&instruction) == fields[1]
-                }
-            };
-            report.note(good, format!("{row}: {:?}", decode(word)));
+            report.note(spells(word, fields[1]), format!("{row}: {:?}", decode(word)));
             legal += 1;
         }
     }
     report.lines.push(format!("{legal} rows legal, {illegal} rows illegal"));
+    report
+}
+
+/// llvm.columns: word, number (00 or 13), text, origin; 48 bytes a line.
+pub fn check_llvm_columns(text: &str) -> Report {
+    let mut report = Report::default();
+    for line in text.lines() {
+        let word = hex(&line[0..8]) as u32;
+        let good = match &line[9..11] {
+            "00" => spells(word, line[12..36].trim_end()),
+            _ if word < 65536 => half_illegal(word),
+            _ => decode(word).is_none(),
+        };
+        report.note(good, format!("{line}: {:?}", decode(word)));
+    }
     report
 }
 
@@ -158,38 +171,104 @@ fn assignments(text: &str) -> Vec<(usize, u64)> {
         .collect()
 }
 
-/// Dart rows, run outside HFI mode in 2 MiB. An ECALL at the return address
-/// ends the run with 18. Rows that need more than RV64I stop with 13 (or 15).
+/// One of Dart's tests: its code, where that stands and returns to, and the
+/// registers before.
+struct Dart {
+    code: Vec<u8>,
+    pc: u64,
+    after: u64,
+    before: Vec<(usize, u64)>,
+}
+
+impl Dart {
+    /// The stop and the machine of a run outside HFI mode in 2 MiB. An ECALL at
+    /// the return address ends it with 18.
+    fn end(&self, run: &mut Run) -> (u64, Machine) {
+        let mut memory = vec![0u8; 0x20_0000];
+        let (pc, after) = (self.pc as usize, self.after as usize);
+        memory[pc..pc + self.code.len()].copy_from_slice(&self.code);
+        memory[after..after + 4].copy_from_slice(&0x0000_0073u32.to_le_bytes());
+        let mut machine = Machine { pc: self.pc, ..Machine::default() };
+        for (register, value) in &self.before {
+            machine.x[*register] = *value;
+        }
+        let (stop, _, _) = run(&mut machine, &mut memory, 1000);
+        (stop, machine)
+    }
+}
+
+/// Dart rows. Those that need more than RV64I and RV64M stop with 13 (or 15).
 pub fn check_dart(text: &str) -> Report {
     let mut report = Report::default();
     let (mut plain, mut beyond, mut halves) = (0, 0, 0);
     for row in text.lines() {
         let fields: Vec<&str> = row.split('\t').collect();
-        let mut memory = vec![0u8; 0x20_0000];
-        let pc = hex(fields[3]);
-        let code = byte_list(fields[2]);
-        memory[pc as usize..pc as usize + code.len()].copy_from_slice(&code);
-        let after = hex(fields[6]);
-        memory[after as usize..after as usize + 4].copy_from_slice(&0x0000_0073u32.to_le_bytes());
-        let mut machine = Machine { pc, ..Machine::default() };
-        for (register, value) in assignments(fields[4]) {
-            machine.x[register] = value;
-        }
-        let (stop, _, _) = run(&mut machine, &mut memory, 1000);
-        if fields[1] == "I" {
+        let (pc, after) = (hex(fields[3]), hex(fields[6]));
+        let case = Dart { code: byte_list(fields[2]), pc, after, before: assignments(fields[4]) };
+        let (stop, machine) = case.end(&mut run);
+        if fields[1] == "I" || fields[1] == "M" {
             let values = assignments(fields[7]).iter().all(|(register, value)| machine.x[*register] == *value);
             let good = stop == 18 && machine.pc == after && values;
             report.note(good, format!("{row}: stop {stop} pc {:x} x10 {:x}", machine.pc, machine.x[10]));
             plain += 1;
         } else {
-            // Four rows take a branch to a half-word before they reach one: 15.
+            // Some take a branch to a half-word before they reach one: 15.
             let to_half_word = stop == 15 && machine.pc == pc + 12 && fields[0].contains("BranchOverflow");
             report.note(stop == 13 || to_half_word, format!("{row}: stop {stop} pc {:x}", machine.pc));
             beyond += 1;
             halves += to_half_word as u32;
         }
     }
-    report.lines.push(format!("{plain} rows of RV64I, {beyond} rows beyond, {halves} of them stopped with 15"));
+    report.lines.push(format!("{plain} rows of RV64I and RV64M, {beyond} rows beyond, {halves} of them stopped with 15"));
+    report
+}
+
+/// dart-rv64i.columns, dart-rv64m.columns and dart-beyond.columns, 289 bytes a
+/// line (`crates/values/data/README.md`): the stop, and for 18 the result.
+pub fn check_dart_columns(text: &str, run: &mut Run) -> Report {
+    let mut report = Report::default();
+    for line in text.lines() {
+        let sixteen = |at: usize| hex(&line[at..at + 16]);
+        let words = (0..18).map(|n| hex(&line[144 + 8 * n..152 + 8 * n]) as u32);
+        let case = Dart {
+            code: words.flat_map(|word| word.to_le_bytes()).collect(),
+            pc: 0x10_0000,
+            after: 0x18_0000,
+            before: vec![(1, 0x18_0000), (2, 0x1f_0000), (10, sixteen(80)), (11, sixteen(96)), (12, sixteen(112))],
+        };
+        let (stop, machine) = case.end(run);
+        let told: u64 = line[68..70].parse().expect("a number");
+        let good = stop == told && (stop != 18 || machine.pc == case.after && machine.x[10] == sixteen(128));
+        report.note(good, format!("{}: stop {stop} pc {:x} x10 {:x}", line[0..64].trim_end(), machine.pc, machine.x[10]));
+    }
+    report
+}
+
+/// The table of RV64M: each word of `words` (OP x10, x5, x6, and its name) with
+/// each pair of `operands`; `results` has a line for each word and x5, and in
+/// it x10 for each x6.
+pub fn check_table(operands: &str, words: &str, results: &str, run: &mut Run) -> Report {
+    let mut report = Report::default();
+    let operands: Vec<u64> = operands.lines().map(hex).collect();
+    let mut lines = results.lines();
+    for row in words.lines() {
+        let (word, name) = (hex(&row[0..8]) as u32, row[9..16].trim_end());
+        report.note(spells(word, &format!("{name} a0, t0, t1")), format!("{row}: {:?}", decode(word)));
+        for x5 in &operands {
+            let told: Vec<u64> = lines.next().expect("a line of results").split(' ').map(hex).collect();
+            assert_eq!(told.len(), operands.len(), "results in a line");
+            for (x6, x10) in operands.iter().zip(told) {
+                let mut machine = Machine::default();
+                (machine.x[5], machine.x[6]) = (*x5, *x6);
+                let mut left = Machine { pc: 4, ..machine };
+                left.x[10] = x10;
+                let answer = run(&mut machine, &mut word.to_le_bytes(), 1);
+                let good = answer == (21, 1, 0) && machine == left;
+                report.note(good, format!("{name} of {x5:x}, {x6:x}: {answer:?} x10 {:x}, not {x10:x}", machine.x[10]));
+            }
+        }
+    }
+    report.note(lines.next().is_none(), "a line of results too many".to_string());
     report
 }
 
@@ -279,7 +358,7 @@ pub fn check_columns_with(text: &str, run: &mut Run) -> Report {
     report
 }
 
-/// words.columns: a word and whether it is legal RV64I, 16 bytes a line.
+/// words.columns: a word and whether it is legal RV64I or RV64M, 16 bytes a line.
 pub fn check_words(text: &str) -> Report {
     let mut report = Report::default();
     for line in text.lines() {

@@ -95,3 +95,63 @@ fn ranges() {
         (if rs2 { good } else { bad })(Instruction::Hfi { kind, rd: 0, rs1: 0, rs2: 31 });
     }
 }
+
+/// The words of RV64M as GNU binutils 2.40 assembles them.
+#[test]
+fn rv64m_words() {
+    use RegisterKind::*;
+    for (code, kind, rd, rs1, rs2) in [
+        (0x0262_8533, Mul, 10, 5, 6),
+        (0x0231_10b3, Mulh, 1, 2, 3),
+        (0x03df_2fb3, Mulhsu, 31, 30, 29),
+        (0x0262_b233, Mulhu, 4, 5, 6),
+        (0x0294_43b3, Div, 7, 8, 9),
+        (0x02c5_d533, Divu, 10, 11, 12),
+        (0x02f7_66b3, Rem, 13, 14, 15),
+        (0x0328_f833, Remu, 16, 17, 18),
+        (0x035a_09bb, Mulw, 19, 20, 21),
+        (0x038b_cb3b, Divw, 22, 23, 24),
+        (0x03bd_5cbb, Divuw, 25, 26, 27),
+        (0x03ee_ee3b, Remw, 28, 29, 30),
+        (0x0210_7fbb, Remuw, 31, 0, 1),
+    ] {
+        let instruction = Instruction::Register { kind, rd, rs1, rs2 };
+        assert_eq!(decode(code), Some(instruction));
+        assert_eq!(encode(&instruction), Some(code));
+        for (number, fits) in [(0, true), (31, true), (32, false), (1 << 32, false), (u64::MAX, false)] {
+            let check = if fits { good } else { bad };
+            check(Instruction::Register { kind, rd: number, rs1, rs2 });
+            check(Instruction::Register { kind, rd, rs1: number, rs2 });
+            check(Instruction::Register { kind, rd, rs1, rs2: number });
+        }
+    }
+}
+
+/// All 2^15 registers of each word with funct7 1: decoded and encoded back, or
+/// illegal where the manual has no row.
+#[test]
+fn funct7_one() {
+    for (opcode, rows) in [(0x33u32, 0b1111_1111u32), (0x3b, 0b1111_0001)] {
+        for funct3 in 0..8u32 {
+            for registers in 0..1u32 << 15 {
+                let (rd, sources) = (registers & 31, registers >> 5);
+                let code = 1 << 25 | sources << 15 | funct3 << 12 | rd << 7 | opcode;
+                assert_eq!(decode(code).and_then(|i| encode(&i)), (rows >> funct3 & 1 == 1).then_some(code), "{code:08x}");
+            }
+        }
+    }
+}
+
+/// The rows of OP and OP-32 in the manual's listing: funct7 0, 1 and 32.
+#[test]
+fn other_funct7() {
+    for (opcode, rows) in [(0x33u32, [0b1111_1111u32, 0b1111_1111, 0b0010_0001]), (0x3b, [0b0010_0011, 0b1111_0001, 0b0010_0001])] {
+        for funct7 in 0..128u32 {
+            let row = [0, 1, 32].iter().position(|n| *n == funct7).map_or(0, |n| rows[n]);
+            for funct3 in 0..8u32 {
+                let code = funct7 << 25 | 6 << 20 | 5 << 15 | funct3 << 12 | 7 << 7 | opcode;
+                assert_eq!(decode(code).is_some(), row >> funct3 & 1 == 1, "{code:08x}");
+            }
+        }
+    }
+}

@@ -20,7 +20,7 @@ fn sheets() {
         printed.extend(format!("{name}\n").into_bytes());
         printed.extend(oracle::respond(&input));
     }
-    assert!(index.lines().count() >= 587);
+    assert!(index.lines().count() >= 704);
     assert_eq!(String::from_utf8(printed).unwrap(), text("crates/sheets/stdout"));
 }
 
@@ -57,7 +57,7 @@ fn index() {
         assert_eq!(lines[at + 1], first, "{name}");
         seen += 1;
     }
-    assert!(seen >= 437);
+    assert!(seen >= 504);
 }
 
 /// The stored calls are those that the oracle writes, and it answers the
@@ -67,19 +67,43 @@ fn calls() {
     let (data, printed) = oracle::calls::stored();
     assert_eq!(data, text("crates/calls/data/calls"));
     assert_eq!(printed, text("crates/calls/stdout"));
-    assert!(oracle::calls::directed().len() >= 774);
+    assert!(oracle::calls::directed().len() >= 1224);
+}
+
+fn authored(name: &str) -> String {
+    text(&format!("crates/values/authoring/{name}.columns"))
+}
+
+fn good(report: oracle::vectors::Report, least: usize) {
+    assert_eq!(report.failed, 0, "{:?}", report.lines);
+    assert!(report.passed >= least, "{} passed", report.passed);
 }
 
 #[test]
 fn values() {
-    let report = oracle::vectors::check_columns(&text("crates/values/authoring/values.columns"));
-    assert_eq!(report.failed, 0, "{:?}", report.lines);
-    assert!(report.passed > 1000);
+    good(oracle::vectors::check_columns(&authored("values")), 1207);
 }
 
 #[test]
 fn words() {
-    let report = oracle::vectors::check_words(&text("crates/decode_words/authoring/words.columns"));
-    assert_eq!(report.failed, 0, "{:?}", report.lines);
-    assert!(report.passed > 5000);
+    good(oracle::vectors::check_words(&text("crates/decode_words/authoring/words.columns")), 6588);
+}
+
+#[test]
+fn llvm() {
+    good(oracle::vectors::check_llvm_columns(&text("crates/decode_words/authoring/llvm.columns")), 169);
+}
+
+#[test]
+fn dart() {
+    for (name, least) in [("dart-rv64i", 362), ("dart-rv64m", 104), ("dart-beyond", 176)] {
+        good(oracle::vectors::check_dart_columns(&authored(name), &mut oracle::run), least);
+    }
+}
+
+/// Each of the 13 with 22 times 22 pairs of operands, QEMU's results.
+#[test]
+fn rv64m_table() {
+    let (operands, words, results) = (authored("operands"), authored("rv64m"), authored("rv64m-results"));
+    good(oracle::vectors::check_table(&operands, &words, &results, &mut oracle::run), 13 * 22 * 22);
 }

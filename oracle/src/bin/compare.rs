@@ -64,7 +64,7 @@ fn main() {
         });
         long_memories(&Oracle, under_test.as_ref(), seed, &mut counts);
         if many / threads >= H_ROUNDS {
-            let unmet = h_words_unmet(&counts);
+            let unmet = [h_words_unmet(&counts), oracle::m_words::unmet(&counts.m_words)].concat();
             unmet.into_iter().for_each(|text| counts.difference(text));
         }
         print_counts(&counts);
@@ -223,16 +223,30 @@ fn bent(instruction: oracle::Instruction, supply: &mut oracle::supply::Supply) -
     }
 }
 
-/// The stored value cases, words, sheets and calls.
+/// Runs the stored values, Dart's cases and the table of RV64M on an engine.
+fn stored_values(engine: &dyn Engine, text: &dyn Fn(&str) -> String, counts: &mut Counts) {
+    use oracle::vectors::{check_columns_with, check_dart_columns, check_table};
+    let run = &mut |m: &mut Machine, bytes: &mut [u8], budget| engine.run(m, bytes, budget).unwrap();
+    let file = |name: &str| text(&format!("crates/values/authoring/{name}.columns"));
+    let reports = [
+        ("values", check_columns_with(&file("values"), run)),
+        ("dart-rv64i", check_dart_columns(&file("dart-rv64i"), run)),
+        ("dart-rv64m", check_dart_columns(&file("dart-rv64m"), run)),
+        ("dart-beyond", check_dart_columns(&file("dart-beyond"), run)),
+        ("rv64m-results", check_table(&file("operands"), &file("rv64m"), &file("rv64m-results"), run)),
+    ];
+    for (name, report) in reports {
+        println!("{name}: {} passed, {} failed", report.passed, report.failed);
+        counts.differences.extend(report.lines);
+    }
+}
+
+/// The stored values, words, sheets and calls.
 fn stored(engine: &dyn Engine, counts: &mut Counts) {
     let root = std::path::Path::new(env!("CARGO_MANIFEST_DIR")).join("..");
     let text = |path: &str| String::from_utf8(std::fs::read(root.join(path)).expect(path)).expect("text");
     if engine.run(&mut Default::default(), &mut [], 0).is_some() {
-        let report = oracle::vectors::check_columns_with(&text("crates/values/authoring/values.columns"), &mut |m, bytes, budget| {
-            engine.run(m, bytes, budget).unwrap()
-        });
-        println!("values: {} passed, {} failed", report.passed, report.failed);
-        counts.differences.extend(report.lines);
+        stored_values(engine, &text, counts);
     }
     // Each stored word as a step outside HFI mode.
     for line in text("crates/decode_words/authoring/words.columns").lines() {
@@ -257,7 +271,7 @@ fn stored(engine: &dyn Engine, counts: &mut Counts) {
         }
         println!("words: {passed} passed, {failed} failed");
     }
-    let (directed, random) = (oracle::calls::directed(), oracle::calls::random(20, oracle::calls::RANDOM));
+    let (directed, random) = (oracle::calls::directed(), oracle::calls::random());
     let (mut passed, mut failed) = (0, 0);
     for call in directed.iter().map(|row| &row.call).chain(&random) {
         let Some(answer) = call.answer(engine) else { continue };
