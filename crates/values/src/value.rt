@@ -112,7 +112,7 @@ fn cases(s: &[u8]) {
 
 // A line for each case of a file. What is printed is left free: no contract can speak of it, and the stored output has it.
 pub fn cases_of(path: &[u8]) {
-    let mut room = [0u8; 262144];
+    let mut room = [0u8; 524288];
     let n = read_file(path, &mut room);
     cases(&room[..n]);
 }

@@ -5,3 +5,4 @@ pub mod Signed
 pub mod Residues
 pub mod Products
 pub mod Quotients
+pub mod Exact

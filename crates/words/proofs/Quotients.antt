@@ -94,7 +94,7 @@ quotient-unsigned w a b h e = quotient-word w (pos a) (pos b) e ∙ mod-eq-of-lt
 
 -- ---- remainders
 
-rem-zero : (n d : ℤ) → natAbs d ≡ 0 → n ≡ remZ n d
+pub rem-zero : (n d : ℤ) → natAbs d ≡ 0 → n ≡ remZ n d
 rem-zero (pos n) d e = ap pos (sym (ap (λ (m : ℕ). n % m) e ∙ mod-zero n))
 rem-zero (negsuc n) d e = ap (λ (m : ℕ). negℤ (pos m)) (sym (ap (λ (m : ℕ). suc n % m) e ∙ mod-zero (suc n)))
 

@@ -90,7 +90,8 @@ pub fn divide(a: u64, b: u64, width: u64) -> u64
     requires { ⌜ (0 < width) × (width ≤ 64) × (a < 2 ^ width) ⌝ }
     ensures { λ r. ⌜ r ≡ quotient width (pos a) (pos b) ⌝ }
 {
-    if b == 0 { ones(width) } else { a / b }
+    let top = ones(width);
+    if b == 0 { top } else { a / b }
 }
 
 // The remainder, unsigned.
@@ -105,8 +106,9 @@ pub fn divide_signed(a: u64, b: u64, width: u64) -> u64
     requires { ⌜ (0 < width) × (width ≤ 64) × (a < 2 ^ width) × (b < 2 ^ width) ⌝ }
     ensures { λ r. ⌜ r ≡ quotient width (signed width a) (signed width b) ⌝ }
 {
+    let top = ones(width);
     if b == 0 {
-        return ones(width);
+        return top;
     }
     let negative = is_negative(a, width) ^ is_negative(b, width);
     with_sign(negative, magnitude(a, width) / magnitude(b, width), width)

@@ -6,7 +6,7 @@ use Rattle.model.specs.Step.{store}
 use Rattle.model.specs.Access.{explicitAccess, offset, storeWidth}
 use Rattle.model.specs.Regions.{write}
 use Rattle.model.specs.Machine.{region}
-use Rattle.arithmetic.proofs.Word.{word-lt}
+use Rattle.words.proofs.Residues.{word-lt}
 use Rattle.memory.proofs.Widths.{store-is-width, width-bounds}
 use Rattle.memory.proofs.Fits.{passed-fits}
 use borrow.Author.Needs.{needs}

@@ -12,5 +12,5 @@ divide-spec =
     (tie.spec
     (λ c κs. search needs)
     (λ c. omega arith)
-    (λ c. let s = c .before .before in c .ones .ensures ∙ sym (quotient-by-zero (s .args .width) (pos (s .args .a)) (pos (s .args .b)) (c .before .if1 .taken)))
-    (λ c. let s = c .before in sym (quotient-unsigned (s .args .width) (s .args .a) (s .args .b) (s .pre .2) (c .if1 .left))))
+    (λ c. let s = c .before .before in c .before .ones .ensures ∙ sym (quotient-by-zero (s .args .width) (pos (s .args .a)) (pos (s .args .b)) (c .if1 .taken)))
+    (λ c. let s = c .before .before in sym (quotient-unsigned (s .args .width) (s .args .a) (s .args .b) (s .pre .2) (c .if1 .left))))

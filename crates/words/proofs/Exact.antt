@@ -1,0 +1,85 @@
+-- What the definitions of specs/Integer come to, over the width: a product's halves are the whole product, and the cases of
+-- division that document 02 names.
+-- Assumes nothing.
+use mathlib.Core.Path.{_≡_, refl, sym, ap, ap₂, _∙_}
+use mathlib.Core.Bool.{Bool, true, false, not}
+use Prim.Native.Nat.{ℕ, zero, suc, _+_, _-_, _*_, _/_, _%_, _^_, _<_, _≤_}
+use native.Mathlib.Nat.{mod-eq-of-lt, mod-zero, mod-one, div-one, lt-of-le-of-lt, mul-le-mul-left, mul-le-mul-right, mul-lt-mul-of-pos-left, mul-lt-mul-of-pos-right, le-of-lt, le-refl}
+use native.Mathlib.Omega.{arith}
+use lib.Dec.{ltb}
+use lib.IntN.{ℤ, pos, negsuc, negℤ, natAbs, _*ℤ_}
+use lib.Pow.{pow-pos, pow-add, recompose, ones-lt}
+use lib.Signed.{mag, remZ}
+use borrow.Author.Tests.{ltb-true, ltb-false, lt-ltb, le-ltb}
+use Rattle.words.specs.Word.{signed, word}
+use Rattle.words.specs.Integer.{lowHalf, highHalf, quotient, remainder}
+use Rattle.words.proofs.Extend.{halves}
+use Rattle.words.proofs.Residues.{word-lt, word-signed}
+use Rattle.words.proofs.Products.{high-unsigned}
+use Rattle.words.proofs.Quotients.{quotient-by-zero, remainder-word, rem-zero}
+
+-- ---- products
+
+-- the two halves side by side are the product's bits
+pub side-by-side : (w : ℕ) (z : ℤ) → highHalf w z * 2 ^ w + lowHalf w z ≡ word (w + w) z
+unfolding highHalf lowHalf
+side-by-side w z = rw div-one (recompose w w (word-lt (w + w) z))
+
+-- bits that can hold a number stand for it
+pub signed-word : (k : ℕ) (z : ℤ) → 0 < k → mag z < 2 ^ (k - 1) → signed k (word k z) ≡ z
+signed-word k (pos n) h l =
+    let e : n % 2 ^ k ≡ n = mod-eq-of-lt (omega (arith, halves k h)) in
+    rw (e, lt-ltb n (2 ^ (k - 1)) l) refl
+signed-word k (negsuc n) h l =
+    let e : n % 2 ^ k ≡ n = mod-eq-of-lt (omega (arith, halves k h)) in
+    let p : 2 ^ (k - 1) ≤ 2 ^ k - suc n = omega (arith, halves k h) in
+    rw (e, le-ltb (2 ^ k - suc n) (2 ^ (k - 1)) p) (ap negsuc (omega (arith, halves k h)))
+
+mag-le : (n : ℕ) → mag (negℤ (pos n)) ≤ n
+mag-le zero = omega arith
+mag-le (suc n) = omega arith
+
+mag-product : (y z : ℤ) → mag (y *ℤ z) ≤ natAbs y * natAbs z
+mag-product (pos a) (pos b) = omega arith
+mag-product (pos a) (negsuc b) = mag-le (a * suc b)
+mag-product (negsuc a) (pos b) = mag-le (suc a * b)
+mag-product (negsuc a) (negsuc b) = omega arith
+
+-- of a factor of w signed bits and one of w bits, signed or not: the two halves stand for the very product
+pub whole-product : (w : ℕ) (y z : ℤ) → 0 < w → natAbs y ≤ 2 ^ (w - 1) → natAbs z < 2 ^ w
+    → signed (w + w) (highHalf w (y *ℤ z) * 2 ^ w + lowHalf w (y *ℤ z)) ≡ y *ℤ z
+whole-product w y z h l k =
+    let e : w - 1 + w ≡ w + w - 1 = omega arith in
+    let p : natAbs y * natAbs z < 2 ^ (w + w - 1) =
+    rw (← e, pow-add 2 (w - 1) w) (lt-of-le-of-lt (mul-le-mul-right (natAbs z) l) (mul-lt-mul-of-pos-left k (pow-pos (w - 1)))) in
+    ap (signed (w + w)) (side-by-side w (y *ℤ z)) ∙ signed-word (w + w) (y *ℤ z) (omega arith) (lt-of-le-of-lt (mag-product y z) p)
+
+-- of two unsigned factors: the product as a number
+pub whole-unsigned : (w a b : ℕ) → a < 2 ^ w → b < 2 ^ w → highHalf w (pos a *ℤ pos b) * 2 ^ w + lowHalf w (pos a *ℤ pos b) ≡ a * b
+whole-unsigned w a b h l =
+    side-by-side w (pos a *ℤ pos b) ∙ mod-eq-of-lt (rw (pow-add 2 w w) (lt-of-le-of-lt (mul-le-mul-left a (le-of-lt l)) (mul-lt-mul-of-pos-right h (pow-pos w))))
+
+-- what a signed operand can be
+pub signed-bound : (w a : ℕ) → 0 < w → a < 2 ^ w → natAbs (signed w a) ≤ 2 ^ (w - 1)
+signed-bound w a h l = go (ltb a (2 ^ (w - 1))) refl
+  where
+    go : (b : Bool) → ltb a (2 ^ (w - 1)) ≡ b → natAbs (signed w a) ≤ 2 ^ (w - 1)
+    go true e = rw e (le-of-lt (ltb-true a (2 ^ (w - 1)) e))
+    go false e = rw e (omega (arith, ltb-false a (2 ^ (w - 1)) e, halves w h))
+
+-- ---- division
+
+-- "Division by zero gives all ones as quotient and the dividend as remainder."
+pub by-zero : (w a : ℕ) (n : ℤ) → word w n ≡ a → (quotient w n (pos 0) ≡ 2 ^ w - 1) × (remainder w n (pos 0) ≡ a)
+by-zero w a n e = (quotient-by-zero w n (pos 0) refl, remainder-word w n (pos 0) ∙ ap (word w) (sym (rem-zero n (pos 0) refl)) ∙ e)
+
+-- "The most negative number divided by -1 gives itself, with remainder 0."
+pub overflow : (w : ℕ) → 0 < w
+    → (quotient w (signed w (2 ^ (w - 1))) (signed w (2 ^ w - 1)) ≡ 2 ^ (w - 1)) × (remainder w (signed w (2 ^ (w - 1))) (signed w (2 ^ w - 1)) ≡ 0)
+unfolding quotient remainder
+overflow w h =
+    let p : suc (2 ^ w - suc (2 ^ (w - 1))) ≡ 2 ^ (w - 1) = omega (arith, halves w h, pow-pos (w - 1)) in
+    let q : 2 ^ w - suc (2 ^ w - 1) ≡ 0 = omega (arith, pow-pos w) in
+    let l : 2 ^ (w - 1) ≤ 2 ^ w - 1 = omega (arith, halves w h, pow-pos (w - 1)) in
+    let m : 2 ^ (w - 1) < 2 ^ w = omega (arith, halves w h, pow-pos (w - 1)) in
+    rw (le-ltb (2 ^ (w - 1)) (2 ^ (w - 1)) (le-refl (2 ^ (w - 1))), le-ltb (2 ^ w - 1) (2 ^ (w - 1)) l, q, p, div-one, mod-one) (mod-eq-of-lt m, mod-eq-of-lt (pow-pos w))
