@@ -84,27 +84,27 @@ pub fn operate_word(k: RegisterWordKind, a: u64, b: u64) -> u64
     sign_extend(operate_32(k, bits(a, 0, 32), bits(b, 0, 32)), 32)
 }
 
-// The operation that each kind with an immediate or an amount is a form of.
-pub fn of_immediate(k: ImmediateKind) -> RegisterKind
-    ensures { λ r. ⌜ r ≡ ofImmediate k ⌝ }
+// The same with an immediate, or with an amount.
+pub fn operate_immediate(k: ImmediateKind, a: u64, imm: u64) -> u64
+    ensures { λ r. ⌜ r ≡ operateAt 64 (ofImmediate k) a imm ⌝ }
 {
     match k {
-        ImmediateKind::Addi => RegisterKind::Add,
-        ImmediateKind::Slti => RegisterKind::Slt,
-        ImmediateKind::Sltiu => RegisterKind::Sltu,
-        ImmediateKind::Xori => RegisterKind::Xor,
-        ImmediateKind::Ori => RegisterKind::Or,
-        ImmediateKind::Andi => RegisterKind::And,
+        ImmediateKind::Addi => wrapping_add_u64(a, imm),
+        ImmediateKind::Slti => flag(signed_less(a, imm)),
+        ImmediateKind::Sltiu => flag(a < imm),
+        ImmediateKind::Xori => a ^ imm,
+        ImmediateKind::Ori => a | imm,
+        ImmediateKind::Andi => a & imm,
     }
 }
 
-pub fn of_shift(k: ShiftKind) -> RegisterKind
-    ensures { λ r. ⌜ r ≡ ofShift k ⌝ }
+pub fn operate_shift(k: ShiftKind, a: u64, amount: u64) -> u64
+    ensures { λ r. ⌜ r ≡ operateAt 64 (ofShift k) a amount ⌝ }
 {
     match k {
-        ShiftKind::Slli => RegisterKind::Sll,
-        ShiftKind::Srli => RegisterKind::Srl,
-        ShiftKind::Srai => RegisterKind::Sra,
+        ShiftKind::Slli => a << (amount % 64),
+        ShiftKind::Srli => a >> (amount % 64),
+        ShiftKind::Srai => shift_right_signed(a, 64, amount % 64),
     }
 }
 

@@ -11,10 +11,10 @@ ghost use Rattle.model.specs.Machine.{machine};
 ghost use Rattle.model.specs.Step.{perform};
 ghost use Rattle.hart.specs.Effect.{effectWith};
 use arithmetic::jalr_target;
-use arithmetic::of_immediate;
-use arithmetic::of_shift;
 use arithmetic::of_shift_word;
 use arithmetic::operate;
+use arithmetic::operate_immediate;
+use arithmetic::operate_shift;
 use arithmetic::operate_word;
 use arithmetic::taken;
 use hart::effect::Effect;
@@ -192,11 +192,11 @@ pub fn execute(
         Instruction::Load(k, rd, rs1, imm) => load(x, pc, hfi, mem, next, k, rd, rs1, imm),
         Instruction::Store(k, rs1, rs2, imm) => store(x, pc, hfi, mem, next, k, rs1, rs2, imm),
         Instruction::Immediate(k, rd, rs1, imm) => {
-            let v = operate(of_immediate(k), register(x, rs1), imm);
+            let v = operate_immediate(k, register(x, rs1), imm);
             write_back(x, hfi, next, rd, v)
         }
         Instruction::Shift(k, rd, rs1, amount) => {
-            let v = operate(of_shift(k), register(x, rs1), amount);
+            let v = operate_shift(k, register(x, rs1), amount);
             write_back(x, hfi, next, rd, v)
         }
         Instruction::Addiw(rd, rs1, imm) => {

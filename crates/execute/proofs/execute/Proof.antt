@@ -53,32 +53,26 @@ store-requires c κs = below (c .before .before .before .i6 .given .1) (c .befor
 enum-known-i-7 : tie.Need-enum-known-i-7
 enum-known-i-7 c = search needs
 
-of-immediate-requires : tie.Need-of-immediate-requires
-of-immediate-requires c κs = search needs
-
 register-requires-2 : tie.Need-register-requires-2
-register-requires-2 c κs = below (c .before .before .before .i7 .given .1) (c .before .before .before .before .before .before .pre) .1
+register-requires-2 c κs = below (c .before .before .i7 .given .1) (c .before .before .before .before .before .pre) .1
 
-operate-requires : tie.Need-operate-requires
-operate-requires c κs = search needs
+operate-immediate-requires : tie.Need-operate-immediate-requires
+operate-immediate-requires c κs = search needs
 
 write-back-requires : tie.Need-write-back-requires
-write-back-requires c κs = below (c .before .before .before .before .before .before .i7 .given .1) (c .before .before .before .before .before .before .before .before .before .pre) .0
+write-back-requires c κs = below (c .before .before .before .before .before .i7 .given .1) (c .before .before .before .before .before .before .before .before .pre) .0
 
 enum-known-i-8 : tie.Need-enum-known-i-8
 enum-known-i-8 c = search needs
 
-of-shift-requires : tie.Need-of-shift-requires
-of-shift-requires c κs = search needs
-
 register-requires-3 : tie.Need-register-requires-3
-register-requires-3 c κs = below (c .before .before .before .i8 .given .1) (c .before .before .before .before .before .before .pre) .1
+register-requires-3 c κs = below (c .before .before .i8 .given .1) (c .before .before .before .before .before .pre) .1
 
-operate-requires-2 : tie.Need-operate-requires-2
-operate-requires-2 c κs = search needs
+operate-shift-requires : tie.Need-operate-shift-requires
+operate-shift-requires c κs = search needs
 
 write-back-requires-2 : tie.Need-write-back-requires-2
-write-back-requires-2 c κs = below (c .before .before .before .before .before .before .i8 .given .1) (c .before .before .before .before .before .before .before .before .before .pre) .0
+write-back-requires-2 c κs = below (c .before .before .before .before .before .i8 .given .1) (c .before .before .before .before .before .before .before .before .pre) .0
 
 enum-known-i-9 : tie.Need-enum-known-i-9
 enum-known-i-9 c = search needs
@@ -116,8 +110,8 @@ register-requires-6 c κs = below (c .before .before .i11 .given .1) (c .before 
 register-requires-7 : tie.Need-register-requires-7
 register-requires-7 c κs = below (c .before .before .before .before .i11 .given .1) (c .before .before .before .before .before .before .before .pre) .2
 
-operate-requires-3 : tie.Need-operate-requires-3
-operate-requires-3 c κs = search needs
+operate-requires : tie.Need-operate-requires
+operate-requires c κs = search needs
 
 write-back-requires-5 : tie.Need-write-back-requires-5
 write-back-requires-5 c κs = below (c .before .before .before .before .before .before .before .i11 .given .1) (c .before .before .before .before .before .before .before .before .before .before .pre) .0
@@ -195,11 +189,11 @@ returns-6 c = c .before .before .store .ensures ∙ ap (perform _ _ _) (sym (c .
 
 returns-7 : tie.Need-returns-7
 unfolding perform
-returns-7 c = c .write-back .ensures _ ∙ rw (c .before .before .before .before .before .before .before .i7 .given .1, c .before .before .operate .ensures, c .before .before .before .before .before .of-immediate .ensures, c .before .before .before .register2 .ensures)
+returns-7 c = c .write-back .ensures _ ∙ rw (c .before .before .before .before .before .before .i7 .given .1, c .before .before .operate-immediate .ensures, c .before .before .before .register2 .ensures)
 
 returns-8 : tie.Need-returns-8
 unfolding perform
-returns-8 c = c .write-back2 .ensures _ ∙ rw (c .before .before .before .before .before .before .before .i8 .given .1, c .before .before .operate2 .ensures, c .before .before .before .before .before .of-shift .ensures, c .before .before .before .register3 .ensures)
+returns-8 c = c .write-back2 .ensures _ ∙ rw (c .before .before .before .before .before .before .i8 .given .1, c .before .before .operate-shift .ensures, c .before .before .before .register3 .ensures)
 
 returns-9 : tie.Need-returns-9
 unfolding perform
@@ -211,7 +205,7 @@ returns-10 c = c .write-back4 .ensures _ ∙ rw (c .before .before .before .befo
 
 returns-11 : tie.Need-returns-11
 unfolding perform
-returns-11 c = c .write-back5 .ensures _ ∙ rw (c .before .before .before .before .before .before .before .before .i11 .given .1, c .before .before .operate3 .ensures, c .before .before .before .register7 .ensures, c .before .before .before .before .before .register6 .ensures)
+returns-11 c = c .write-back5 .ensures _ ∙ rw (c .before .before .before .before .before .before .before .before .i11 .given .1, c .before .before .operate .ensures, c .before .before .before .register7 .ensures, c .before .before .before .before .before .register6 .ensures)
 
 returns-12 : tie.Need-returns-12
 unfolding perform
@@ -259,14 +253,12 @@ execute-spec =
     enum-known-i-6
     store-requires
     enum-known-i-7
-    of-immediate-requires
     register-requires-2
-    operate-requires
+    operate-immediate-requires
     write-back-requires
     enum-known-i-8
-    of-shift-requires
     register-requires-3
-    operate-requires-2
+    operate-shift-requires
     write-back-requires-2
     enum-known-i-9
     register-requires-4
@@ -280,7 +272,7 @@ execute-spec =
     enum-known-i-11
     register-requires-6
     register-requires-7
-    operate-requires-3
+    operate-requires
     write-back-requires-5
     enum-known-i-12
     register-requires-8
