@@ -57,12 +57,13 @@ static const struct placed leaving[] = {
 /* c/call.sheet; what follows the call is in c/resumed.expected, since a sheet cannot resume */
 static const struct placed calling[] = {
     {0x0, 0x00300293},  /* addi x5, x0, 3 */
-    {0x4, 0x02800513},  /* addi x10, x0, 40 */
-    {0x8, 0x00000073},  /* ecall */
-    {0xc, 0x00a2802b},  /* hsb x10, 0(x5): the byte 3 of region 1, as x5 says */
-    {0x10, 0x0030038b}, /* hlb x7, 3(x0): what was stored there */
-    {0x14, 0x00300303}, /* lb x6, 3(x0): no implicit data region, so it is refused */
-    {0x18, 0x0400005b}, /* hfiexit */
+    {0x4, 0x00e00513},  /* addi x10, x0, 14 */
+    {0x8, 0x02550533},  /* mul x10, x10, x5 */
+    {0xc, 0x00000073},  /* ecall */
+    {0x10, 0x00a2802b}, /* hsb x10, 0(x5): the byte 3 of region 1, as x5 says */
+    {0x14, 0x0030038b}, /* hlb x7, 3(x0): what was stored there */
+    {0x18, 0x00300303}, /* lb x6, 3(x0): no implicit data region, so it is refused */
+    {0x1c, 0x0400005b}, /* hfiexit */
 };
 
 int main(void)

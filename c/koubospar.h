@@ -1,4 +1,4 @@
-/* libkoubospar.a and libkoubospar_codec.a: an RV64I machine with HFI, for a controller.
+/* libkoubospar.a and libkoubospar_codec.a: an RV64IM machine with HFI, for a controller.
  *
  * `rt staticlib koubospar` and `rt staticlib koubospar_codec` build them in target/staticlib/; nothing of them is
  * compiled unless it is proved. The second has koubospar_decode and koubospar_encode, the first all else. Numbers and
@@ -154,7 +154,8 @@ enum {
 
 /* A kind's number is its code in the word: the opcode of an upper word; funct3 of a branch, a load, a store (h-prefixed
  * or not) and an immediate; funct7 (of a 64-bit shift by an amount, the six bits above it) and funct3 as one number,
- * 8 * funct7 + funct3, of a register word and of shifts; funct12 of a system word; funct7 of an HFI word. */
+ * 8 * funct7 + funct3, of a register word (so ADD is 0, SUB 256 and MUL 8) and of shifts; funct12 of a system word; funct7
+ * of an HFI word. */
 struct koubospar_instruction {
     uint64_t group;
     uint64_t kind;

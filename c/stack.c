@@ -161,15 +161,15 @@ static void decode_and_encode(void)
 }
 
 /* Each opcode with each funct3 and the values of funct7 that mean something. An HFI or system word has few fields that may
- * be other than zero, so these have several forms. */
+ * be other than zero, and a division asks for its divisor, so these have several forms. */
 static void words(void)
 {
-    static const uint32_t opcodes[] = {0x5b, 0x73, 0x03, 0x0b, 0x0f, 0x13, 0x17, 0x1b, 0x23,
-                                       0x2b, 0x33, 0x37, 0x3b, 0x63, 0x67, 0x6f, 0};
+    static const uint32_t opcodes[] = {0x5b, 0x73, 0x33, 0x3b, 0x03, 0x0b, 0x0f, 0x13, 0x17,
+                                       0x1b, 0x23, 0x2b, 0x37, 0x63, 0x67, 0x6f, 0};
     static const uint32_t fields[] = {6 << 15 | 5 << 7, 0, 5 << 7, 6 << 15, 8 << 20 | 6 << 15, 7 << 20 | 6 << 15};
     for (size_t o = 0; o < sizeof opcodes / sizeof opcodes[0]; o++)
         for (uint32_t funct = 0; funct < 8 * 16; funct++)
-            for (size_t f = 0; f < (o < 2 ? 6 : 1); f++) {
+            for (size_t f = 0; f < (o < 4 ? 6 : 1); f++) {
                 uint32_t funct7 = funct / 8 == 15 ? 0x20 : funct / 8;
                 word = funct7 << 25 | (funct % 8) << 12 | fields[f] | opcodes[o];
                 step_and_run_in_each_mode(word);

@@ -24,7 +24,7 @@ fn sheets() {
     assert_eq!(String::from_utf8(printed).unwrap(), text("crates/sheets/stdout"));
 }
 
-/// The four programs of bench/ end as its table says.
+/// The five programs of bench/ end as its table says.
 #[test]
 fn bench_programs() {
     for (name, first, x10) in [
@@ -32,6 +32,7 @@ fn bench_programs() {
         ("sieve", "18,3ddd4,6c,0,0,0,0,0,0", "10,8d6"),
         ("matrix", "18,70471,dc,0,0,0,0,0,0", "10,b6f65514b410d546"),
         ("copy", "20,61a1c,1238,1,1234,0,0,0,0", "10,2da925fcaacf0d49"),
+        ("matrix-mul", "18,1249d,c4,0,0,0,0,0,0", "10,b6f65514b410d546"),
     ] {
         let printed = oracle::respond(text(&format!("bench/programs/{name}.sheet")).as_bytes());
         let printed = String::from_utf8(printed).unwrap();

@@ -1,7 +1,7 @@
 -- What the word forms ask of words: results fit their width, and 64 bits that were cut to 32 are the 32 bits of the whole.
 -- Assumes nothing.
 use mathlib.Core.Path.{_≡_, sym, _∙_}
-use Prim.Native.Nat.{ℕ, _/_, _%_, _^_, _<_}
+use Prim.Native.Nat.{ℕ, _+_, _/_, _%_, _^_, _<_}
 use native.Mathlib.Nat.{lt-of-le-of-lt, div-le-self}
 use native.Mathlib.Omega.{arith}
 use lib.IntN.{pos}
@@ -19,6 +19,10 @@ low n e = (omega (arith, e), omega (arith, e))
 
 pub low-of-wrapped : (n : ℕ) {r : ℕ} → r ≡ field (n % 2 ^ 64) 0 32 → (r ≡ n % 2 ^ 32) × (r < 2 ^ 32)
 low-of-wrapped n e = (omega (arith, e), omega (arith, e))
+
+-- the low 32 bits of a sum are the sum of the low 32 bits
+pub low-sum : (a b : ℕ) → field ((a + b) % 2 ^ 64) 0 32 ≡ (field a 0 32 + field b 0 32) % 2 ^ 32
+low-sum a b = omega arith
 
 -- an unsigned remainder of 64 bits is that of 32, where the dividend has no more
 pub narrow : (a b : ℕ) → a < 2 ^ 32 → remainder 64 (pos a) (pos b) ≡ remainder 32 (pos a) (pos b)

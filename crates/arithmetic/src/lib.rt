@@ -1,6 +1,7 @@
 // What the operations make of values: the leaves of every instruction that only computes.
 ghost use mathlib.Core.Path.{_≡_};
 ghost use Prim.Native.Nat.{_*_, _^_, _<_};
+ghost use Rattle.instructions.specs.declared.kind.RegisterKind.the-variants.{Add};
 ghost use Rattle.model.specs.Access.{loadWidth};
 ghost use Rattle.model.specs.Step.{jalrTarget};
 ghost use Rattle.model.specs.Arithmetic.{flag as flagOf, operate as operateAt, operateWord, ofRegisterWord, ofImmediate, ofShift, ofShiftWord, taken as isTaken, extended as extendedOf};
@@ -58,6 +59,18 @@ pub fn operate(k: RegisterKind, a: u64, b: u64) -> u64
     }
 }
 
+// A shift of 32 bits.
+fn shift_32(k: ShiftWordKind, a: u64, b: u64) -> u64
+    requires { ⌜ a < 2 ^ 32 ⌝ }
+    ensures { λ r. ⌜ (r ≡ operateAt 32 (ofShiftWord k) a b) × (r < 2 ^ 32) ⌝ }
+{
+    match k {
+        ShiftWordKind::Slliw => bits(a << (b % 32), 0, 32),
+        ShiftWordKind::Srliw => a >> (b % 32),
+        ShiftWordKind::Sraiw => shift_right_signed(a, 32, b % 32),
+    }
+}
+
 // The same on 32 bits, of the kinds that have a word form.
 fn operate_32(k: RegisterWordKind, a: u64, b: u64) -> u64
     requires { ⌜ (a < 2 ^ 32) × (b < 2 ^ 32) ⌝ }
@@ -66,9 +79,9 @@ fn operate_32(k: RegisterWordKind, a: u64, b: u64) -> u64
     match k {
         RegisterWordKind::Addw => bits(a + b, 0, 32),
         RegisterWordKind::Subw => bits(a + (0x1_0000_0000 - b), 0, 32),
-        RegisterWordKind::Sllw => bits(a << (b % 32), 0, 32),
-        RegisterWordKind::Srlw => a >> (b % 32),
-        RegisterWordKind::Sraw => shift_right_signed(a, 32, b % 32),
+        RegisterWordKind::Sllw => shift_32(ShiftWordKind::Slliw, a, b),
+        RegisterWordKind::Srlw => shift_32(ShiftWordKind::Srliw, a, b),
+        RegisterWordKind::Sraw => shift_32(ShiftWordKind::Sraiw, a, b),
         RegisterWordKind::Mulw => bits(a * b, 0, 32),
         RegisterWordKind::Divw => divide_signed(a, b, 32),
         RegisterWordKind::Divuw => divide(a, b, 32),
@@ -108,14 +121,16 @@ pub fn operate_shift(k: ShiftKind, a: u64, amount: u64) -> u64
     }
 }
 
-pub fn of_shift_word(k: ShiftWordKind) -> RegisterWordKind
-    ensures { λ r. ⌜ ofRegisterWord r ≡ ofShiftWord k ⌝ }
+pub fn add_word(a: u64, imm: u64) -> u64
+    ensures { λ r. ⌜ r ≡ operateWord Add a imm ⌝ }
 {
-    match k {
-        ShiftWordKind::Slliw => RegisterWordKind::Sllw,
-        ShiftWordKind::Srliw => RegisterWordKind::Srlw,
-        ShiftWordKind::Sraiw => RegisterWordKind::Sraw,
-    }
+    sign_extend(bits(wrapping_add_u64(a, imm), 0, 32), 32)
+}
+
+pub fn operate_shift_word(k: ShiftWordKind, a: u64, amount: u64) -> u64
+    ensures { λ r. ⌜ r ≡ operateWord (ofShiftWord k) a amount ⌝ }
+{
+    sign_extend(shift_32(k, bits(a, 0, 32), bits(amount, 0, 32)), 32)
 }
 
 // The target of JALR: the lowest bit of the sum is zero.

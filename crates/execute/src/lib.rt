@@ -10,11 +10,12 @@ ghost use Rattle.instructions.specs.declared.instruction.Instruction.the-varian
 ghost use Rattle.model.specs.Machine.{machine};
 ghost use Rattle.model.specs.Step.{perform};
 ghost use Rattle.hart.specs.Effect.{effectWith};
+use arithmetic::add_word;
 use arithmetic::jalr_target;
-use arithmetic::of_shift_word;
 use arithmetic::operate;
 use arithmetic::operate_immediate;
 use arithmetic::operate_shift;
+use arithmetic::operate_shift_word;
 use arithmetic::operate_word;
 use arithmetic::taken;
 use hart::effect::Effect;
@@ -30,7 +31,6 @@ use hfi::word::hfi_word;
 use instructions::instruction::Instruction;
 use instructions::kind::BranchKind;
 use instructions::kind::LoadKind;
-use instructions::kind::RegisterWordKind;
 use instructions::kind::StoreKind;
 use instructions::kind::SystemKind;
 use instructions::kind::UpperKind;
@@ -200,11 +200,11 @@ pub fn execute(
             write_back(x, hfi, next, rd, v)
         }
         Instruction::Addiw(rd, rs1, imm) => {
-            let v = operate_word(RegisterWordKind::Addw, register(x, rs1), imm);
+            let v = add_word(register(x, rs1), imm);
             write_back(x, hfi, next, rd, v)
         }
         Instruction::ShiftWord(k, rd, rs1, amount) => {
-            let v = operate_word(of_shift_word(k), register(x, rs1), amount);
+            let v = operate_shift_word(k, register(x, rs1), amount);
             write_back(x, hfi, next, rd, v)
         }
         Instruction::Register(k, rd, rs1, rs2) => {

@@ -1,5 +1,5 @@
 -- The instruction of a word. Document 01: "All of RV64I; 32-bit words", the h-prefixed words and the table of opcode 5b;
--- every other word is illegal.
+-- document 02, Job 2: of RV64M "the eight 64-bit operations and the five word ones". Every other word is illegal.
 -- Fields is declared in src/fields.rt, the kinds in src/kind.rt, Instruction and Decoded in src/instruction.rt.
 -- Assumes nothing.
 use mathlib.Core.Bool.{Bool, true, false, cond, _&&_}

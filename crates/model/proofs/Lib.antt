@@ -6,7 +6,7 @@ pub mod Intervals
 pub mod Rows
 pub mod Cases
 pub mod Clauses
-pub mod Multiplying
+pub mod Integer
 pub mod Isolation
 pub mod Reach
 pub mod Witness

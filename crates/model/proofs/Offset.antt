@@ -14,6 +14,7 @@ use Rattle.words.specs.Word.{field, signed, word, fitsSigned}
 use Rattle.words.proofs.Extend.{sext-low-half, sext-high-half}
 use Rattle.words.proofs.Fields.{field-lt}
 use Rattle.instructions.proofs.Tests.{and-both}
+use Rattle.words.proofs.Residues.{word-signed}
 use Rattle.model.specs.Machine.{reg}
 use Rattle.model.specs.Bytes.{byteOf}
 use Rattle.model.specs.Regions.{below}
@@ -31,19 +32,11 @@ word-sum base (negsuc n) = go (ltb base (suc n)) refl
     go true t = omega (arith, ltb-true base (suc n) t)
     go false t = omega (arith, ltb-false base (suc n) t)
 
--- the 64 bits of the number that 64 bits stand for
-word-signed : (n : ℕ) → n < 2 ^ 64 → word 64 (signed 64 n) ≡ n
-word-signed n h = go (ltb n (2 ^ 63)) refl
-  where
-    go : (b : Bool) → ltb n (2 ^ 63) ≡ b → word 64 (cond b (pos n) (negsuc (2 ^ 64 - suc n))) ≡ n
-    go true t = omega arith
-    go false t = omega arith
-
 -- so an h-word's address is two sums of words
 pub address-sum : (base v imm : ℕ) → imm < 2 ^ 64 → word 64 (pos base +ℤ offset v imm) ≡ (base + (v + imm) % 2 ^ 64) % 2 ^ 64
 address-sum base v imm h =
     word-sum base (offset v imm)
-    ∙ ap (λ (n : ℕ). (base + n) % 2 ^ 64) (word-sum v (signed 64 imm) ∙ ap (λ (n : ℕ). (v + n) % 2 ^ 64) (word-signed imm h))
+    ∙ ap (λ (n : ℕ). (base + n) % 2 ^ 64) (word-sum v (signed 64 imm) ∙ ap (λ (n : ℕ). (v + n) % 2 ^ 64) (word-signed 64 imm h))
 
 -- "Words with rs1 = x0 act as before", when the offset was the signed immediate (02, Job 1)
 pub offset-of-x0 : (x : List ℕ) (imm : ℕ) → reg x 0 ≡ 0 → offset (reg x 0) imm ≡ signed 64 imm

@@ -52,7 +52,8 @@ operate w Divu a b = quotient w (pos a) (pos b)
 operate w Rem a b = remainder w (signed w a) (signed w b)
 operate w Remu a b = remainder w (pos a) (pos b)
 
--- a word form: the operation on the low 32 bits, its result sign extended
+-- a word form: the operation on the low 32 bits, its result sign extended; REMW and REMUW too "always sign-extend the 32-bit
+-- result to 64 bits, including on a divide by zero"
 abbrev pub operateWord : RegisterKind → ℕ → ℕ → ℕ
 operateWord k a b = sext 32 (operate 32 k (field a 0 32) (field b 0 32))
 

@@ -1,5 +1,5 @@
-// Runs stored cases of RV64I and RV64M, and prints what each ended with. Nothing is compared here: the stored output has what QEMU and
-// the Dart SDK say of them. data/README.md has the columns.
+// Runs stored cases of RV64I and RV64M, and prints what each ended with. Nothing is compared here: the stored output has what
+// QEMU and the Dart SDK say of them. data/README.md has the columns.
 mod dart;
 mod setting;
 mod table;

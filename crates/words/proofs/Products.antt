@@ -6,19 +6,18 @@ use Prim.Native.Nat.{ℕ, suc, _+_, _-_, _*_, _/_, _%_, _^_, _<_, _≤_}
 use native.Mathlib.Nat.{mod-eq-of-lt, mod-lt, div-one, mul-add, add-mul, mul-assoc, mul-right-comm, mul-mul-mul-comm, mul-le-mul, mul-le-mul-left, mul-lt-mul-of-pos-right, mod-mod, le-of-lt, lt-of-le-of-lt, lt-of-lt-of-le, add-mul-div-right, add-mul-mod-self-left, mod-add-mod, add-mod-mod, add-assoc, suc-mul}
 use native.Mathlib.Omega.{arith}
 use lib.Dec.{ltb}
-use lib.IntN.{ℤ, pos, negsuc, _*ℤ_, *ℤ-comm}
+use lib.IntN.{ℤ, pos, negsuc, _*ℤ_}
 use lib.Signed.{nonNeg}
 use lib.Pow.{pow-pos, pow-mono, pow-add, field, shr-mod, high-ones, suc-ones}
 use mir.Syntax.{w64}
 use mir.Val.{Fits}
-use borrow.Author.Tests.{ltb-true, ltb-false}
 use Rattle.words.specs.Word.{signed, word}
 use Rattle.words.specs.Integer.{lowHalf, highHalf}
-use Rattle.words.proofs.Residues.{word-mod, word-lt, word-narrow, word-mul, word-signed}
+use Rattle.words.proofs.Residues.{word-narrow, word-mul, word-signed}
 
 -- ---- the low half
 
-pub low-word : (w : ℕ) (z : ℤ) → lowHalf w z ≡ word w z
+low-word : (w : ℕ) (z : ℤ) → lowHalf w z ≡ word w z
 unfolding lowHalf
 low-word w z = rw div-one (word-narrow w w z)
 
@@ -65,7 +64,7 @@ half-products {a} {b} h l =
 
 -- ---- the high half
 
-pub high-lt : (w : ℕ) (z : ℤ) → highHalf w z < 2 ^ w
+high-lt : (w : ℕ) (z : ℤ) → highHalf w z < 2 ^ w
 unfolding highHalf
 high-lt w z = mod-lt _ (pow-pos w)
 
@@ -77,10 +76,13 @@ unfolding highHalf
 high-product w y z e =
     ap (λ (n : ℕ). n / 2 ^ w % 2 ^ w) (word-mul (w + w) y z) ∙ high-field w _ ∙ ap (λ (n : ℕ). n / 2 ^ w % 2 ^ w) e
 
+pub product-lt : (w a b : ℕ) → a < 2 ^ w → b < 2 ^ w → a * b < 2 ^ (w + w)
+product-lt w a b h l = rw (pow-add 2 w w) (lt-of-le-of-lt (mul-le-mul-left a (le-of-lt l)) (mul-lt-mul-of-pos-right h (pow-pos w)))
+
 -- of two unsigned numbers
 pub high-unsigned : (w a b : ℕ) → a < 2 ^ w → b < 2 ^ w → highHalf w (pos a *ℤ pos b) ≡ a * b / 2 ^ w
 unfolding highHalf
-high-unsigned w a b h l = high-field w (a * b) ∙ shr-mod w w (rw (pow-add 2 w w) (lt-of-le-of-lt (mul-le-mul-left a (le-of-lt l)) (mul-lt-mul-of-pos-right h (pow-pos w))))
+high-unsigned w a b h l = high-field w (a * b) ∙ shr-mod w w (product-lt w a b h l)
 
 -- a number with the sign bit set, in twice its bits
 word-negative : (w a : ℕ) → a < 2 ^ w → word (w + w) (negsuc (2 ^ w - suc a)) ≡ a + (2 ^ w - 1) * 2 ^ w

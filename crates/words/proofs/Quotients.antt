@@ -2,8 +2,8 @@
 -- Assumes nothing.
 use mathlib.Core.Path.{_≡_, refl, sym, ap, _∙_}
 use mathlib.Core.Bool.{Bool, true, false, not, xor, cond, _&&_, true≢false}
-use Prim.Native.Nat.{ℕ, zero, suc, _+_, _-_, _*_, _/_, _%_, _^_, _<_, _≤_}
-use native.Mathlib.Nat.{mod-eq-of-lt, mod-zero, mod-le, mod-self, div-le-self, lt-of-le-of-lt, lt-irrefl}
+use Prim.Native.Nat.{ℕ, suc, _+_, _-_, _/_, _%_, _^_, _<_}
+use native.Mathlib.Nat.{mod-eq-of-lt, mod-zero, mod-le, mod-self, div-le-self, lt-of-le-of-lt, lt-of-lt-of-le, lt-irrefl}
 use native.Mathlib.Omega.{arith}
 use lib.Dec.{eqb}
 use lib.IntN.{ℤ, pos, negsuc, negℤ, natAbs}
@@ -37,6 +37,15 @@ magnitude-negative k x h e = rw (negative k x e .0) (omega arith)
 
 pub magnitude-positive : (k x : ℕ) → not (nonNeg (signed k x)) ≡ false → x ≡ natAbs (signed k x)
 magnitude-positive k x e = rw (not-negative k x e) refl
+
+-- the magnitude is the number itself, or its opposite's bits
+pub magnitude-word : (k x : ℕ) (p : Bool) → x < 2 ^ k → p ≡ not (nonNeg (signed k x)) → word k (signedBy p x) ≡ natAbs (signed k x)
+magnitude-word k x true h e =
+    let n = negative k x (sym e) in
+    let l : 0 < x = lt-of-lt-of-le (pow-pos (k - 1)) (n .1) in
+    let m = magnitude-negative k x h (sym e) in
+    word-neg k x (natAbs (signed k x)) (omega arith) (ap (λ (r : ℕ). r % 2 ^ k) (omega arith) ∙ mod-self (2 ^ k))
+magnitude-word k x false h e = mod-eq-of-lt h ∙ magnitude-positive k x (sym e)
 
 -- only 0 has the magnitude 0
 pub magnitude-zero : (k x : ℕ) {m : ℕ} → x < 2 ^ k → m ≡ natAbs (signed k x) → m ≡ 0 → x ≡ 0

@@ -1,14 +1,13 @@
 -- The bits of a whole number as its residue: they are kept by products, and fewer bits are a part of more.
 -- Assumes nothing.
-use mathlib.Core.Path.{_≡_, refl, sym, ap, ap₂, _∙_}
+use mathlib.Core.Path.{_≡_, refl, sym, ap, _∙_}
 use mathlib.Core.Bool.{Bool, true, false}
 use Prim.Native.Nat.{ℕ, zero, suc, _+_, _-_, _*_, _/_, _%_, _^_, _<_}
-use native.Mathlib.Nat.{mod-lt, mod-mod, mod-add-mod, add-mod-mod, mod-eq-of-lt, mod-add-div', add-mul-mod-self-right, mul-mod-left, mul-comm, mul-add, add-mul, mul-right-comm, add-comm, add-assoc, suc-mod}
+use native.Mathlib.Nat.{mod-lt, mod-add-mod, add-mod-mod, mod-eq-of-lt, mod-add-div', add-mul-mod-self-right, mul-mod-left, mul-comm, mul-add, add-mul, mul-right-comm, add-comm, suc-mod}
 use native.Mathlib.Omega.{arith}
 use lib.Dec.{ltb}
 use lib.IntN.{ℤ, pos, negsuc, negℤ, _*ℤ_}
 use lib.Pow.{pow-pos, pow-add, mod-mod-pow}
-use borrow.Author.Tests.{ltb-true, ltb-false, lt-ltb, le-ltb}
 use Rattle.words.specs.Word.{signed, word}
 
 mod-mul-left : (a b m : ℕ) → a % m * b % m ≡ a * b % m
@@ -21,8 +20,8 @@ mod-mul-right : (a b m : ℕ) → a * (b % m) % m ≡ a * b % m
 mod-mul-right a b m =
     ap (λ (n : ℕ). n % m) (mul-comm a (b % m)) ∙ mod-mul-left b a m ∙ ap (λ (n : ℕ). n % m) (mul-comm b a)
 
-pub mod-mul : (a b m : ℕ) → a % m * (b % m) % m ≡ a * b % m
-mod-mul a b m = mod-mul-left a (b % m) m ∙ mod-mul-right a b m
+product-mod : (a b m : ℕ) → a % m * (b % m) % m ≡ a * b % m
+product-mod a b m = mod-mul-left a (b % m) m ∙ mod-mul-right a b m
 
 -- two numbers with the same opposite have the same residue
 opposite : (x y t m : ℕ) → (x + t) % m ≡ 0 → (y + t) % m ≡ 0 → x % m ≡ y % m
@@ -44,10 +43,6 @@ word-opposite k n t e =
     ∙ mul-mod-left 1 (2 ^ k)
 
 -- it is a residue
-pub word-mod : (k : ℕ) (z : ℤ) → word k z % 2 ^ k ≡ word k z
-word-mod k (pos n) = mod-mod n (2 ^ k)
-word-mod k (negsuc n) = let h = mod-lt n (pow-pos k) in mod-eq-of-lt (omega arith)
-
 pub word-lt : (k : ℕ) (z : ℤ) → word k z < 2 ^ k
 word-lt k (pos n) = mod-lt n (pow-pos k)
 word-lt k (negsuc n) = let h = mod-lt n (pow-pos k) in omega arith
@@ -59,7 +54,7 @@ word-neg k zero r h e =
     let d : (r + 0) % 2 ^ k ≡ r = ap (λ (m : ℕ). m % 2 ^ k) (omega arith) ∙ mod-eq-of-lt h in
     p ∙ sym e ∙ d
 word-neg k (suc n) r h e =
-    sym (word-mod k (negsuc n)) ∙ opposite (word k (negsuc n)) r (suc n) (2 ^ k) (word-opposite k n (suc n) refl) e ∙ mod-eq-of-lt h
+    sym (mod-eq-of-lt (word-lt k (negsuc n))) ∙ opposite (word k (negsuc n)) r (suc n) (2 ^ k) (word-opposite k n (suc n) refl) e ∙ mod-eq-of-lt h
 
 -- fewer bits
 pub word-narrow : (j k : ℕ) (z : ℤ) → word (j + k) z % 2 ^ k ≡ word k z
@@ -71,7 +66,7 @@ word-narrow j k (negsuc n) =
     suc-mod (n % 2 ^ (j + k)) (2 ^ k) ∙ ap (λ (m : ℕ). suc m % 2 ^ k) (mod-mod-pow n j k) ∙ sym (suc-mod n (2 ^ k)) in
     let s : x + suc (n % 2 ^ (j + k)) ≡ 2 ^ j * 2 ^ k = omega (arith, pow-add 2 j k) in
     opposite x (word k (negsuc n)) (suc (n % 2 ^ (j + k))) (2 ^ k) (ap (λ (m : ℕ). m % 2 ^ k) s ∙ mul-mod-left (2 ^ j) (2 ^ k)) (word-opposite k n _ t)
-    ∙ word-mod k (negsuc n)
+    ∙ mod-eq-of-lt (word-lt k (negsuc n))
 
 -- one factor negative
 mul-opposite : (k x n : ℕ) → (x * word k (negsuc n) + x * suc n) % 2 ^ k ≡ 0
@@ -86,7 +81,7 @@ mul-negsuc k a b =
 
 -- the bits of a product are those of the product of the bits
 pub word-mul : (k : ℕ) (y z : ℤ) → word k (y *ℤ z) ≡ word k y * word k z % 2 ^ k
-word-mul k (pos a) (pos b) = sym (mod-mul a b (2 ^ k))
+word-mul k (pos a) (pos b) = sym (product-mod a b (2 ^ k))
 word-mul k (pos a) (negsuc b) = mul-negsuc k a b
 word-mul k (negsuc a) (pos b) =
     ap (λ (m : ℕ). word k (negℤ (pos m))) (mul-comm (suc a) b) ∙ mul-negsuc k b a ∙ ap (λ (m : ℕ). m % 2 ^ k) (mul-comm (b % 2 ^ k) (word k (negsuc a)))

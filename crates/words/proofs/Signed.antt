@@ -1,4 +1,4 @@
--- The order of signed numbers, and their shift to the right, by the code's way.
+-- The order of signed numbers, the test for their sign, and their shift to the right, by the code's way.
 -- Assumes nothing.
 use mathlib.Core.Path.{_≡_, refl, sym, ap, _∙_}
 use mathlib.Core.Bool.{Bool, true, false, not, true≢false}
@@ -55,27 +55,7 @@ all-ones k h =
     let e : k + (64 - k) ≡ 64 = omega arith in
     ap (λ (n : ℕ). (2 ^ n - 1) / 2 ^ (64 - k)) (sym e) ∙ ap (λ (n : ℕ). n / 2 ^ (64 - k)) (ones-split k (64 - k)) ∙ high (2 ^ k - 1) (64 - k) (ones-lt (64 - k))
 
--- a number without the sign bit
-pub shift-low : (k x n : ℕ) → x < 2 ^ (k - 1) → x < 2 ^ k → x / 2 ^ n ≡ word k (shrZ (signed k x) (2 ^ n))
-shift-low k x n h l = rw (lt-ltb x (2 ^ (k - 1)) h) (sym (mod-eq-of-lt (lt-of-le-of-lt (div-le-self x (2 ^ n)) l)))
-
--- a number with it: the complement is shifted
-pub shift-high : (k x n : ℕ) → 2 ^ (k - 1) ≤ x → x < 2 ^ k → 2 ^ k - 1 - (2 ^ k - 1 - x) / 2 ^ n ≡ word k (shrZ (signed k x) (2 ^ n))
-shift-high k x n h l =
-    let c : 2 ^ k - 1 - x ≡ 2 ^ k - suc x = omega arith in
-    let q = (2 ^ k - suc x) / 2 ^ n in
-    let b : q ≤ 2 ^ k - suc x = div-le-self (2 ^ k - suc x) (2 ^ n) in
-    let d : q < 2 ^ k = omega arith in
-    rw (le-ltb x (2 ^ (k - 1)) h, c) (rw (mod-eq-of-lt d) (omega arith))
-
--- the test for the sign bit: x is at most, or above, the ones of k bits shifted right by one
-pub sign-clear : (k x top : ℕ) → 0 < k → top ≡ 2 ^ k - 1 → x ≤ top / 2 ^ 1 → x < 2 ^ (k - 1)
-sign-clear k x top h e t = omega (arith, halves k h, pow-pos (k - 1))
-
-pub sign-set : (k x top : ℕ) → 0 < k → top ≡ 2 ^ k - 1 → top / 2 ^ 1 < x → 2 ^ (k - 1) ≤ x
-sign-set k x top h e t = omega (arith, halves k h, pow-pos (k - 1))
-
--- the same as one test
+-- the test for the sign bit
 pub sign-test : (k x : ℕ) → 0 < k → ltb ((2 ^ k - 1) / 2 ^ 1) x ≡ not (nonNeg (signed k x))
 sign-test k x h = go (ltb x (2 ^ (k - 1))) refl
   where
@@ -98,3 +78,17 @@ not-negative k x = go (ltb x (2 ^ (k - 1))) refl
     go : (b : Bool) → ltb x (2 ^ (k - 1)) ≡ b → not (nonNeg (signed k x)) ≡ false → signed k x ≡ pos x
     go true e f = rw e refl
     go false e f = absurd (true≢false (rw e at f))
+
+-- a number without the sign bit is shifted as it is
+pub shift-low : (k x n : ℕ) → x < 2 ^ k → signed k x ≡ pos x → x / 2 ^ n ≡ word k (shrZ (signed k x) (2 ^ n))
+shift-low k x n l e = rw e (sym (mod-eq-of-lt (lt-of-le-of-lt (div-le-self x (2 ^ n)) l)))
+
+-- of one with it the complement is
+pub shift-high : (k x n top : ℕ) → top ≡ 2 ^ k - 1 → x < 2 ^ k → signed k x ≡ negsuc (2 ^ k - suc x)
+    → top - (top - x) / 2 ^ n ≡ word k (shrZ (signed k x) (2 ^ n))
+shift-high k x n top t l e =
+    let c : top - x ≡ 2 ^ k - suc x = omega arith in
+    let q = (2 ^ k - suc x) / 2 ^ n in
+    let b : q ≤ 2 ^ k - suc x = div-le-self (2 ^ k - suc x) (2 ^ n) in
+    let d : q < 2 ^ k = omega arith in
+    rw (e, c) (rw (mod-eq-of-lt d) (omega arith))

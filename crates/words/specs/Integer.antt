@@ -16,10 +16,11 @@ lowHalf w z = field (word (w + w) z) 0 w
 unfoldable pub highHalf : ℕ → ℤ → ℕ
 highHalf w z = field (word (w + w) z) w w
 
--- "rounding towards zero"; "The quotient of division by zero has all bits set"
+-- "rounding towards zero"; "The quotient of division by zero has all bits set". "The quotient of a signed division with
+-- overflow is equal to the dividend, and the remainder is zero": so it comes out (proofs/Exact.antt, overflow).
 unfoldable pub quotient : ℕ → ℤ → ℤ → ℕ
 quotient w n d = cond (eqb (natAbs d) 0) (2 ^ w - 1) (word w (quotZ n d))
 
 -- with the dividend's sign; "the remainder of division by zero equals the dividend"
 unfoldable pub remainder : ℕ → ℤ → ℤ → ℕ
-remainder w n d = cond (eqb (natAbs d) 0) (word w n) (word w (remZ n d))
+remainder w n d = word w (cond (eqb (natAbs d) 0) n (remZ n d))

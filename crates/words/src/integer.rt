@@ -1,12 +1,14 @@
 // Integer multiplication and division, the specification's chapter "M". There is no integer of 128 bits: a product of two
-// words is made of the products of their halves of 32 bits, and signed operands are taken by their signs and magnitudes.
+// words is made of the products of their halves of 32 bits. Signed high halves are had from the unsigned one, signed
+// quotients and remainders from those of the magnitudes.
 ghost use mathlib.Core.Path.{_≡_};
-ghost use mathlib.Core.Bool.{cond, not};
+ghost use mathlib.Core.Bool.{cond};
 ghost use Prim.Native.Nat.{_^_, _<_, _≤_};
 ghost use lib.IntN.{pos, negℤ, natAbs, _*ℤ_};
 ghost use lib.Signed.{nonNeg};
 ghost use Rattle.words.specs.Word.{signed, word};
 ghost use Rattle.words.specs.Integer.{lowHalf, highHalf, quotient, remainder as remainderOf};
+use crate::is_negative;
 use crate::ones;
 use std::num::wrapping_add_u64;
 use std::num::wrapping_sub_u64;
@@ -53,26 +55,6 @@ pub fn multiply_high_signed(a: u64, b: u64) -> u64
     wrapping_sub_u64(multiply_high_mixed(a, b), excess(b, a))
 }
 
-// Do the `width` bits `x` stand for a number below 0?
-pub fn is_negative(x: u64, width: u64) -> bool
-    requires { ⌜ (0 < width) × (width ≤ 64) × (x < 2 ^ width) ⌝ }
-    ensures { λ r. ⌜ r ≡ not (nonNeg (signed width x)) ⌝ }
-{
-    (ones(width) >> 1) < x
-}
-
-// How far the number that the `width` bits `x` stand for is from 0.
-pub fn magnitude(x: u64, width: u64) -> u64
-    requires { ⌜ (0 < width) × (width ≤ 64) × (x < 2 ^ width) ⌝ }
-    ensures { λ r. ⌜ r ≡ natAbs (signed width x) ⌝ }
-{
-    if is_negative(x, width) {
-        ones(width) - x + 1
-    } else {
-        x
-    }
-}
-
 // The `width` bits of m, or of -m.
 fn with_sign(negative: bool, m: u64, width: u64) -> u64
     requires { ⌜ (0 < width) × (width ≤ 64) × (m < 2 ^ width) ⌝ }
@@ -83,6 +65,14 @@ fn with_sign(negative: bool, m: u64, width: u64) -> u64
     } else {
         m
     }
+}
+
+// How far the number that the `width` bits `x` stand for is from 0.
+fn magnitude(x: u64, width: u64) -> u64
+    requires { ⌜ (0 < width) × (width ≤ 64) × (x < 2 ^ width) ⌝ }
+    ensures { λ r. ⌜ r ≡ natAbs (signed width x) ⌝ }
+{
+    with_sign(is_negative(x, width), x, width)
 }
 
 // The quotient, unsigned.

@@ -1,7 +1,8 @@
 // Bits of 64-bit words. The codec takes words apart and puts them together by these functions.
 ghost use mathlib.Core.Path.{_≡_};
 ghost use Prim.Native.Nat.{_+_, _-_, _*_, _^_, _<_, _≤_};
-ghost use lib.Signed.{ltZ, shrZ};
+ghost use mathlib.Core.Bool.{not};
+ghost use lib.Signed.{ltZ, nonNeg, shrZ};
 ghost use Rattle.words.specs.Word.{field, signed, word, sext, fitsSigned};
 
 pub mod integer;
@@ -54,15 +55,23 @@ pub fn ones(width: u64) -> u64
     0xffff_ffff_ffff_ffff >> (64 - width)
 }
 
+// Do the `width` bits `x` stand for a number below 0?
+pub fn is_negative(x: u64, width: u64) -> bool
+    requires { ⌜ (0 < width) × (width ≤ 64) × (x < 2 ^ width) ⌝ }
+    ensures { λ r. ⌜ r ≡ not (nonNeg (signed width x)) ⌝ }
+{
+    (ones(width) >> 1) < x
+}
+
 // The `width` bits `x`, read as a signed number, shifted right by `n`. Of a negative number the complement is shifted.
 pub fn shift_right_signed(x: u64, width: u64, n: u64) -> u64
     requires { ⌜ (0 < width) × (width ≤ 64) × (n < width) × (x < 2 ^ width) ⌝ }
     ensures { λ r. ⌜ r ≡ word width (shrZ (signed width x) (2 ^ n)) ⌝ }
 {
-    let top = ones(width);
-    if x <= (top >> 1) {
-        x >> n
-    } else {
+    if is_negative(x, width) {
+        let top = ones(width);
         top - ((top - x) >> n)
+    } else {
+        x >> n
     }
 }

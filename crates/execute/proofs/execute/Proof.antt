@@ -80,8 +80,8 @@ enum-known-i-9 c = search needs
 register-requires-4 : tie.Need-register-requires-4
 register-requires-4 c κs = below (c .before .before .i9 .given .1) (c .before .before .before .before .before .pre) .1
 
-operate-word-requires : tie.Need-operate-word-requires
-operate-word-requires c κs = search needs
+add-word-requires : tie.Need-add-word-requires
+add-word-requires c κs = search needs
 
 write-back-requires-3 : tie.Need-write-back-requires-3
 write-back-requires-3 c κs = below (c .before .before .before .before .before .i9 .given .1) (c .before .before .before .before .before .before .before .before .pre) .0
@@ -89,17 +89,14 @@ write-back-requires-3 c κs = below (c .before .before .before .before .before .
 enum-known-i-10 : tie.Need-enum-known-i-10
 enum-known-i-10 c = search needs
 
-of-shift-word-requires : tie.Need-of-shift-word-requires
-of-shift-word-requires c κs = search needs
-
 register-requires-5 : tie.Need-register-requires-5
-register-requires-5 c κs = below (c .before .before .before .i10 .given .1) (c .before .before .before .before .before .before .pre) .1
+register-requires-5 c κs = below (c .before .before .i10 .given .1) (c .before .before .before .before .before .pre) .1
 
-operate-word-requires-2 : tie.Need-operate-word-requires-2
-operate-word-requires-2 c κs = search needs
+operate-shift-word-requires : tie.Need-operate-shift-word-requires
+operate-shift-word-requires c κs = search needs
 
 write-back-requires-4 : tie.Need-write-back-requires-4
-write-back-requires-4 c κs = below (c .before .before .before .before .before .before .i10 .given .1) (c .before .before .before .before .before .before .before .before .before .pre) .0
+write-back-requires-4 c κs = below (c .before .before .before .before .before .i10 .given .1) (c .before .before .before .before .before .before .before .before .pre) .0
 
 enum-known-i-11 : tie.Need-enum-known-i-11
 enum-known-i-11 c = search needs
@@ -125,8 +122,8 @@ register-requires-8 c κs = below (c .before .before .i12 .given .1) (c .before 
 register-requires-9 : tie.Need-register-requires-9
 register-requires-9 c κs = below (c .before .before .before .before .i12 .given .1) (c .before .before .before .before .before .before .before .pre) .2
 
-operate-word-requires-3 : tie.Need-operate-word-requires-3
-operate-word-requires-3 c κs = search needs
+operate-word-requires : tie.Need-operate-word-requires
+operate-word-requires c κs = search needs
 
 write-back-requires-6 : tie.Need-write-back-requires-6
 write-back-requires-6 c κs = below (c .before .before .before .before .before .before .before .i12 .given .1) (c .before .before .before .before .before .before .before .before .before .before .pre) .0
@@ -197,11 +194,11 @@ returns-8 c = c .write-back2 .ensures _ ∙ rw (c .before .before .before .befor
 
 returns-9 : tie.Need-returns-9
 unfolding perform
-returns-9 c = c .write-back3 .ensures _ ∙ rw (c .before .before .before .before .before .before .i9 .given .1, c .before .before .operate-word .ensures, c .before .before .before .register4 .ensures)
+returns-9 c = c .write-back3 .ensures _ ∙ rw (c .before .before .before .before .before .before .i9 .given .1, c .before .before .add-word .ensures, c .before .before .before .register4 .ensures)
 
 returns-10 : tie.Need-returns-10
 unfolding perform
-returns-10 c = c .write-back4 .ensures _ ∙ rw (c .before .before .before .before .before .before .before .i10 .given .1, c .before .before .operate-word2 .ensures, c .before .before .before .before .before .of-shift-word .ensures, c .before .before .before .register5 .ensures)
+returns-10 c = c .write-back4 .ensures _ ∙ rw (c .before .before .before .before .before .before .i10 .given .1, c .before .before .operate-shift-word .ensures, c .before .before .before .register5 .ensures)
 
 returns-11 : tie.Need-returns-11
 unfolding perform
@@ -209,7 +206,7 @@ returns-11 c = c .write-back5 .ensures _ ∙ rw (c .before .before .before .befo
 
 returns-12 : tie.Need-returns-12
 unfolding perform
-returns-12 c = c .write-back6 .ensures _ ∙ rw (c .before .before .before .before .before .before .before .before .i12 .given .1, c .before .before .operate-word3 .ensures, c .before .before .before .register9 .ensures, c .before .before .before .before .before .register8 .ensures)
+returns-12 c = c .write-back6 .ensures _ ∙ rw (c .before .before .before .before .before .before .before .before .i12 .given .1, c .before .before .operate-word .ensures, c .before .before .before .register9 .ensures, c .before .before .before .before .before .register8 .ensures)
 
 returns-13 : tie.Need-returns-13
 unfolding perform
@@ -262,12 +259,11 @@ execute-spec =
     write-back-requires-2
     enum-known-i-9
     register-requires-4
-    operate-word-requires
+    add-word-requires
     write-back-requires-3
     enum-known-i-10
-    of-shift-word-requires
     register-requires-5
-    operate-word-requires-2
+    operate-shift-word-requires
     write-back-requires-4
     enum-known-i-11
     register-requires-6
@@ -277,7 +273,7 @@ execute-spec =
     enum-known-i-12
     register-requires-8
     register-requires-9
-    operate-word-requires-3
+    operate-word-requires
     write-back-requires-6
     enum-told
     completed-requires

@@ -1,7 +1,7 @@
 use Rattle.words.proofs.Signed.{sign-test}
 use borrow.Author.Needs.{needs}
-use Rattle.words.proofs.integer.is_negative.Statement.{statement}
-use Rattle.words.proofs.integer.is_negative.Tie as tie
+use Rattle.words.proofs.is_negative.Statement.{statement}
+use Rattle.words.proofs.is_negative.Tie as tie
 
 pub is-negative-spec : {M : Type 1} → statement M
 is-negative-spec =

@@ -85,6 +85,6 @@ rows =
     (0x0 ∷ 0xffffffffffffffff ∷ 0xffffffffffffffff ∷ 0xffffffff80000000 ∷ 0xffffffff80000000 ∷ [])
     ∷ []
 
-pub multiplying : map computed rows ≡ rows
+pub integer-results : map computed rows ≡ rows
 unfolding sext lowHalf highHalf quotient remainder
-multiplying = refl
+integer-results = refl
