@@ -148,6 +148,12 @@ static void codec(void)
     instruction(0xfe209ee3, (I){.group = KOUBOSPAR_BRANCH, .kind = 1, .rs1 = 1, .rs2 = 2, .imm = (uint64_t)-4});
     instruction(0x1238818f,
                 (I){.group = KOUBOSPAR_FENCE, .rd = 3, .rs1 = 17, .fm = 1, .pred = 2, .succ = 3});
+    for (uint32_t f = 0; f < 8; f++) { /* RV64M; MULH, MULHSU and MULHU have no word form */
+        instruction(0x02628233 | f << 12, (I){.group = KOUBOSPAR_REGISTER, .kind = 8 + f, .rd = 4, .rs1 = 5, .rs2 = 6});
+        if (f == 0 || f >= 4)
+            instruction(0x0262823b | f << 12,
+                        (I){.group = KOUBOSPAR_REGISTER_WORD, .kind = 8 + f, .rd = 4, .rs1 = 5, .rs2 = 6});
+    }
     struct koubospar_decoded d = koubospar_decode(0x0400015b); /* case C */
     IS(d.number, 13);
     IS(d.instruction.group, 0);

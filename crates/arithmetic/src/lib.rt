@@ -59,18 +59,6 @@ pub fn operate(k: RegisterKind, a: u64, b: u64) -> u64
     }
 }
 
-// A shift of 32 bits.
-fn shift_32(k: ShiftWordKind, a: u64, b: u64) -> u64
-    requires { ⌜ a < 2 ^ 32 ⌝ }
-    ensures { λ r. ⌜ (r ≡ operateAt 32 (ofShiftWord k) a b) × (r < 2 ^ 32) ⌝ }
-{
-    match k {
-        ShiftWordKind::Slliw => bits(a << (b % 32), 0, 32),
-        ShiftWordKind::Srliw => a >> (b % 32),
-        ShiftWordKind::Sraiw => shift_right_signed(a, 32, b % 32),
-    }
-}
-
 // The same on 32 bits, of the kinds that have a word form.
 fn operate_32(k: RegisterWordKind, a: u64, b: u64) -> u64
     requires { ⌜ (a < 2 ^ 32) × (b < 2 ^ 32) ⌝ }
@@ -79,9 +67,9 @@ fn operate_32(k: RegisterWordKind, a: u64, b: u64) -> u64
     match k {
         RegisterWordKind::Addw => bits(a + b, 0, 32),
         RegisterWordKind::Subw => bits(a + (0x1_0000_0000 - b), 0, 32),
-        RegisterWordKind::Sllw => shift_32(ShiftWordKind::Slliw, a, b),
-        RegisterWordKind::Srlw => shift_32(ShiftWordKind::Srliw, a, b),
-        RegisterWordKind::Sraw => shift_32(ShiftWordKind::Sraiw, a, b),
+        RegisterWordKind::Sllw => bits(a << (b % 32), 0, 32),
+        RegisterWordKind::Srlw => a >> (b % 32),
+        RegisterWordKind::Sraw => shift_right_signed(a, 32, b % 32),
         RegisterWordKind::Mulw => bits(a * b, 0, 32),
         RegisterWordKind::Divw => divide_signed(a, b, 32),
         RegisterWordKind::Divuw => divide(a, b, 32),
@@ -97,7 +85,7 @@ pub fn operate_word(k: RegisterWordKind, a: u64, b: u64) -> u64
     sign_extend(operate_32(k, bits(a, 0, 32), bits(b, 0, 32)), 32)
 }
 
-// The same with an immediate, or with an amount.
+// The same with an immediate or an amount.
 pub fn operate_immediate(k: ImmediateKind, a: u64, imm: u64) -> u64
     ensures { λ r. ⌜ r ≡ operateAt 64 (ofImmediate k) a imm ⌝ }
 {
@@ -127,10 +115,15 @@ pub fn add_word(a: u64, imm: u64) -> u64
     sign_extend(bits(wrapping_add_u64(a, imm), 0, 32), 32)
 }
 
-pub fn operate_shift_word(k: ShiftWordKind, a: u64, amount: u64) -> u64
-    ensures { λ r. ⌜ r ≡ operateWord (ofShiftWord k) a amount ⌝ }
+// The operation that each shift of words is a form of.
+pub fn of_shift_word(k: ShiftWordKind) -> RegisterWordKind
+    ensures { λ r. ⌜ ofRegisterWord r ≡ ofShiftWord k ⌝ }
 {
-    sign_extend(shift_32(k, bits(a, 0, 32), bits(amount, 0, 32)), 32)
+    match k {
+        ShiftWordKind::Slliw => RegisterWordKind::Sllw,
+        ShiftWordKind::Srliw => RegisterWordKind::Srlw,
+        ShiftWordKind::Sraiw => RegisterWordKind::Sraw,
+    }
 }
 
 // The target of JALR: the lowest bit of the sum is zero.

@@ -12,10 +12,10 @@ ghost use Rattle.model.specs.Step.{perform};
 ghost use Rattle.hart.specs.Effect.{effectWith};
 use arithmetic::add_word;
 use arithmetic::jalr_target;
+use arithmetic::of_shift_word;
 use arithmetic::operate;
 use arithmetic::operate_immediate;
 use arithmetic::operate_shift;
-use arithmetic::operate_shift_word;
 use arithmetic::operate_word;
 use arithmetic::taken;
 use hart::effect::Effect;
@@ -204,7 +204,7 @@ pub fn execute(
             write_back(x, hfi, next, rd, v)
         }
         Instruction::ShiftWord(k, rd, rs1, amount) => {
-            let v = operate_shift_word(k, register(x, rs1), amount);
+            let v = operate_word(of_shift_word(k), register(x, rs1), amount);
             write_back(x, hfi, next, rd, v)
         }
         Instruction::Register(k, rd, rs1, rs2) => {

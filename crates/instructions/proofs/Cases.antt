@@ -1,11 +1,11 @@
 -- Words and their instructions, as lists of rows, each covered by one computed check. A definition and a code that agree on
 -- a wrong table of codes, or on a wrong place of a bit, would be proved of each other; these rows refuse both.
--- The words of `rows` were made by `riscv64-linux-gnu-as -march=rv64i` (GNU Binutils 2.40) from the text beside them, not by
+-- The words of `rows` were made by `riscv64-linux-gnu-as -march=rv64im` (GNU Binutils 2.40) from the text beside them, not by
 -- this crate; `.insn` lays out the words of opcodes 0b, 2b and 5b, which only document 01 has.
 -- Assumes nothing.
 use mathlib.Core.Path.{_≡_, refl}
 use mathlib.Core.List.{List, [], _∷_, map}
-use Prim.Native.Nat.{ℕ, _-_, _^_}
+use Prim.Native.Nat.{ℕ, zero, suc, _+_, _-_, _*_, _/_, _%_, _^_}
 use Rattle.words.specs.Word.{sext}
 use Rattle.instructions.specs.Decode.{decodeWord}
 use Rattle.instructions.specs.Encode.{encodeWord}
@@ -22,6 +22,7 @@ use Rattle.instructions.specs.declared.kind.SystemKind.the-variants.{Eca
 use Rattle.instructions.specs.declared.kind.HfiKind.the-variants.{Enter, EnterJump, Exit, SelectRegion, SetBase, GetBase, SetBound, GetBound, SetPermission, GetPermission, SetHandler, GetHandler, ResetRegions}
 use Rattle.instructions.specs.declared.instruction.Instruction.{Instruction}
 use Rattle.instructions.specs.declared.instruction.Instruction.the-variants.{Upper, Jal, Jalr, Branch, Load, Store, Immediate, Shift, Addiw, ShiftWord, Register, RegisterWord, Fence, System, HLoad, HStore, Hfi}
+use Rattle.instructions.specs.declared.instruction.Decoded.{Decoded}
 use Rattle.instructions.specs.declared.instruction.Decoded.the-variants.{Legal, Illegal}
 use Rattle.instructions.specs.declared.instruction.Encoded.the-variants.{Word, OutOfRange}
 
@@ -274,6 +275,24 @@ illegal =
 pub none-decoded : map decodeWord illegal ≡ map (λ w. Illegal) illegal
 unfolding decodeWord sext
 none-decoded = refl
+
+-- ---- every funct7 and funct3 of the opcodes of register operations, as one number: these are legal, and no others
+
+abbrev kept : Decoded → ℕ → List ℕ → List ℕ
+kept (Legal i) n ns = n ∷ ns
+kept Illegal n ns = ns
+
+abbrev legalCodes : ℕ → ℕ → List ℕ → List ℕ
+legalCodes opcode zero ns = ns
+legalCodes opcode (suc n) ns = legalCodes opcode n (kept (decodeWord (n / 8 * 2 ^ 25 + n % 8 * 2 ^ 12 + opcode)) n ns)
+
+pub register-codes : legalCodes 0x33 1024 [] ≡ 0 ∷ 1 ∷ 2 ∷ 3 ∷ 4 ∷ 5 ∷ 6 ∷ 7 ∷ 8 ∷ 9 ∷ 10 ∷ 11 ∷ 12 ∷ 13 ∷ 14 ∷ 15 ∷ 0x100 ∷ 0x105 ∷ []
+unfolding decodeWord sext
+register-codes = refl
+
+pub register-word-codes : legalCodes 0x3b 1024 [] ≡ 0 ∷ 1 ∷ 5 ∷ 8 ∷ 12 ∷ 13 ∷ 14 ∷ 15 ∷ 0x100 ∷ 0x105 ∷ []
+unfolding decodeWord sext
+register-word-codes = refl
 
 -- ---- instructions that no word has
 

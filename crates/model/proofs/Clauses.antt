@@ -9,6 +9,7 @@ use Prim.Native.Nat.{ℕ, _+_, _-_, _^_}
 use lib.Count.{trailingZeros}
 use lib.ListN.{length}
 use Rattle.words.specs.Word.{sext}
+use Rattle.words.specs.Integer.{lowHalf, highHalf, quotient, remainder}
 use Rattle.instructions.specs.Decode.{decodeWord}
 use Rattle.model.specs.Bytes.{value, written}
 use Rattle.model.specs.Outcome.{stopped, allowed, aligned, settle}
@@ -321,6 +322,28 @@ asking =
     ((5, 8) ∷ (6, 7) ∷ (7, 6) ∷ (8, 5) ∷ (9, 4) ∷ (10, 3) ∷ (11, 2) ∷ (12, 1) ∷ [])
     ∷ []
 
+unfoldable pub operating : List Row
+operating =
+    -- rs1 is the first operand, rs2 the second: sub x6, x5, x6 and subw
+    goes (outside 0 ++ operands 7 2) 0x40628333 ((x 6, 5) ∷ [])
+    ∷ goes (outside 0 ++ operands 7 2) 0x4062833b ((x 6, 5) ∷ [])
+    -- "These words are no longer stopped with 13." (02, Job 2), of x5 = -7 and x6 = 2: mul x6, x5, x6, mulh, mulhsu,
+    -- mulhu, div, divu, rem, remu, mulw, divw, divuw, remw, remuw
+    ∷ goes (outside 0 ++ operands (2 ^ 64 - 7) 2) 0x02628333 ((x 6, 0xfffffffffffffff2) ∷ [])
+    ∷ goes (outside 0 ++ operands (2 ^ 64 - 7) 2) 0x02629333 ((x 6, 0xffffffffffffffff) ∷ [])
+    ∷ goes (outside 0 ++ operands (2 ^ 64 - 7) 2) 0x0262a333 ((x 6, 0xffffffffffffffff) ∷ [])
+    ∷ goes (outside 0 ++ operands (2 ^ 64 - 7) 2) 0x0262b333 ((x 6, 1) ∷ [])
+    ∷ goes (outside 0 ++ operands (2 ^ 64 - 7) 2) 0x0262c333 ((x 6, 0xfffffffffffffffd) ∷ [])
+    ∷ goes (outside 0 ++ operands (2 ^ 64 - 7) 2) 0x0262d333 ((x 6, 0x7ffffffffffffffc) ∷ [])
+    ∷ goes (outside 0 ++ operands (2 ^ 64 - 7) 2) 0x0262e333 ((x 6, 0xffffffffffffffff) ∷ [])
+    ∷ goes (outside 0 ++ operands (2 ^ 64 - 7) 2) 0x0262f333 ((x 6, 1) ∷ [])
+    ∷ goes (outside 0 ++ operands (2 ^ 64 - 7) 2) 0x0262833b ((x 6, 0xfffffffffffffff2) ∷ [])
+    ∷ goes (outside 0 ++ operands (2 ^ 64 - 7) 2) 0x0262c33b ((x 6, 0xfffffffffffffffd) ∷ [])
+    ∷ goes (outside 0 ++ operands (2 ^ 64 - 7) 2) 0x0262d33b ((x 6, 0x7ffffffc) ∷ [])
+    ∷ goes (outside 0 ++ operands (2 ^ 64 - 7) 2) 0x0262e33b ((x 6, 0xffffffffffffffff) ∷ [])
+    ∷ goes (outside 0 ++ operands (2 ^ 64 - 7) 2) 0x0262f33b ((x 6, 1) ∷ [])
+    ∷ []
+
 -- an h-word of x6 at -5(x21), locked: region 1 has the nine bytes from 3 on, and the offset is 1
 abbrev reaching : List (ℕ × ℕ)
 reaching = inside 1 ++ ((base 1, 3) ∷ (bound 1, 9) ∷ (x 6, 0x0102030405060708) ∷ (x 21, 6) ∷ [])
@@ -472,10 +495,10 @@ forming =
     ∷ []
 
 abbrev pub rows : List Row
-rows = entering ++ leaving ++ locking ++ keeping ++ running-on ++ asking ++ offsets ++ absent ++ going-on ++ forming
+rows = entering ++ leaving ++ locking ++ keeping ++ running-on ++ asking ++ operating ++ offsets ++ absent ++ going-on ++ forming
 
 pub clauses : found rows ≡ stated rows
-unfolding entering leaving locking keeping running-on asking offsets absent going-on forming trailingZeros sext decodeWord matches explicitRule firstMatch implicitGrants explicitGrants scan firstRefused firstAbsent verdict value written allowed aligned settle stateFits wellFormed hfiStop hWordStop hfiPerform load store jump branch perform executeWord step stepCall resumeCall runBy runCall
+unfolding entering leaving locking keeping running-on asking operating offsets absent going-on forming trailingZeros sext lowHalf highHalf quotient remainder decodeWord matches explicitRule firstMatch implicitGrants explicitGrants scan firstRefused firstAbsent verdict value written allowed aligned settle stateFits wellFormed hfiStop hWordStop hfiPerform load store jump branch perform executeWord step stepCall resumeCall runBy runCall
 clauses = refl
 
 -- ---- "Is memory no longer than 16,777,216?" of memories that are too long to write down

@@ -21,7 +21,7 @@ use Rattle.words.proofs.Quotients.{quotient-by-zero, remainder-word, re
 -- ---- products
 
 -- the two halves side by side are the product's bits
-pub side-by-side : (w : ℕ) (z : ℤ) → highHalf w z * 2 ^ w + lowHalf w z ≡ word (w + w) z
+side-by-side : (w : ℕ) (z : ℤ) → highHalf w z * 2 ^ w + lowHalf w z ≡ word (w + w) z
 unfolding highHalf lowHalf
 side-by-side w z = rw div-one (recompose w w (word-lt (w + w) z))
 

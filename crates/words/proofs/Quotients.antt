@@ -32,10 +32,10 @@ rem-sign (negsuc n) d = refl
 
 -- ---- the magnitude of k bits read as signed
 
-pub magnitude-negative : (k x : ℕ) → x < 2 ^ k → not (nonNeg (signed k x)) ≡ true → 2 ^ k - 1 - x + 1 ≡ natAbs (signed k x)
+magnitude-negative : (k x : ℕ) → x < 2 ^ k → not (nonNeg (signed k x)) ≡ true → 2 ^ k - 1 - x + 1 ≡ natAbs (signed k x)
 magnitude-negative k x h e = rw (negative k x e .0) (omega arith)
 
-pub magnitude-positive : (k x : ℕ) → not (nonNeg (signed k x)) ≡ false → x ≡ natAbs (signed k x)
+magnitude-positive : (k x : ℕ) → not (nonNeg (signed k x)) ≡ false → x ≡ natAbs (signed k x)
 magnitude-positive k x e = rw (not-negative k x e) refl
 
 -- the magnitude is the number itself, or its opposite's bits
@@ -86,7 +86,7 @@ pub quotient-by-zero : (w : ℕ) (n d : ℤ) → natAbs d ≡ 0 → quotient w n
 unfolding quotient
 quotient-by-zero w n d e = rw (eq-eqb (natAbs d) 0 e) refl
 
-pub quotient-word : (w : ℕ) (n d : ℤ) → (natAbs d ≡ 0 → ⊥) → quotient w n d ≡ word w (quotZ n d)
+quotient-word : (w : ℕ) (n d : ℤ) → (natAbs d ≡ 0 → ⊥) → quotient w n d ≡ word w (quotZ n d)
 unfolding quotient
 quotient-word w n d e = rw (ne-eqb (natAbs d) 0 e) refl
 

@@ -89,14 +89,17 @@ write-back-requires-3 c κs = below (c .before .before .before .before .before .
 enum-known-i-10 : tie.Need-enum-known-i-10
 enum-known-i-10 c = search needs
 
-register-requires-5 : tie.Need-register-requires-5
-register-requires-5 c κs = below (c .before .before .i10 .given .1) (c .before .before .before .before .before .pre) .1
+of-shift-word-requires : tie.Need-of-shift-word-requires
+of-shift-word-requires c κs = search needs
 
-operate-shift-word-requires : tie.Need-operate-shift-word-requires
-operate-shift-word-requires c κs = search needs
+register-requires-5 : tie.Need-register-requires-5
+register-requires-5 c κs = below (c .before .before .before .i10 .given .1) (c .before .before .before .before .before .before .pre) .1
+
+operate-word-requires : tie.Need-operate-word-requires
+operate-word-requires c κs = search needs
 
 write-back-requires-4 : tie.Need-write-back-requires-4
-write-back-requires-4 c κs = below (c .before .before .before .before .before .i10 .given .1) (c .before .before .before .before .before .before .before .before .pre) .0
+write-back-requires-4 c κs = below (c .before .before .before .before .before .before .i10 .given .1) (c .before .before .before .before .before .before .before .before .before .pre) .0
 
 enum-known-i-11 : tie.Need-enum-known-i-11
 enum-known-i-11 c = search needs
@@ -122,8 +125,8 @@ register-requires-8 c κs = below (c .before .before .i12 .given .1) (c .before 
 register-requires-9 : tie.Need-register-requires-9
 register-requires-9 c κs = below (c .before .before .before .before .i12 .given .1) (c .before .before .before .before .before .before .before .pre) .2
 
-operate-word-requires : tie.Need-operate-word-requires
-operate-word-requires c κs = search needs
+operate-word-requires-2 : tie.Need-operate-word-requires-2
+operate-word-requires-2 c κs = search needs
 
 write-back-requires-6 : tie.Need-write-back-requires-6
 write-back-requires-6 c κs = below (c .before .before .before .before .before .before .before .i12 .given .1) (c .before .before .before .before .before .before .before .before .before .before .pre) .0
@@ -198,7 +201,7 @@ returns-9 c = c .write-back3 .ensures _ ∙ rw (c .before .before .before .befor
 
 returns-10 : tie.Need-returns-10
 unfolding perform
-returns-10 c = c .write-back4 .ensures _ ∙ rw (c .before .before .before .before .before .before .i10 .given .1, c .before .before .operate-shift-word .ensures, c .before .before .before .register5 .ensures)
+returns-10 c = c .write-back4 .ensures _ ∙ rw (c .before .before .before .before .before .before .before .i10 .given .1, c .before .before .operate-word .ensures, c .before .before .before .before .before .of-shift-word .ensures, c .before .before .before .register5 .ensures)
 
 returns-11 : tie.Need-returns-11
 unfolding perform
@@ -206,7 +209,7 @@ returns-11 c = c .write-back5 .ensures _ ∙ rw (c .before .before .before .befo
 
 returns-12 : tie.Need-returns-12
 unfolding perform
-returns-12 c = c .write-back6 .ensures _ ∙ rw (c .before .before .before .before .before .before .before .before .i12 .given .1, c .before .before .operate-word .ensures, c .before .before .before .register9 .ensures, c .before .before .before .before .before .register8 .ensures)
+returns-12 c = c .write-back6 .ensures _ ∙ rw (c .before .before .before .before .before .before .before .before .i12 .given .1, c .before .before .operate-word2 .ensures, c .before .before .before .register9 .ensures, c .before .before .before .before .before .register8 .ensures)
 
 returns-13 : tie.Need-returns-13
 unfolding perform
@@ -262,8 +265,9 @@ execute-spec =
     add-word-requires
     write-back-requires-3
     enum-known-i-10
+    of-shift-word-requires
     register-requires-5
-    operate-shift-word-requires
+    operate-word-requires
     write-back-requires-4
     enum-known-i-11
     register-requires-6
@@ -273,7 +277,7 @@ execute-spec =
     enum-known-i-12
     register-requires-8
     register-requires-9
-    operate-word-requires
+    operate-word-requires-2
     write-back-requires-6
     enum-told
     completed-requires
