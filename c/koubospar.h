@@ -82,7 +82,7 @@ struct koubospar_machine {
 #define KOUBOSPAR_STACK_PROBE 512
 #define KOUBOSPAR_STACK_PLACE 768
 
-/* A step call is a run of one step: it costs 545 instructions more than a step inside a run, which costs 135 to 240 on
+/* A step call is a run of one step: it costs 543 instructions more than a step inside a run, which costs 135 to 246 on
  * the programs of bench/ (bench/README.md). Make runs, and steps only where one must look in between. */
 
 /* ---- the calls on a machine ----------------------------------------------------------------------------------- */

@@ -59,7 +59,31 @@ pub fn operate(k: RegisterKind, a: u64, b: u64) -> u64
     }
 }
 
-// The same on 32 bits, of the kinds that have a word form.
+// The same with an immediate, or an amount. `operate` has one caller without them, and stays part of the run's loop.
+pub fn operate_immediate(k: ImmediateKind, a: u64, imm: u64) -> u64
+    ensures { λ r. ⌜ r ≡ operateAt 64 (ofImmediate k) a imm ⌝ }
+{
+    match k {
+        ImmediateKind::Addi => wrapping_add_u64(a, imm),
+        ImmediateKind::Slti => flag(signed_less(a, imm)),
+        ImmediateKind::Sltiu => flag(a < imm),
+        ImmediateKind::Xori => a ^ imm,
+        ImmediateKind::Ori => a | imm,
+        ImmediateKind::Andi => a & imm,
+    }
+}
+
+pub fn operate_shift(k: ShiftKind, a: u64, amount: u64) -> u64
+    ensures { λ r. ⌜ r ≡ operateAt 64 (ofShift k) a amount ⌝ }
+{
+    match k {
+        ShiftKind::Slli => a << (amount % 64),
+        ShiftKind::Srli => a >> (amount % 64),
+        ShiftKind::Srai => shift_right_signed(a, 64, amount % 64),
+    }
+}
+
+// An operation on 32 bits, of the kinds that have a word form.
 fn operate_32(k: RegisterWordKind, a: u64, b: u64) -> u64
     requires { ⌜ (a < 2 ^ 32) × (b < 2 ^ 32) ⌝ }
     ensures { λ r. ⌜ (r ≡ operateAt 32 (ofRegisterWord k) a b) × (r < 2 ^ 32) ⌝ }
@@ -85,30 +109,7 @@ pub fn operate_word(k: RegisterWordKind, a: u64, b: u64) -> u64
     sign_extend(operate_32(k, bits(a, 0, 32), bits(b, 0, 32)), 32)
 }
 
-// The same with an immediate or an amount.
-pub fn operate_immediate(k: ImmediateKind, a: u64, imm: u64) -> u64
-    ensures { λ r. ⌜ r ≡ operateAt 64 (ofImmediate k) a imm ⌝ }
-{
-    match k {
-        ImmediateKind::Addi => wrapping_add_u64(a, imm),
-        ImmediateKind::Slti => flag(signed_less(a, imm)),
-        ImmediateKind::Sltiu => flag(a < imm),
-        ImmediateKind::Xori => a ^ imm,
-        ImmediateKind::Ori => a | imm,
-        ImmediateKind::Andi => a & imm,
-    }
-}
-
-pub fn operate_shift(k: ShiftKind, a: u64, amount: u64) -> u64
-    ensures { λ r. ⌜ r ≡ operateAt 64 (ofShift k) a amount ⌝ }
-{
-    match k {
-        ShiftKind::Slli => a << (amount % 64),
-        ShiftKind::Srli => a >> (amount % 64),
-        ShiftKind::Srai => shift_right_signed(a, 64, amount % 64),
-    }
-}
-
+// ADDIW: the word form of ADD with an immediate.
 pub fn add_word(a: u64, imm: u64) -> u64
     ensures { λ r. ⌜ r ≡ operateWord Add a imm ⌝ }
 {

@@ -8,19 +8,20 @@ use lib.IntN.{ℤ, natAbs}
 use lib.Signed.{quotZ, remZ}
 use Rattle.words.specs.Word.{field, word}
 
--- of a product: "the lower XLEN bits"
+-- of a product "the lower XLEN bits"
 unfoldable pub lowHalf : ℕ → ℤ → ℕ
 lowHalf w z = field (word (w + w) z) 0 w
 
--- and "the upper XLEN bits of the full 2×XLEN-bit product"
+-- and "the upper XLEN bits of the full 2×XLEN-bit product": "The high half of a product is exact for signed, unsigned and mixed
+-- operands" (document 02, Job 2)
 unfoldable pub highHalf : ℕ → ℤ → ℕ
 highHalf w z = field (word (w + w) z) w w
 
--- "rounding towards zero"; "The quotient of division by zero has all bits set". "The quotient of a signed division with
--- overflow is equal to the dividend, and the remainder is zero": so it comes out (proofs/Exact.antt, overflow).
+-- "rounding towards zero"; "Division by zero gives all ones as quotient and the dividend as remainder. The most negative number
+-- divided by -1 gives itself, with remainder 0." (document 02, Job 2): the second comes out so (proofs/Exact.antt, overflow)
 unfoldable pub quotient : ℕ → ℤ → ℤ → ℕ
 quotient w n d = cond (eqb (natAbs d) 0) (2 ^ w - 1) (word w (quotZ n d))
 
--- with the dividend's sign; "the remainder of division by zero equals the dividend"
+-- "the sign of the result equals the sign of the dividend"
 unfoldable pub remainder : ℕ → ℤ → ℤ → ℕ
 remainder w n d = word w (cond (eqb (natAbs d) 0) n (remZ n d))
