@@ -36,28 +36,35 @@ fileQuestions s = (whole s, 30) ∷ (eqb (firstThat foreign s) (length s), 31) �
 unfoldable pub fileNo : List ℕ → ℕ
 fileNo s = firstNo (fileQuestions s)
 
--- "0 for 30; for 31 the line of the first such byte"
+-- "for 31 the line of the first such byte"; 0 where there is none
+abbrev pub foreignLine : List ℕ → ℕ
+foreignLine s = cond (eqb (firstThat foreign s) (length s)) 0 (lineNumber s (firstThat foreign s))
+
+-- "0 for 30"
 abbrev pub fileRefusal : List ℕ → Refusal
-fileRefusal s = refusal (fileNo s) (cond (eqb (fileNo s) 31) (lineNumber s (firstThat foreign s)) 0)
+fileRefusal s = refusal (fileNo s) (cond (eqb (fileNo s) 31) (foreignLine s) 0)
 
--- ---- "Then line by line"
+-- ---- "Then line by line". A line's number is that of its first byte's position: "one more than the number of 0a bytes before
+-- that line" (02, Job 3)
 
--- the word lines from line n on: 32 to 35 of one line, then the next line
-unfoldable pub wordsRefusal : ℕ → ℕ → List (List ℕ) → Refusal
-wordsRefusal n least [] = refusal 0 0
-wordsRefusal n least (l ∷ ls) =
+-- the word lines of sheet s, of which the first begins at position `at`: 32 to 35 of it, then the next, which begins past its end
+unfoldable pub wordsRefusal : List ℕ → ℕ → ℕ → List (List ℕ) → Refusal
+wordsRefusal s at least [] = refusal 0 0
+wordsRefusal s at least (l ∷ ls) =
     let w = readWord least (rowOf 2 l) in
-    cond (eqb (w .question) 0) (wordsRefusal (n + 1) (w .address + 1) ls) (refusal (w .question) n)
+    cond (eqb (w .question) 0)
+    (wordsRefusal s (at + length l + 1) (w .address + 1) ls)
+    (refusal (w .question) (lineNumber s at))
 
--- line 1, then the word lines
-unfoldable pub linesRefusal : List (List ℕ) → Refusal
-linesRefusal [] = refusal 0 0
-linesRefusal (l ∷ ls) =
+-- line 1, which begins at position 0, then the word lines
+unfoldable pub linesRefusal : List ℕ → List (List ℕ) → Refusal
+linesRefusal s [] = refusal 0 0
+linesRefusal s (l ∷ ls) =
     let h = readSetup (rowOf setupFields l) in
-    cond (eqb (h .question) 0) (wordsRefusal 2 0 ls) (refusal (h .question) 1)
+    cond (eqb (h .question) 0) (wordsRefusal s (length l + 1) 0 ls) (refusal (h .question) (lineNumber s 0))
 
 unfoldable pub sheetRefusal : List ℕ → Refusal
-sheetRefusal s = cond (eqb (fileNo s) 0) (linesRefusal (lines s)) (fileRefusal s)
+sheetRefusal s = cond (eqb (fileNo s) 0) (linesRefusal s (lines s)) (fileRefusal s)
 
 -- ---- the sheet; what a refused one has for a setup and for words is never used
 

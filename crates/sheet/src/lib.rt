@@ -2,11 +2,11 @@
 ghost use mathlib.Core.Path.{_≡_};
 ghost use Prim.Native.Nat.{_-_, _≤_};
 ghost use lib.ListN.{length, drop, getD};
-ghost use Rattle.text.specs.Scan.{newline, firstThat, lineNumber};
+ghost use Rattle.text.specs.Scan.{newline, LineStart};
 ghost use Rattle.text.specs.Split.{lines, rowOf};
 ghost use Rattle.text.specs.Write.{Wrote};
 ghost use Rattle.sheet.specs.Words.{readWord, wordsOf, memoryOf};
-ghost use Rattle.sheet.specs.Sheet.{foreign as Sheet·foreign, fileRefusal, wordsRefusal, readSheet, refusalText};
+ghost use Rattle.sheet.specs.Sheet.{foreign as Sheet·foreign, foreignLine, fileRefusal, wordsRefusal, readSheet, refusalText};
 use memory::bytes::write;
 use setup::Setup;
 use setup::read_setup;
@@ -18,8 +18,6 @@ use text::print::put_decimal;
 use text::print::put_text;
 use text::row::all_wide;
 use text::row::read_row;
-use text::scan::count;
-use text::scan::front;
 use text::scan::last_byte;
 
 // The fields of a word line: address and word.
@@ -51,18 +49,22 @@ fn foreign(b: u8) -> bool
     !(is_digit(b) | ((b == b',') | (b == b'\n')))
 }
 
-// The position of the first byte that no sheet has, or the length.
-fn first_foreign(s: &[u8]) -> usize
-    ensures { λ r. ⌜ (r ≡ firstThat Sheet·foreign (now (s .entry))) × (r ≤ length (now (s .entry))) ⌝ }
+// The line of the first byte that no sheet has, 0 where there is none. The line number runs along.
+fn foreign_line(s: &[u8]) -> u64
+    ensures { λ r. ⌜ r ≡ foreignLine (now (s .entry)) ⌝ }
 {
+    let mut lineno: u64 = 1;
     let mut i = 0;
     while i < s.len() {
         if foreign(s[i]) {
-            return i;
+            return lineno;
+        }
+        if s[i] == b'\n' {
+            lineno += 1;
         }
         i += 1;
     }
-    i
+    0
 }
 
 // 30 and 31, of the whole file. Only 31 has a line: that of the first foreign byte.
@@ -70,16 +72,15 @@ fn file_refusal(s: &[u8]) -> Refusal
     ensures { λ r. ⌜ r ≡ fileRefusal (now (s .entry)) ⌝ }
 {
     let n = s.len();
-    let at = first_foreign(s);
+    let lineno = foreign_line(s);
     let question = ask(
         (1 <= n) & ((n <= 65536) & (last_byte(s) == b'\n')),
         30,
-        ask(at == n, 31, 0),
+        ask(lineno == 0, 31, 0),
     );
-    let lineno = count(front(s, at), b'\n') + 1;
     Refusal {
         question,
-        lineno: ask(question == 31, 0, lineno as u64),
+        lineno: ask(question == 31, 0, lineno),
     }
 }
 
@@ -104,8 +105,8 @@ fn read_word(line: &[u8], least: u64) -> ReadWord
 // The word lines from a position on, where the line numbered `startline` begins, and their words placed in memory. The line
 // number runs along. Where a line is refused, memory is left free: no refused sheet is run.
 fn read_words(s: &[u8], start: usize, startline: u64, mem: &mut [u8]) -> Refusal
-    requires { ⌜ (length (now mem) ≡ 65536) × (start ≤ length (now s)) × (length (now s) ≤ 65536) × (getD (now s) (length (now s) - 1) 0 ≡ newline) × (startline ≡ lineNumber (now s) start) ⌝ }
-    ensures { λ r. ⌜ r ≡ wordsRefusal startline 0 (lines (drop start (now (s .entry)))) ⌝ }
+    requires { ⌜ (length (now mem) ≡ 65536) × (start ≤ length (now s)) × (length (now s) ≤ 65536) × (getD (now s) (length (now s) - 1) 0 ≡ newline) × LineStart (now s) start startline ⌝ }
+    ensures { λ r. ⌜ r ≡ wordsRefusal (now (s .entry)) start 0 (lines (drop start (now (s .entry)))) ⌝ }
     ensures { λ r. ⌜ (r .question ≡ 0 → now (mem .exit) ≡ memoryOf (now (mem .entry)) (wordsOf (lines (drop start (now (s .entry)))))) ⌝ }
 {
     let mut at = start;

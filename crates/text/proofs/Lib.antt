@@ -1,5 +1,6 @@
 pub mod Scanning
 pub mod Splitting
+pub mod LineNumbers
 pub mod Numbers
 pub mod Rows
 pub mod Writing

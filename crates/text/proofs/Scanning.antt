@@ -24,14 +24,6 @@ module _ (s : List ℕ) (i : ℕ) where
   unfolding firstThat
   first-off test h = rw (drop-of-length-le s h)
 
-  pub count-on : (c : ℕ) → i < length s → count c (drop i s) ≡ cond (is c (getD s i 0)) 1 0 + count c (drop (i + 1) s)
-  unfolding count
-  count-on c h = rw (drop-cons s i 0 h, add-one i)
-
-  pub count-off : (c : ℕ) → length s ≤ i → count c (drop i s) ≡ 0
-  unfolding count
-  count-off c h = rw (drop-of-length-le s h)
-
   -- a part that ends where the text ends
   pub rest-whole : take (length s - i) (drop i s) ≡ drop i s
   rest-whole = take-all (length s - i) (drop i s) (simp length-drop (omega arith))
@@ -55,6 +47,18 @@ first-before test (b ∷ bs) (suc i) h e = by (test b) (first-before test bs i (
     by : (t : Bool) → firstThat test bs ≤ i → cond t 0 (suc (firstThat test bs)) ≤ suc i
     by true g = omega arith
     by false g = omega arith
+
+-- the first that passes does pass
+pub first-is : (test : ℕ → Bool) (s : List ℕ) → firstThat test s < length s → test (getD s (firstThat test s) 0) ≡ true
+unfolding firstThat
+first-is test [] h = let z : ⊥ = omega arith in absurd z
+first-is test (b ∷ bs) h = by (test b) refl h (first-is test bs)
+  where
+    by : (t : Bool) → test b ≡ t → cond t 0 (suc (firstThat test bs)) < suc (length bs)
+        → (firstThat test bs < length bs → test (getD bs (firstThat test bs) 0) ≡ true)
+        → test (getD (b ∷ bs) (cond t 0 (suc (firstThat test bs))) 0) ≡ true
+    by true e g f = e
+    by false e g f = f (omega arith)
 
 -- a byte counts for one at most
 one-le : (t : Bool) → cond t 1 0 ≤ 1
@@ -85,3 +89,14 @@ count-first c (b ∷ bs) h = by (is c b) refl h (count-first c bs)
         let e : suc (position c bs) + 1 ≡ suc (position c bs + 1) = omega arith in
         let n : position c bs < length bs = omega arith in
         rw (e, f) (omega (arith, k n))
+
+-- and before it none
+pub count-before : (c : ℕ) (s : List ℕ) (k : ℕ) → k ≤ position c s → count c (take k s) ≡ 0
+unfolding count firstThat
+count-before c s zero h = refl
+count-before c [] (suc k) h = let z : ⊥ = omega arith in absurd z
+count-before c (b ∷ bs) (suc k) h = by (is c b) h (count-before c bs k)
+  where
+    by : (t : Bool) → suc k ≤ cond t 0 (suc (position c bs)) → (k ≤ position c bs → count c (take k bs) ≡ 0) → cond t 1 0 + count c (take k bs) ≡ 0
+    by true g f = let z : ⊥ = omega arith in absurd z
+    by false g f = let z : k ≤ position c bs = omega arith in omega (arith, f z)

@@ -6,11 +6,11 @@ use Prim.Native.Nat.{ℕ, zero, suc, _+_, _-_, _<_, _≤_}
 use native.Mathlib.Omega.{arith}
 use lib.Dec.{eqb, leb}
 use lib.ListN.{length, getD, drop, take, length-drop, drop-of-length-le}
-use lib.Seq.{take-all, take-add, drop-drop, getD-drop, length-take-le}
+use lib.Seq.{take-all, drop-drop, getD-drop, length-take-le}
 use borrow.Author.Tests.{eq-eqb, leb-true, leb-false}
-use Rattle.text.specs.Scan.{firstThat, is, count, newline, comma, lineNumber}
+use Rattle.text.specs.Scan.{firstThat, is, newline, comma}
 use Rattle.text.specs.Split.{push, split, lines, fields}
-use Rattle.text.proofs.Scanning.{position, first-le, first-before, count-append, count-first}
+use Rattle.text.proofs.Scanning.{position, first-le, first-before}
 
 -- ---- one piece of a list: the first w bytes, and the pieces from w + 1 on
 abbrev pub Piece : ℕ → List (List ℕ) → List ℕ → ℕ → Type 0
@@ -134,6 +134,9 @@ lines-more s h = by (leb (length s) (position newline s)) refl
 
 -- the line that begins at position `at`
 module _ (s line : List ℕ) (at : ℕ) (e : line ≡ getD (lines (drop at s)) 0 []) where
+  pub line-is : line ≡ take (position newline (drop at s)) (drop at s)
+  line-is = piece-is newline [] refl s line at e
+
   pub line-width : length line ≡ position newline (drop at s)
   line-width = piece-width newline [] refl s line at e
 
@@ -147,16 +150,3 @@ module _ (s line : List ℕ) (at : ℕ) (e : line ≡ getD (lines (drop at s)) 0
       let g : length s - 1 - at < length (drop at s) = omega (arith, length-drop at s) in
       let p : getD (drop at s) (length s - 1 - at) 0 ≡ newline = getD-drop at s (length s - 1 - at) 0 ∙ ap (λ n. getD s n 0) f ∙ z in
       omega (arith, line-width, first-before (is newline) (drop at s) (length s - 1 - at) g (eq-eqb _ newline p))
-
-  -- the next line's number is one more: Job 3's running line number
-  pub line-counts : at + length line < length s → lineNumber s (at + length line + 1) ≡ lineNumber s at + 1
-  line-counts h =
-      let w = position newline (drop at s) in
-      let f : at + length line + 1 ≡ at + (w + 1) = omega (arith, line-width) in
-      let k : w < length (drop at s) = omega (arith, length-drop at s, line-width) in
-      let n : count newline (take (at + length line + 1) s) ≡ count newline (take at s) + 1 =
-      ap (λ n. count newline (take n s)) f
-      ∙ ap (count newline) (take-add at (w + 1) s)
-      ∙ count-append newline (take at s) (take (w + 1) (drop at s))
-      ∙ ap (λ n. count newline (take at s) + n) (count-first newline (drop at s) k) in
-      ap (λ n. n + 1) n

@@ -1,9 +1,10 @@
 -- Where bytes stand in a text. A text is a list of bytes, and positions count from 0. Assumes nothing.
+use mathlib.Core.Path.{_≡_}
 use mathlib.Core.Bool.{Bool, cond}
 use mathlib.Core.List.{List, [], _∷_}
 use Prim.Native.Nat.{ℕ, suc, _+_}
 use lib.Dec.{eqb}
-use lib.ListN.{take}
+use lib.ListN.{getD, take}
 
 -- the bytes that part a text: every line ends in 0a, fields are parted by commas (01, The run sheet)
 abbrev pub newline : ℕ
@@ -29,3 +30,9 @@ count c (b ∷ bs) = cond (is c b) 1 0 + count c bs
 -- the number of the line that position `at` lies in: one more than the 0a bytes before it ("Lines count from 1", 01)
 abbrev pub lineNumber : List ℕ → ℕ → ℕ
 lineNumber s at = count newline (take at s) + 1
+
+-- a line begins at position `at`, the text's start or past an 0a (as if one stood before the text), and n is its number: "one more
+-- than the number of 0a bytes before that line" (02, Job 3)
+pub record LineStart (s : List ℕ) (at n : ℕ) : Type 0 where
+  pub begins : getD (newline ∷ s) at 0 ≡ newline
+  pub counted : n ≡ lineNumber s at

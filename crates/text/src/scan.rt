@@ -2,7 +2,7 @@
 ghost use mathlib.Core.Path.{_≡_};
 ghost use Prim.Native.Nat.{_-_, _≤_};
 ghost use lib.ListN.{length, getD, take, drop};
-ghost use Rattle.text.specs.Scan.{firstThat, is, count as Scan·count};
+ghost use Rattle.text.specs.Scan.{firstThat, is};
 
 // The position of the first c, or the length.
 pub fn position(s: &[u8], c: u8) -> usize
@@ -16,21 +16,6 @@ pub fn position(s: &[u8], c: u8) -> usize
         i += 1;
     }
     i
-}
-
-// How many c there are.
-pub fn count(s: &[u8], c: u8) -> usize
-    ensures { λ r. ⌜ (r ≡ Scan·count c (now (s .entry))) × (r ≤ length (now (s .entry))) ⌝ }
-{
-    let mut n = 0;
-    let mut i = 0;
-    while i < s.len() {
-        if s[i] == c {
-            n += 1;
-        }
-        i += 1;
-    }
-    n
 }
 
 // The last byte, 0 of an empty text.

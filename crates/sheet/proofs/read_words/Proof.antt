@@ -1,22 +1,22 @@
--- `read_words` meets its contract. `lineno` is the number of the line that begins at position `at`: one more than the
--- 0a bytes before it. Reading the rest of the sheet from there comes to reading it all.
+-- `read_words` meets its contract. At each line `lineno` is its number, one more than the 0a bytes before its first byte, which
+-- stands at `at` (LineStart). Reading the rest of the sheet from there comes to reading it all.
 use mathlib.Core.Path.{_≡_, refl, ap, sym, _∙_}
 use Prim.Native.Nat.{_+_, _-_, _≤_}
 use native.Mathlib.Omega.{arith}
-use lib.ListN.{length, drop, take, length-take}
-use Rattle.text.proofs.Splitting.{line-ends, line-counts}
-use Rattle.text.proofs.Scanning.{count-le}
-use Rattle.text.specs.Scan.{newline, lineNumber}
+use lib.ListN.{length, drop}
+use Rattle.text.proofs.Splitting.{line-ends}
+use Rattle.text.proofs.LineNumbers.{number-le, start-next}
+use Rattle.text.specs.Scan.{LineStart}
 use Rattle.text.specs.Split.{lines, rowOf}
 use Rattle.sheet.specs.Words.{wordsOf, memoryOf, readWord}
-use Rattle.sheet.specs.Sheet.{wordsRefusal}
+use Rattle.sheet.specs.Sheet.{refusal, wordsRefusal}
 use Rattle.sheet.proofs.Laws.{word-fits, refusal-on, refusal-stop, refusal-off, memory-on, memory-off}
 use borrow.Author.Needs.{needs}
 use Rattle.sheet.proofs.read_words.Statement.{statement}
 use Rattle.sheet.proofs.read_words.Tie as tie
 
 abbrev Inv-loop : tie.InvT-loop
-Inv-loop s start first mem₀ at₀ lineno₀ least₀ mem at lineno least = (length mem ≡ 65536) × (at ≤ length s) × (lineno ≡ lineNumber s at) × (wordsRefusal lineno least (lines (drop at s)) ≡ wordsRefusal first 0 (lines (drop start s))) × (memoryOf mem (wordsOf (lines (drop at s))) ≡ memoryOf mem₀ (wordsOf (lines (drop start s))))
+Inv-loop s start first mem₀ at₀ lineno₀ least₀ mem at lineno least = (length mem ≡ 65536) × (at ≤ length s) × LineStart s at lineno × (wordsRefusal s at least (lines (drop at s)) ≡ wordsRefusal s start 0 (lines (drop start s))) × (memoryOf mem (wordsOf (lines (drop at s))) ≡ memoryOf mem₀ (wordsOf (lines (drop start s))))
 
 abbrev μ-loop : tie.MeasureT-loop
 μ-loop s start first mem₀ at₀ lineno₀ least₀ mem at lineno least = length s - at
@@ -39,8 +39,8 @@ returns c =
     let s = c .before .before .before .before .before .before .before .before .args .s .now in
     let line = c .before .before .before .line-at in
     let w = c .before .before .read-word in
-    let stop = refusal-stop s (line .result .now) (l .at) (l .lineno) (l .least) (w .result) (line .ensures) (c .before .before .before .before .loop-test .taken) (w .ensures) (c .if1 .taken) in
-    (stop ∙ l .inv .3, λ z. absurd (c .if1 .taken z))
+    let stop = refusal-stop s (line .result .now) (l .at) (l .least) (w .result) (line .ensures) (c .before .before .before .before .loop-test .taken) (w .ensures) (c .if1 .taken) in
+    (ap (refusal (w .result .question)) (l .inv .2 .counted) ∙ stop ∙ l .inv .3, λ z. absurd (c .if1 .taken z))
 
 write-requires : tie.Need-write-requires Inv-loop μ-loop
 write-requires c κs =
@@ -65,7 +65,7 @@ add-lineno : tie.Need-add-lineno Inv-loop μ-loop
 add-lineno c =
     let l = c .before .before .before .before .before .before .before .before .before .before .loop in
     let s = c .before .before .before .before .before .before .before .before .before .before .before .before .before .args .s .now in
-    omega (arith, l .inv .2, count-le newline (take (l .at) s), length-take (l .at) s)
+    omega (arith, l .inv .2 .counted, number-le s (l .at))
 
 add-at : tie.Need-add-at Inv-loop μ-loop
 add-at c = search needs
@@ -84,11 +84,11 @@ loop-again c =
     let w = c .before .before .before .before .before .before .before .read-word in
     let inside = c .before .before .before .before .before .before .before .before .before .loop-test .taken in
     let end = line-ends s (line .result .now) (l .at) (line .ensures) inside (c .before .before .before .before .before .before .before .before .before .before .before .before .before .pre .3) in
-    let on = refusal-on s (line .result .now) (l .at) (l .lineno) (l .least) (w .result) (line .ensures) inside (w .ensures) (c .before .before .before .before .before .if1 .left) in
-    let placed = memory-on s (line .result .now) (l .at) (l .lineno) (l .least) (w .result) (line .ensures) inside (w .ensures) (l .mem) _ (c .before .before .before .write .ensures) in (
+    let on = refusal-on s (line .result .now) (l .at) (l .least) (w .result) (line .ensures) inside (w .ensures) (c .before .before .before .before .before .if1 .left) in
+    let placed = memory-on s (line .result .now) (l .at) (l .least) (w .result) (line .ensures) inside (w .ensures) (l .mem) _ (c .before .before .before .write .ensures) in (
       omega (arith, c .before .before .before .write .kept, l .inv .0),
       omega arith,
-      ap (λ k. k + 1) (l .inv .2) ∙ sym (line-counts s (line .result .now) (l .at) (line .ensures) end),
+      start-next s (line .result .now) (l .at) (line .ensures) end (l .lineno) (l .inv .2),
       on ∙ l .inv .3,
       placed ∙ l .inv .4,
     )
@@ -101,7 +101,7 @@ returns-2 c =
     let l = c .before .loop in
     let s = c .before .before .before .before .args .s .now in
     let past = c .loop-test .left in
-    (sym (refusal-off s (l .at) (l .lineno) (l .least) past) ∙ l .inv .3, λ z. sym (memory-off s (l .at) (l .mem) past) ∙ l .inv .4)
+    (sym (refusal-off s (l .at) (l .least) past) ∙ l .inv .3, λ z. sym (memory-off s (l .at) (l .mem) past) ∙ l .inv .4)
 
 pub read-words-spec : {M : Type 1} → statement M
 read-words-spec =
