@@ -1,3 +1,4 @@
 pub mod Laws
 pub mod Results
 pub mod Cases
+pub mod LineNumbers

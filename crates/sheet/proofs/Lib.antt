@@ -1,3 +1,4 @@
 pub mod Laws
+pub mod LineNumbers
 pub mod Refusals
 pub mod Cases
