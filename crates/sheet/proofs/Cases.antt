@@ -35,6 +35,12 @@ rows =
     ∷ row (ascii "x") 30 0
     -- a foreign byte in line 2, before the fields of line 1 are counted
     ∷ row (ascii "0\n0,x\n") 31 2
+    -- two foreign bytes: the line of the first
+    ∷ row (ascii "0,x\n0\nx\n") 31 1
+    -- commas and empty lines before a foreign byte that follows an 0a
+    ∷ row (ascii "0,0,0,0\n\n\n,,\nx,0\n\n") 31 5
+    -- a foreign byte before an 0a
+    ∷ row (ascii "0\n0,0x\n0\n") 31 2
     -- capital letters are foreign
     ∷ row (ascii "A\n") 31 1
     -- one field; an empty line
@@ -57,6 +63,8 @@ rows =
     ∷ row (lineOne ++ ascii "0,\n") 33 2
     -- a blank last line
     ∷ row (lineOne ++ ascii "0,1\n\n") 32 3
+    -- the tenth word line, in line 11
+    ∷ row (lineOne ++ ascii "0,1\n4,1\n8,1\nc,1\n10,1\n14,1\n18,1\n1c,1\n20,1\n24\n") 32 11
     -- an address that is no multiple of 4
     ∷ row (lineOne ++ ascii "2,1\n") 34 2
     -- an address above fffc
