@@ -974,7 +974,7 @@ for question in range(31, 36):
 
 # As many words as fit. The shortest lines have 4 bytes up to c, 5 up to fc, 6 up to ffc, then 7: 4 of 4, 60 of 5 and 960 of
 # 6 are 6,076 bytes for 1,024 words. 65,536 - 26 - 6,076 = 59,434 is 8,490 times 7 and 4 over, so 9,514 words fit, the last
-# in line 9515. (An empty budget would leave 5 over, a word no more.) A budget of five digits takes the 4.
+# in line 9515. (An empty budget would leave 5 over, no room for a word.) A budget of five digits takes the 4.
 MOST = 9514
 assert len(LONG) == 60 and len(SHORTEST) == 26
 sheet("long-most", with_lines(MOST, {}, setup(options=0, r3=NONE, budget=100000)), "11,0,0,0,0,1,0,3,0",
@@ -985,7 +985,7 @@ for question, line in [(31, "g\n"), (32, "\n"), (33, ",\n"), (34, "1,0\n"), (35,
           "%d in line 9516, after as many words as fit" % question, NUMBER)
 # With LONG for line 1 (34 bytes more) and MIX (44 digits for 8 words, 36 more): 59,434 - 34 - 36 = 59,364 is 8,480 times 7
 # and 4 over, so 9,504 words, the last of which has the 4.
-words = MIX + [i * i % 16 for i in range(8, 9503)] + [0xfedcb]
+words = MIX + [(0x9e3779b9 * i & 0xffffffff) >> 28 for i in range(8, 9503)] + [0xfedcb]
 content = LONG + "".join("%x,%x\n" % (4 * i, word) for i, word in enumerate(words))
 assert len(content) == 65536 and len(words) == 9504
 mixed("long-most-mixed", words, content, "65,536 bytes with 9,504 words, all of them mixed into x10")
