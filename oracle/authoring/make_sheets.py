@@ -2,8 +2,8 @@
 """Writes the sheets of crates/sheets/data and the page sheets.md beside this file.
 
 Each sheet stands below with the first line of its output, worked out by hand
-from document 01, as document 02 has changed it; some of RV64M with all their
-registers too. `oracle sheets FOLDER` then
+from document 01, as document 02 has changed it; some of RV64M and two long ones
+with all their registers too. `oracle sheets FOLDER` then
 prints what the oracle makes of them, and `--check FILE` holds that against the
 lines here. `--store ORACLE` writes data/index and stdout, the answers being the
 oracle's, if its first lines are those here.
@@ -920,6 +920,96 @@ m_sheet("greatest-common-divisor", program(addi(5, 0, 1071), addi(6, 0, 462), m(
 m_sheet("decimal-digits", program(addi(5, 0, 1987), addi(6, 0, 10), m("remu", 7, 5, 6), m("divu", 5, 5, 6), slli(10, 10, 4), R(0x33, 0, 0, 10, 10, 7),
         B(1, 5, 0, -16), ECALL), "18,16,1c,0,0,0,0,0,0", "the digits of 1987 from the last on", ADD_M, {6: 10, 7: 1, 10: 0x7891})
 
+# ---------------------------------------------------------------- long sheets
+section("Long sheets (document 02, Job 3)")
+SLOW = "02, Job 3: A sheet with three thousand words must not load slowly"
+NUMBER = "02, Job 3: At each line it is shown to be one more than the number of `0a` bytes before that line"
+WHOLE = (0, mask(16))            # all of memory
+# Line 1, with a budget written out: 60 bytes, and the shortest, 26.
+LONG = setup(r2=(*WHOLE, 1), r3=(*WHOLE, 4), budget=100000)
+SHORTEST = setup(options=0, r3=NONE, budget=0)
+
+# Goes over the 16,384 words of memory: x10 becomes 33 times itself plus the word. One step, and six for each word: 98,305,
+# or 18001; it ends at the ECALL at 1c. 33 is odd, so a word that is missing or another one changes what comes out. So do
+# two unlike words that have changed places: they change it by their difference times an odd number times 33^n - 1, n their
+# distance, and 2 divides these at most 31, 0 and 5 + 13 times, together less than 64.
+MIX = [lui(6, 0x10), load(LWU, 7, 5, 0), slli(11, 10, 5), R(0x33, 0, 0, 10, 10, 11), R(0x33, 0, 0, 10, 10, 7), addi(5, 5, 4), B(1, 5, 6, -20), ECALL]
+
+
+def mixed(name, words, content, shows):
+    """A sheet that begins with MIX and places these words from 0 on; x5, x6, x10 and x11 at its end, x7 being the last word, 0."""
+    value = 0
+    for word in words + [0] * (16384 - len(words)):
+        before, value = value, (33 * value + word) & ONES
+    registers[name] = {5: 0x10000, 6: 0x10000, 10: value, 11: before << 5 & ONES}
+    sheet(name, content, "18,18001,1c,0,0,0,0,0,0", shows, SLOW)
+
+
+def short(count):
+    """The shortest lines for that many words, of which word i stands in line i + 2."""
+    return ["%x,%x\n" % (4 * i, i % 16) for i in range(count)]
+
+
+def bad(question, line):
+    """A line in that place which the question refuses, the line before being as `short` has it; 35 not in line 2."""
+    at = 4 * (line - 2)
+    assert question != 35 or line > 2
+    return {31: "%x,g\n" % at, 32: "%x\n" % at, 33: "%x,\n" % at, 34: "%x,0\n" % (at + 1), 35: "%x,0\n" % (at - 4)}[question]
+
+
+def with_lines(count, changed, first=LONG):
+    """That many short lines, some changed: {number: line}."""
+    lines = [first] + short(count)
+    for number, line in changed.items():
+        lines[number - 1] = line
+    return "".join(lines)
+
+
+# Three thousand words: the last line is 3001.
+words = MIX + [0x9e3779b9 * i & 0xffffffff for i in range(8, 3000)]
+mixed("long-3000", words, LONG + code(*words), "line 1 and 3,000 words, all of them mixed into x10")
+for question in range(31, 36):
+    sheet("long-3000-last-%d" % question, with_lines(3000, {3001: bad(question, 3001)}), "sheet,%d,3001" % question,
+          "%d in the last of 3,001 lines" % question, NUMBER)
+
+# As many words as fit. The shortest lines have 4 bytes up to c, 5 up to fc, 6 up to ffc, then 7: 4 of 4, 60 of 5 and 960 of
+# 6 are 6,076 bytes for 1,024 words. 65,536 - 26 - 6,076 = 59,434 is 8,490 times 7 and 4 over, so 9,514 words fit, the last
+# in line 9515. (An empty budget would leave 5 over, no room for a word.) A budget of five digits takes the 4.
+MOST = 9514
+assert len(LONG) == 60 and len(SHORTEST) == 26
+sheet("long-most", with_lines(MOST, {}, setup(options=0, r3=NONE, budget=100000)), "11,0,0,0,0,1,0,3,0",
+      "65,536 bytes with 9,514 words, more than which no sheet has; region 3 is unset", SLOW)
+# The four bytes hold a line that is refused, 9516: no later line can be by 32 to 35.
+for question, line in [(31, "g\n"), (32, "\n"), (33, ",\n"), (34, "1,0\n"), (35, "0,0\n")]:
+    sheet("long-most-last-%d" % question, with_lines(MOST, {}, SHORTEST) + line, "sheet,%d,9516" % question,
+          "%d in line 9516, after as many words as fit" % question, NUMBER)
+# With LONG for line 1 (34 bytes more) and MIX (44 digits for 8 words, 36 more): 59,434 - 34 - 36 = 59,364 is 8,480 times 7
+# and 4 over, so 9,504 words, the last of which has the 4.
+words = MIX + [(0x9e3779b9 * i & 0xffffffff) >> 28 for i in range(8, 9503)] + [0xfedcb]
+content = LONG + "".join("%x,%x\n" % (4 * i, word) for i, word in enumerate(words))
+assert len(content) == 65536 and len(words) == 9504
+mixed("long-most-mixed", words, content, "65,536 bytes with 9,504 words, all of them mixed into x10")
+
+# A refusal in one line of a long sheet; the numbers about those where a digit or a byte is full.
+sheet("long-line-1", with_lines(300, {1: LONG.replace(",1,", ",100,", 1)}), "sheet,34,1", "34 in line 1 of 301", NUMBER)
+for line, question, count in [(2, 33, 3000), (9, 32, 300), (10, 34, 300), (11, 35, 300), (99, 35, 300), (100, 33, 300), (101, 32, 300), (255, 34, 300),
+                              (256, 32, 300), (257, 35, 300), (999, 33, 1200), (1000, 35, 1200), (1001, 34, 1200), (1500, 34, 3000)]:
+    sheet("long-line-%d" % line, with_lines(count, {line: bad(question, line)}), "sheet,%d,%d" % (question, line),
+          "%d in line %d of %d" % (question, line, count + 1), NUMBER)
+sheet("long-line-1500-then-others", with_lines(1500, {1500: bad(35, 1500), 1501: bad(34, 1501)}) + "\n" * 1500, "sheet,35,1500",
+      "35 in line 1500, 34 in line 1501, then 1,500 blank lines", LINES)
+
+# 31 in one line of a long sheet.
+sheet("long-31-after-others", with_lines(3000, {line: bad(32 + line % 4, line) for line in range(2, 3001)}) + "g\n", "sheet,31,3002",
+      "lines 2 to 3000 would be refused by 32 to 35; the foreign byte in line 3002 comes first", "31: is every byte ... Then line by line: 32")
+sheet("long-31-two", with_lines(3000, {1500: bad(31, 1500), 3001: bad(31, 3001)}), "sheet,31,1500", "foreign bytes in lines 1500 and 3001", Q31L)
+sheet("long-31-before-line-end", with_lines(1200, {1000: "f98,0\r\n"}), "sheet,31,1000", "`0d` right before the `0a` of line 1000", Q31L)
+sheet("long-31-after-line-end", with_lines(1200, {1001: "\rf9c,0\n"}), "sheet,31,1001", "`0d` right after the `0a` of line 1000", Q31L)
+sheet("long-31-after-commas", LONG + "," * 3000 + "g\n", "sheet,31,2", "3,000 commas before it in line 2", Q31L)
+sheet("long-31-after-fields", LONG + ",,,\n" * 1000 + "g\n", "sheet,31,1002", "1,000 lines of four fields before it", Q31L)
+sheet("long-31-after-9999-blank", "\n" * 9999 + "g\n", "sheet,31,10000", "in line 10000, after blank lines", Q31L)
+sheet("long-31-after-65534-blank", "\n" * 65534 + "g\n", "sheet,31,65535", "the largest line number that is ever printed", Q31L)
+
 
 def write():
     names = [r[0] for r in rows]
@@ -932,7 +1022,7 @@ def write():
     out = ["# Stored sheets", "",
            "One file a sheet. The first lines were worked out by hand from document 01, or from",
            "document 02 where a row says `02` (they stand in `oracle/authoring/make_sheets.py`, which",
-           "writes this page, and so do the registers of most RV64M sheets), and then confirmed by the oracle. The sheets stand in `crates/sheets/data`; `crates/sheets/stdout` has",
+           "writes this page, and so do the registers of most RV64M sheets and of two long ones), and then confirmed by the oracle. The sheets stand in `crates/sheets/data`; `crates/sheets/stdout` has",
            "for each a line with its name and then the whole output.", ""]
     starts = dict(sections)
     for i, (name, _, first, shows, sentence) in enumerate(rows):

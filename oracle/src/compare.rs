@@ -9,7 +9,7 @@ use crate::numbers::{bit, power};
 use crate::reach::writable;
 use crate::region::{keeps_rule, Place};
 use crate::step::{data_access, load_size, step_asked, store_size};
-use crate::supply::{Supply, AIMS};
+use crate::supply::{sheet_of, Supply, AIMS};
 
 /// What an engine under test offers. `None` means that it lacks the call.
 pub trait Engine {
@@ -125,6 +125,11 @@ pub struct Counts {
     pub crossings: BTreeMap<&'static str, u64>,
     pub resume_stops: BTreeMap<u64, u64>,
     pub sheet_lines: BTreeMap<String, u64>,
+    /// Valid long sheets, and the words of the longest.
+    pub long_valid: u64,
+    pub long_most: usize,
+    /// Refusals of long sheets by line (`LONG_PLACES`) and by question, from 31 on.
+    pub long_refused: BTreeMap<&'static str, [u64; 5]>,
     pub isolation_stops: BTreeMap<u64, u64>,
     pub isolation_steps: u64,
     /// Isolation pairs whose memories truly differed.
@@ -164,6 +169,12 @@ impl Counts {
             let entry = self.m_words.entry(class).or_default();
             (0..M_WORDS).for_each(|n| entry[n] += met[n]);
         }
+        for (place, met) in other.long_refused {
+            let entry = self.long_refused.entry(place).or_default();
+            (0..5).for_each(|n| entry[n] += met[n]);
+        }
+        self.long_valid += other.long_valid;
+        self.long_most = self.long_most.max(other.long_most);
         self.run_steps += other.run_steps;
         self.isolation_steps += other.isolation_steps;
         self.isolation_differing += other.isolation_differing;
@@ -423,7 +434,8 @@ pub fn compare_resume(left: &dyn Engine, right: &dyn Engine, machine: &Machine, 
     }
 }
 
-pub fn compare_sheet(left: &dyn Engine, right: &dyn Engine, sheet: &[u8], counts: &mut Counts) {
+/// One sheet to both engines. Answers what the left one prints.
+pub fn compare_sheet(left: &dyn Engine, right: &dyn Engine, sheet: &[u8], counts: &mut Counts) -> String {
     let a = left.respond(sheet).expect("the measure responds");
     let text = String::from_utf8_lossy(&a).to_string();
     let first: Vec<&str> = text.split(',').collect();
@@ -442,6 +454,97 @@ pub fn compare_sheet(left: &dyn Engine, right: &dyn Engine, sheet: &[u8], counts
             ));
         }
     }
+    text
+}
+
+/// Where in a long sheet a line is refused: the name, and the first and the last such line of a sheet of so many.
+pub const LONG_PLACES: [(&str, fn(usize) -> (usize, usize)); 8] = [
+    ("line 1", |_| (1, 1)),
+    ("line 2", |_| (2, 2)),
+    ("lines 9 to 11", |_| (9, 11)),
+    ("lines 99 to 101", |_| (99, 101)),
+    ("lines 255 to 257", |_| (255, 257)),
+    ("lines 999 to 1,001", |_| (999, 1001)),
+    ("lines from 1,002 on", |lines| (1002, lines)),
+    ("the last line", |lines| (lines, lines)),
+];
+
+/// A long sheet, that sheet damaged anyhow, and that sheet with a fault for each question in each place.
+pub fn long_sheets(left: &dyn Engine, right: &dyn Engine, supply: &mut Supply, turn: u64, counts: &mut Counts) {
+    let (words, widest) = match turn % 4 {
+        0 => (usize::MAX, 1),
+        1 => (300 + supply.below(2_700) as usize, 16),
+        2 => (3_000, 6),
+        _ => (usize::MAX, 16),
+    };
+    let mut lines = supply.long_lines(words, widest);
+    let valid = sheet_of(&lines);
+    if compare_sheet(left, right, &valid, counts).starts_with("sheet") {
+        counts.difference(format!("a valid sheet of {} lines is refused", lines.len()));
+    }
+    counts.long_valid += 1;
+    counts.long_most = counts.long_most.max(lines.len() - 1);
+    let damaged = supply.damaged(valid);
+    compare_sheet(left, right, &damaged, counts);
+    for (place, range) in LONG_PLACES {
+        let (first, last) = range(lines.len());
+        for question in 31..=35 {
+            if first > last || last > lines.len() || question == 35 && first < 3 {
+                continue;
+            }
+            let k = first + supply.below((last - first + 1) as u64) as usize;
+            if planted(left, right, supply, &mut lines, question, k, counts) {
+                counts.long_refused.entry(place).or_default()[question as usize - 31] += 1;
+            }
+        }
+    }
+}
+
+/// A sheet with a fault for this question in line k. Mostly a line after it is blank too, or for 31 one before it. Answers
+/// whether the left engine tells question and line.
+fn planted(
+    left: &dyn Engine,
+    right: &dyn Engine,
+    supply: &mut Supply,
+    lines: &mut [Vec<u8>],
+    question: u64,
+    k: usize,
+    counts: &mut Counts,
+) -> bool {
+    let other = match supply.below(3) {
+        0 => k,
+        1 if question == 31 => 1 + supply.below(k as u64) as usize,
+        _ => k + supply.below((lines.len() - k + 1) as u64) as usize,
+    };
+    let (kept, kept_other) = (lines[k - 1].clone(), lines[other - 1].clone());
+    supply.plant(lines, question, k);
+    if other != k {
+        lines[other - 1].clear();
+    }
+    let printed = compare_sheet(left, right, &sheet_of(lines), counts);
+    let good = printed == format!("sheet,{question},{k}\n");
+    if !good {
+        counts.difference(format!("a fault for {question} in line {k} is answered by {printed:?}"));
+    }
+    lines[other - 1] = kept_other;
+    lines[k - 1] = kept;
+    good
+}
+
+/// The places in which a question refused no long sheet, and what else was not met.
+pub fn long_sheets_unmet(counts: &Counts) -> Vec<String> {
+    let mut unmet = Vec::new();
+    for (place, range) in LONG_PLACES {
+        let met = counts.long_refused.get(place).copied().unwrap_or_default();
+        let questions = if range(3_000).0 < 3 { 4 } else { 5 }; // 35 not in lines 1 and 2
+        for n in (0..questions).filter(|n| met[*n] == 0) {
+            unmet.push(format!("{} refused no long sheet in: {place}", 31 + n));
+        }
+    }
+    if counts.long_most < 9_500 {
+        unmet.push(format!("no sheet had more than {} words", counts.long_most));
+    }
+    unmet
 }
 
 /// What the steps of one run do about the mode.
@@ -584,8 +687,14 @@ pub fn rounds(left: &dyn Engine, right: &dyn Engine, seed: u64, number: u64, cou
         for turn in 0..8 {
             isolation_pair(right, &mut supply, turn, length, counts);
         }
+        if round % LONG_EVERY == 0 {
+            long_sheets(left, right, &mut supply, round / LONG_EVERY, counts);
+        }
     }
 }
+
+/// Long sheets take longer than a round, so one round in so many has them.
+const LONG_EVERY: u64 = 200;
 
 /// Any machine over a memory of random words: steps, a run, a resumption.
 fn any_machine(left: &dyn Engine, right: &dyn Engine, supply: &mut Supply, memory: &[u8], counts: &mut Counts) {
@@ -730,6 +839,11 @@ pub fn print_counts(counts: &Counts) {
         println!("  {kind} {count}");
     }
     println!("sheet lines {:?}", counts.sheet_lines);
+    println!("long sheets: {} valid, of up to {} words; refused with 31 32 33 34 35:", counts.long_valid, counts.long_most);
+    for (place, _) in LONG_PLACES {
+        let met = counts.long_refused.get(place).copied().unwrap_or_default();
+        println!("  {place}: {}", met.map(|count| count.to_string()).join(" "));
+    }
     println!(
         "isolation stops {:?}, steps {}, pairs with different memories {}, pairs in which a run changed its memory {}",
         counts.isolation_stops, counts.isolation_steps, counts.isolation_differing, counts.isolation_stored

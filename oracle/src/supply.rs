@@ -1,11 +1,12 @@
 //! Random machines, memories, words and sheets, with a bias to the edges.
 
 use crate::instruction::{
-    decode, encode, HfiKind, ImmediateKind, Instruction, RegisterKind, SystemKind, UpperKind, BASE_ROWS, BRANCH_TABLE, HFI_TABLE, IMMEDIATE_TABLE,
-    LOAD_TABLE, REGISTER_TABLE, SHIFT_TABLE, STORE_TABLE,
+    decode, encode, BranchKind, HfiKind, ImmediateKind, Instruction, LoadKind, RegisterKind, ShiftKind, SystemKind, UpperKind, BASE_ROWS, BRANCH_TABLE,
+    HFI_TABLE, IMMEDIATE_TABLE, LOAD_TABLE, REGISTER_TABLE, SHIFT_TABLE, STORE_TABLE,
 };
 use crate::machine::{Fault, Machine, Region};
 use crate::reach::{executable, readable};
+use crate::sheet::SHEET_LIMIT;
 use crate::step::{load_size, store_size};
 
 const ALL: u64 = u64::MAX;
@@ -969,7 +970,12 @@ impl Supply {
 
     /// A sheet with one to three damages; it may be valid still.
     pub fn damaged_sheet(&mut self) -> Vec<u8> {
-        let mut bytes = self.valid_sheet();
+        let bytes = self.valid_sheet();
+        self.damaged(bytes)
+    }
+
+    /// A sheet after one to three damages.
+    pub fn damaged(&mut self, mut bytes: Vec<u8>) -> Vec<u8> {
         for _ in 0..1 + self.below(3) {
             if bytes.is_empty() {
                 break;
@@ -1024,4 +1030,123 @@ impl Supply {
         }
         bytes
     }
+
+    /// The digits of a value with zeros before them, up to a width of `widest`.
+    fn wide(&mut self, value: u64, widest: u64) -> String {
+        let width = 1 + self.below(widest) as usize;
+        format!("{value:0width$x}")
+    }
+
+    /// The lines of a valid sheet, without their ends: so many words, or as many as there is room for with 2 bytes left, in
+    /// fields of up to `widest` digits where fewer would do. Its program goes over all of memory, so that every word counts
+    /// in its place. Where `widest` is 1 words have one digit, and half of the time there is no program: then no sheet has
+    /// more words.
+    pub fn long_lines(&mut self, words: usize, widest: u64) -> Vec<Vec<u8>> {
+        let runs = widest > 1 || self.once_in(2);
+        let mut setup = [0; 13];
+        if runs {
+            setup[1] = self.below(16);
+            setup[2] = self.below(0x4000) * 4;
+            setup[7..9].copy_from_slice(&[ALL << 16, self.pick(&[1, 3])]);
+            setup[10..12].copy_from_slice(&[ALL << 16, 4]);
+            setup[12] = if self.once_in(2) { 100_000 } else { self.below(100_000) };
+        }
+        let program = if runs { over_memory() } else { Vec::new() };
+        let gaps = widest > 1 && self.once_in(2);
+        let first: Vec<String> = setup.into_iter().map(|value| self.wide(value, widest)).collect();
+        let mut lines = vec![first.join(",").into_bytes()];
+        let mut length = lines[0].len() + 1;
+        let mut address = 0;
+        while lines.len() <= words && address <= 0xfffc {
+            let word = match program.get(lines.len() - 1) {
+                Some(word) => *word as u64,
+                None => self.next() >> if widest == 1 { 60 } else { 32 + self.below(32) },
+            };
+            let line = format!("{},{}", self.wide(address, widest), self.wide(word, widest));
+            length += line.len() + 1;
+            if length > SHEET_LIMIT - 2 {
+                break;
+            }
+            lines.push(line.into_bytes());
+            address += if gaps && lines.len() > program.len() && self.once_in(40) { 4 + self.below(8) * 4 } else { 4 };
+        }
+        lines
+    }
+
+    /// Changes line k of `long_lines` so that this question refuses it, in one of up to three ways for which there is room.
+    /// Not for 35 in lines 1 and 2.
+    pub fn plant(&mut self, lines: &mut [Vec<u8>], question: u64, k: usize) {
+        let room = SHEET_LIMIT - sheet_of(lines).len();
+        let mut fields: Vec<Vec<u8>> = lines[k - 1].split(|byte| *byte == b',').map(|field| field.to_vec()).collect();
+        let place = self.below(fields.len().min(12) as u64) as usize; // not the budget
+        let way = self.below(3);
+        match question {
+            31 => {
+                let foreign = if way == 0 { self.foreign() } else { self.pick(b"gAFX \r\t/:`-\0\x0b\x8a\xac\xb0\xff") };
+                let last = lines[k - 1].len() - 1;
+                let at = self.below(last as u64 + 1) as usize;
+                lines[k - 1][self.pick(&[0, at, last])] = foreign;
+                return;
+            }
+            32 if way == 0 => fields.insert(place, Vec::new()),
+            32 if way == 1 => fields = vec![Vec::new()],
+            32 => drop(fields.remove(place)),
+            33 if way == 0 && room >= 17 => fields[place] = vec![b'0'; 17],
+            33 => fields[place] = Vec::new(),
+            34 if k == 1 && way == 0 && room >= 9 => fields[12] = b"100000000".to_vec(),
+            34 if k == 1 => fields[self.pick(&[1, 5, 8, 11])] = b"100".to_vec(),
+            34 if way == 0 && room >= 9 => fields[1] = b"100000000".to_vec(),
+            34 if way == 1 && room >= 5 => fields[0] = b"10000".to_vec(),
+            34 => {
+                // 1 to 3 more than a multiple of 4 changes the last digit only
+                let value = address_of(&lines[k - 1]) + 1 + self.below(3);
+                fields[0] = format!("{value:0width$x}", width = fields[0].len()).into_bytes();
+            }
+            _ => {
+                let before = address_of(&lines[k - 2]);
+                let value = if way == 0 { self.below(before / 4 + 1) * 4 } else { before };
+                fields[0] = format!("{value:0width$x}", width = fields[0].len()).into_bytes();
+            }
+        }
+        lines[k - 1] = fields.join(&b',');
+    }
+
+    /// A byte that no sheet may have.
+    fn foreign(&mut self) -> u8 {
+        loop {
+            let byte = self.next() as u8;
+            if !b"0123456789abcdef,\n".contains(&byte) {
+                return byte;
+            }
+        }
+    }
+}
+
+/// The sheet of these lines.
+pub fn sheet_of(lines: &[Vec<u8>]) -> Vec<u8> {
+    let mut bytes = lines.join(&b'\n');
+    bytes.push(b'\n');
+    bytes
+}
+
+/// The address of a word line.
+fn address_of(line: &[u8]) -> u64 {
+    let digits: Vec<u8> = line.iter().copied().take_while(|byte| *byte != b',').collect();
+    u64::from_str_radix(std::str::from_utf8(&digits).unwrap(), 16).unwrap()
+}
+
+/// A program that goes over the 16,384 words of a sheet's memory: x10 becomes 33 times itself plus the word.
+fn over_memory() -> Vec<u32> {
+    let add = |rs2| Instruction::Register { kind: RegisterKind::Add, rd: 10, rs1: 10, rs2 };
+    let program = [
+        Instruction::Upper { kind: UpperKind::Lui, rd: 6, field: 0x10 },
+        Instruction::Load { kind: LoadKind::WordUnsigned, rd: 7, rs1: 5, offset: 0 },
+        Instruction::Shift { kind: ShiftKind::Slli, rd: 11, rs1: 10, amount: 5 },
+        add(11),
+        add(7),
+        Instruction::Immediate { kind: ImmediateKind::Addi, rd: 5, rs1: 5, value: 4 },
+        Instruction::Branch { kind: BranchKind::Bne, rs1: 5, rs2: 6, offset: -20 },
+        Instruction::System { kind: SystemKind::Ecall },
+    ];
+    program.iter().map(|instruction| encode(instruction).expect("in range")).collect()
 }

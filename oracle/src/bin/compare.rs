@@ -4,7 +4,9 @@
 //! ENGINE is `oracle` (against itself), `plain` (the C interpreter of bench/, with `--features plain`) or `proved` (the
 //! proved static library, with `--features proved`). Ends with 1 if there is a difference.
 
-use oracle::compare::{compare_step, h_words_unmet, long_memories, print_counts, rounds, Counts, Engine, Oracle, H_ROUNDS};
+use oracle::compare::{
+    compare_step, h_words_unmet, long_memories, long_sheets_unmet, print_counts, rounds, Counts, Engine, Oracle, H_ROUNDS,
+};
 use oracle::sheet::{print_result, read_sheet, sheet_memory};
 use oracle::Machine;
 
@@ -64,7 +66,7 @@ fn main() {
         });
         long_memories(&Oracle, under_test.as_ref(), seed, &mut counts);
         if many / threads >= H_ROUNDS {
-            let unmet = [h_words_unmet(&counts), oracle::m_words::unmet(&counts.m_words)].concat();
+            let unmet = [h_words_unmet(&counts), oracle::m_words::unmet(&counts.m_words), long_sheets_unmet(&counts)].concat();
             unmet.into_iter().for_each(|text| counts.difference(text));
         }
         print_counts(&counts);
