@@ -22,6 +22,6 @@ printed-line s h =
     record {
       refused = r;
       printed =
-        rw (ne-eqb (sheetRefusal s .question) 0 (λ z. omega (arith, z, h)))
-        (ap (refusalText (sheetRefusal s .question)) (r .there .start .counted));
+          rw (ne-eqb (sheetRefusal s .question) 0 (λ z. omega (arith, z, h)))
+          (ap (refusalText (sheetRefusal s .question)) (r .there .start .counted));
     }

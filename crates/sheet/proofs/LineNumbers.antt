@@ -8,10 +8,10 @@ use Prim.Native.Nat.{ℕ, _+_, _-_, _<_, _≤_}
 use native.Mathlib.Omega.{arith}
 use lib.Dec.{eqb, leb}
 use lib.ListN.{length, getD, drop, drop-of-length-le}
-use borrow.Author.Tests.{leb-true, leb-false, eqb-true, eqb-false, eq-eqb, ne-eqb}
+use borrow.Author.Tests.{leb-true, leb-false, eqb-true, eqb-false, ne-eqb}
 use Rattle.text.specs.Scan.{newline, firstThat, lineNumber, LineStart}
 use Rattle.text.specs.Split.{lines, rowOf}
-use Rattle.text.proofs.Asking.{first-half, second-half}
+use Rattle.text.proofs.Asking.{second-half}
 use Rattle.text.proofs.Scanning.{first-is, first-le}
 use Rattle.text.proofs.Splitting.{line-more, line-ends, lines-none}
 use Rattle.text.proofs.LineNumbers.{LineAt, line-there, line-end, number-within, start-first, start-next}

@@ -9,9 +9,9 @@ use lib.Dec.{eqb}
 use lib.ListN.{length, getD, drop, take, length-drop, length-take}
 use lib.Seq.{take-suc, take-add, drop-nil, getD-drop}
 use borrow.Author.Tests.{eqb-true, eq-eqb}
-use Rattle.text.specs.Scan.{firstThat, is, count, newline, lineNumber, LineStart}
+use Rattle.text.specs.Scan.{is, count, newline, lineNumber, LineStart}
 use Rattle.text.specs.Split.{push, split, lines}
-use Rattle.text.proofs.Scanning.{position, first-is, count-le, count-append, count-first, count-before}
+use Rattle.text.proofs.Scanning.{position, first-is, count-le, count-append, count-before}
 use Rattle.text.proofs.Splitting.{line-is, line-width}
 
 -- ---- byte by byte
@@ -53,18 +53,6 @@ module _ (s line : List ℕ) (at : ℕ) (e : line ≡ getD (lines (drop at s)) 0
       ∙ sym (getD-drop at s (position newline (drop at s)) 0)
       ∙ eqb-true _ newline (first-is (is newline) (drop at s) end-inside)
 
-  -- the next line's number is one more
-  pub number-next : lineNumber s (at + length line + 1) ≡ lineNumber s at + 1
-  number-next =
-      let w = position newline (drop at s) in
-      let f : at + length line + 1 ≡ at + (w + 1) = omega (arith, line-width s line at e) in
-      let n : count newline (take (at + length line + 1) s) ≡ count newline (take at s) + 1 =
-      ap (λ n. count newline (take n s)) f
-      ∙ ap (count newline) (take-add at (w + 1) s)
-      ∙ count-append newline (take at s) (take (w + 1) (drop at s))
-      ∙ ap (λ n. count newline (take at s) + n) (count-first newline (drop at s) end-inside) in
-      ap (λ n. n + 1) n
-
   -- every position up to its end has its number
   pub number-within : (p : ℕ) → at ≤ p → p ≤ at + length line → lineNumber s p ≡ lineNumber s at
   number-within p f g =
@@ -75,6 +63,12 @@ module _ (s line : List ℕ) (at : ℕ) (e : line ≡ getD (lines (drop at s)) 0
       ∙ ap (count newline) (take-add at (p - at) s)
       ∙ count-append newline (take at s) (take (p - at) (drop at s)) in
       omega (arith, n, count-before newline (drop at s) (p - at) w)
+
+  -- and past its end the number is one more
+  pub number-next : lineNumber s (at + length line + 1) ≡ lineNumber s at + 1
+  number-next =
+      let on = rw (eq-eqb (getD s (at + length line) 0) newline line-end) at (number-on s (at + length line) h) in
+      omega (arith, on, number-within (at + length line) (omega arith) (omega arith))
 
   -- Job 3's theorem: where the running number is a line's number, one more is the next line's
   pub start-next : (n : ℕ) → LineStart s at n → LineStart s (at + length line + 1) (n + 1)
@@ -127,13 +121,13 @@ line-there s line at n e h l =
     record {
       start = l;
       here =
-        ap (λ k. take k (drop at s)) (add-one (length line))
-        ∙ take-suc (drop at s) (length line) 0 inside
-        ∙ rw (getD-drop at s (length line) 0, line-end s line at e h) (ap (λ t. t ++ (newline ∷ [])) (sym w));
+          ap (λ k. take k (drop at s)) (add-one (length line))
+          ∙ take-suc (drop at s) (length line) 0 inside
+          ∙ rw (getD-drop at s (length line) 0, line-end s line at e h) (ap (λ t. t ++ (newline ∷ [])) (sym w));
       alone = line-alone s line at e h;
       nth =
-        sym (ap (λ k. getD (lines s) k []) z)
-        ∙ sym (getD-drop (count newline (take at s)) (lines s) 0 [])
-        ∙ sym (ap (λ ls. getD ls 0 []) (lines-from s at (l .begins)))
-        ∙ sym e;
+          sym (ap (λ k. getD (lines s) k []) z)
+          ∙ sym (getD-drop (count newline (take at s)) (lines s) 0 [])
+          ∙ sym (ap (λ ls. getD ls 0 []) (lines-from s at (l .begins)))
+          ∙ sym e;
     }

@@ -75,22 +75,7 @@ unfolding count
 count-append c [] t = omega arith
 count-append c (b ∷ bs) t = omega (arith, count-append c bs t)
 
--- up to the first c and with it there is one c
-pub count-first : (c : ℕ) (s : List ℕ) → position c s < length s → count c (take (position c s + 1) s) ≡ 1
-unfolding count firstThat
-count-first c [] h = omega arith
-count-first c (b ∷ bs) h = by (is c b) refl h (count-first c bs)
-  where
-    by : (t : Bool) → is c b ≡ t → cond t 0 (suc (position c bs)) < suc (length bs)
-        → (position c bs < length bs → count c (take (position c bs + 1) bs) ≡ 1)
-        → count c (take (cond t 0 (suc (position c bs)) + 1) (b ∷ bs)) ≡ 1
-    by true f g k = rw f
-    by false f g k =
-        let e : suc (position c bs) + 1 ≡ suc (position c bs + 1) = omega arith in
-        let n : position c bs < length bs = omega arith in
-        rw (e, f) (omega (arith, k n))
-
--- and before it none
+-- before the first c there is none
 pub count-before : (c : ℕ) (s : List ℕ) (k : ℕ) → k ≤ position c s → count c (take k s) ≡ 0
 unfolding count firstThat
 count-before c s zero h = refl

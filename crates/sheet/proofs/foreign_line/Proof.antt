@@ -1,5 +1,5 @@
 -- `foreign_line` meets its contract: the bytes before position i are a sheet's, and `lineno` is the number of the line at i.
-use mathlib.Core.Path.{_≡_, ap, sym, _∙_}
+use mathlib.Core.Path.{_≡_, sym, _∙_}
 use mathlib.Core.Bool.{true, false}
 use mathlib.Core.Logic.{⊎-elim}
 use Prim.Native.Nat.{_+_, _-_, _^_, _<_, _≤_}

@@ -1,7 +1,7 @@
 -- `read_words` meets its contract. At each line `lineno` is its number, one more than the 0a bytes before its first byte, which
 -- stands at `at` (LineStart). Reading the rest of the sheet from there comes to reading it all.
 use mathlib.Core.Path.{_≡_, refl, ap, sym, _∙_}
-use Prim.Native.Nat.{_+_, _-_, _≤_}
+use Prim.Native.Nat.{_-_, _≤_}
 use native.Mathlib.Omega.{arith}
 use lib.ListN.{length, drop}
 use Rattle.text.proofs.Splitting.{line-ends}
