@@ -19,7 +19,7 @@ use Rattle.setup.specs.Setup.{setupFields, readSetup}
 use Rattle.sheet.specs.declared.Refusal.{Refusal}
 use Rattle.sheet.specs.Words.{readWord}
 use Rattle.sheet.specs.Sheet.{refusal, whole, foreign, fileNo, fileRefusal, wordsRefusal, sheetRefusal}
-use Rattle.sheet.proofs.Laws.{file-whole, sheet-file, sheet-setup, sheet-words}
+use Rattle.sheet.proofs.Laws.{file-whole, sheet-file, sheet-setup, sheet-words, second-line}
 
 -- a question of 32 to 35 that a word line fails, where its address is to be at least `least`
 pub record WordFails (line : List ℕ) (question : ℕ) : Type 0 where
@@ -38,10 +38,20 @@ pub record RefusedLine (s : List ℕ) (r : Refusal) : Type 0 where
   pub there : LineAt s at line (r .lineno)
   pub why : Why s at line (r .question)
 
--- ---- a text that ends in 0a, read from a position on: its first line, and the lines after it
-module _ (s l : List ℕ) (ls : List (List ℕ)) (at : ℕ) (e : lines (drop at s) ≡ l ∷ ls) where
-  line-first : l ≡ getD (lines (drop at s)) 0 []
-  line-first = sym (ap (λ ps. getD ps 0 []) e)
+-- ---- a text that ends in 0a, of which a line begins at a position
+abbrev Ended : List ℕ → Type 0
+Ended s = getD s (length s - 1) 0 ≡ newline
+
+abbrev Begins : List ℕ → ℕ → Type 0
+Begins s at = LineStart s at (lineNumber s at)
+
+begins-first : (s : List ℕ) → Begins s 0
+begins-first s = record { begins = refl; counted = refl }
+
+-- its first line l, and the lines ls after it
+module _ (s l : List ℕ) (ls : List (List ℕ)) (at : ℕ) (e : lines (drop at s) ≡ l ∷ ls) (z : Ended s) where
+  first : l ≡ getD (lines (drop at s)) 0 []
+  first = sym (ap (λ ps. getD ps 0 []) e)
 
   some-left : at < length s
   some-left = by (leb (length s) at) refl
@@ -49,11 +59,20 @@ module _ (s l : List ℕ) (ls : List (List ℕ)) (at : ℕ) (e : lines (drop at 
       by : (t : Bool) → leb (length s) at ≡ t → at < length s
       by true f =
           let none : [] ≡ l ∷ ls = sym (ap lines (drop-of-length-le s (leb-true (length s) at f)) ∙ lines-none) ∙ e in
-          absurd (let z : 0 ≡ 1 + length ls = ap length none ∙ omega arith in omega (arith, z))
+          absurd (let n : 0 ≡ 1 + length ls = ap length none ∙ omega arith in omega (arith, n))
       by false f = leb-false (length s) at f
 
+  inside : at + length l < length s
+  inside = line-ends s l at first some-left z
+
   lines-next : lines (drop (at + length l + 1) s) ≡ ls
-  lines-next = ap (drop 1) (sym (line-more s l at line-first some-left) ∙ e)
+  lines-next = ap (drop 1) (sym (line-more s l at first some-left) ∙ e)
+
+  begins-next : Begins s at → Begins s (at + length l + 1)
+  begins-next b = record { begins = start-next s l at first inside (lineNumber s at) b .begins; counted = refl }
+
+  numbered : Begins s at → LineAt s at l (lineNumber s at)
+  numbered b = line-there s l at (lineNumber s at) first inside b
 
 -- ---- the line that a position lies in
 record Around (s : List ℕ) (p : ℕ) : Type 0 where
@@ -64,39 +83,26 @@ record Around (s : List ℕ) (p : ℕ) : Type 0 where
   to : p ≤ at + length line
   ends : getD s (at + length line) 0 ≡ newline
 
-abbrev Ended : List ℕ → Type 0
-Ended s = getD s (length s - 1) 0 ≡ newline
-
-around : (s : List ℕ) (p at : ℕ) (ls : List (List ℕ)) → lines (drop at s) ≡ ls → at ≤ p → p < length s → Ended s → LineStart s at (lineNumber s at) → Around s p
-around s p at [] e h k z start =
+around : (s : List ℕ) (p at : ℕ) (ls : List (List ℕ)) → lines (drop at s) ≡ ls → Ended s → at ≤ p → p < length s → Begins s at → Around s p
+around s p at [] e z h k b =
     let l = getD (lines (drop at s)) 0 [] in
     let none : [] ≡ l ∷ lines (drop (at + length l + 1) s) = sym e ∙ line-more s l at refl (omega arith) in
-    absurd (let y : 0 ≡ 1 + length (lines (drop (at + length l + 1) s)) = ap length none ∙ omega arith in omega (arith, y))
-around s p at (l ∷ ls) e h k z start =
-    by (leb p (at + length l)) refl (λ g. around s p (at + length l + 1) ls (lines-next s l ls at e) g k z)
+    absurd (let n : 0 ≡ 1 + length (lines (drop (at + length l + 1) s)) = ap length none ∙ omega arith in omega (arith, n))
+around s p at (l ∷ ls) e z h k b = by (leb p (at + length l)) refl (λ g. around s p (at + length l + 1) ls (lines-next s l ls at e z) z g k (begins-next s l ls at e z b))
   where
-    first : l ≡ getD (lines (drop at s)) 0 []
-    first = line-first s l ls at e
-
-    inside : at + length l < length s
-    inside = line-ends s l at first (some-left s l ls at e) z
-
-    by : (t : Bool) → leb p (at + length l) ≡ t
-        → (at + length l + 1 ≤ p → LineStart s (at + length l + 1) (lineNumber s (at + length l + 1)) → Around s p) → Around s p
+    by : (t : Bool) → leb p (at + length l) ≡ t → (at + length l + 1 ≤ p → Around s p) → Around s p
     by true f go =
         let to = leb-true p (at + length l) f in
-        let n = number-within s l at first inside p h to in
+        let n = number-within s l at (first s l ls at e z) (inside s l ls at e z) p h to in
         record {
           at = at;
           line = l;
-          there = rw n (line-there s l at (lineNumber s at) first inside start);
+          there = rw n (numbered s l ls at e z b);
           from = h;
           to = to;
-          ends = line-end s l at first inside;
+          ends = line-end s l at (first s l ls at e z) (inside s l ls at e z);
         }
-    by false f go =
-        let next = start-next s l at first inside (lineNumber s at) start in
-        go (omega (arith, leb-false p (at + length l) f)) (record { begins = next .begins; counted = refl })
+    by false f go = go (omega (arith, leb-false p (at + length l) f))
 
 -- ---- 31: the line of the first foreign byte
 file-31 : (s : List ℕ) → 31 ≤ fileNo s → (fileNo s ≡ 31) × (firstThat foreign s < length s) × Ended s
@@ -120,7 +126,7 @@ foreign-refused : (s : List ℕ) → 31 ≤ fileNo s → RefusedLine s (fileRefu
 foreign-refused s h =
     let f = file-31 s h in
     let p = firstThat foreign s in
-    let a = around s p 0 (lines s) refl (omega arith) (f .1) (f .2) (record { begins = refl; counted = refl }) in
+    let a = around s p 0 (lines s) refl (f .2) (omega arith) (f .1) (begins-first s) in
     let n : fileRefusal s .lineno ≡ lineNumber s p = rw (f .0, ne-eqb p (length s) (λ z. omega (arith, z, f .1))) in
     let t : foreign (getD s p 0) ≡ true = first-is foreign s (f .1) in
     let off : p ≡ a .at + length (a .line) → ⊥ = λ z. false≢true (sym (ap foreign (a .ends)) ∙ sym (ap (λ k. foreign (getD s k 0)) z) ∙ t) in
@@ -132,34 +138,24 @@ foreign-refused s h =
     }
 
 -- ---- 32 to 35 of a word line
-word-refused : (s : List ℕ) (at least : ℕ) (ls : List (List ℕ)) → lines (drop at s) ≡ ls → 0 < at → Ended s → LineStart s at (lineNumber s at)
+word-refused : (s : List ℕ) (at least : ℕ) (ls : List (List ℕ)) → lines (drop at s) ≡ ls → Ended s → 0 < at → Begins s at
     → (wordsRefusal s at least ls .question ≡ 0 → ⊥) → RefusedLine s (wordsRefusal s at least ls)
 unfolding wordsRefusal
-word-refused s at least [] e k z start h = absurd (h refl)
-word-refused s at least (l ∷ ls) e k z start h =
+word-refused s at least [] e z k b h = absurd (h refl)
+word-refused s at least (l ∷ ls) e z k b h =
     by (eqb (readWord least (rowOf 2 l) .question) 0) _ h
-    (word-refused s (at + length l + 1) (readWord least (rowOf 2 l) .address + 1) ls (lines-next s l ls at e) (omega arith) z)
+    (word-refused s (at + length l + 1) (readWord least (rowOf 2 l) .address + 1) ls (lines-next s l ls at e z) z (omega arith) (begins-next s l ls at e z b))
   where
-    first : l ≡ getD (lines (drop at s)) 0 []
-    first = line-first s l ls at e
-
-    inside : at + length l < length s
-    inside = line-ends s l at first (some-left s l ls at e) z
-
-    next : LineStart s (at + length l + 1) (lineNumber s (at + length l + 1))
-    next = record { begins = start-next s l at first inside (lineNumber s at) start .begins; counted = refl }
-
     here : Refusal
     here = refusal (readWord least (rowOf 2 l) .question) (lineNumber s at)
 
-    by : (t : Bool) (later : Refusal) → (cond t later here .question ≡ 0 → ⊥)
-        → (LineStart s (at + length l + 1) (lineNumber s (at + length l + 1)) → (later .question ≡ 0 → ⊥) → RefusedLine s later) → RefusedLine s (cond t later here)
-    by true later g go = go next g
+    by : (t : Bool) (later : Refusal) → (cond t later here .question ≡ 0 → ⊥) → ((later .question ≡ 0 → ⊥) → RefusedLine s later) → RefusedLine s (cond t later here)
+    by true later g go = go g
     by false later g go =
         record {
           at = at;
           line = l;
-          there = line-there s l at (lineNumber s at) first inside start;
+          there = numbered s l ls at e z b;
           why = inr (inr (k, record { least = least; fails = refl }));
         }
 
@@ -170,22 +166,26 @@ lines-refused s f h = by (eqb (readSetup (rowOf setupFields line) .question) 0) 
     line : List ℕ
     line = getD (lines s) 0 []
 
-    w : (1 ≤ length s) × (length s ≤ 65536) × Ended s
-    w = file-whole s f
-
-    inside : 0 + length line < length s
-    inside = line-ends s line 0 refl (w .0) (w .2)
+    ended : Ended s
+    ended = file-whole s f .2
 
     by : (t : Bool) → eqb (readSetup (rowOf setupFields line) .question) 0 ≡ t → RefusedLine s (sheetRefusal s)
     by true e =
         let words = sheet-words s line f refl (eqb-true _ 0 e) in
-        let z : 0 + length line + 1 ≡ length line + 1 = omega arith in
-        let next : LineStart s (length line + 1) 2 = rw z at (start-next s line 0 refl inside 1 (start-first s)) in
+        let second = second-line s line f refl .1 in
         rw words
-        (word-refused s (length line + 1) 0 (lines (drop (length line + 1) s)) refl (omega arith) (w .2)
-        (record { begins = next .begins; counted = refl })
+        (word-refused
+        s
+        (length line + 1)
+        0
+        (lines (drop (length line + 1) s))
+        refl
+        ended
+        (omega arith)
+        (record { begins = second .begins; counted = refl })
         (λ y. h (ap (λ r. r .question) words ∙ y)))
     by false e =
+        let inside = line-ends s line 0 refl (file-whole s f .0) ended in
         rw (sheet-setup s line f refl (eqb-false _ 0 e))
         (record {
           at = 0;
