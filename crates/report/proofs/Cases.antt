@@ -38,6 +38,8 @@ rows =
     ∷ (ascii "0,5,100,200,10,3,0,0,0,0,fffffffffffffff0,4,10\n0,0000006f\n", ascii "21,10,0,0,0,0,0,0,0\n")
     -- document 01's example of a refusal
     ∷ (lineOne ++ ascii "0,\n", ascii "sheet,33,2\n")
+    -- an empty file
+    ∷ ([], ascii "sheet,30,0\n")
     ∷ []
 
 abbrev pub reported : List (List ℕ × List ℕ) → List (List ℕ)

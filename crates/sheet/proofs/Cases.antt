@@ -1,8 +1,8 @@
 -- Sheets at the edges of questions 30 to 35: rows of a table that one computed check covers.
 use mathlib.Core.Path.{_≡_, refl}
-use mathlib.Core.Bool.{Bool, true, _&&_}
+use mathlib.Core.Bool.{Bool, true, false, cond, _&&_}
 use mathlib.Core.List.{List, [], _∷_, _++_}
-use Prim.Native.Nat.{ℕ}
+use Prim.Native.Nat.{ℕ, zero, suc}
 use lib.Dec.{eqb}
 use lib.ListN.{take, replicate}
 use Rattle.text.specs.Ascii.{ascii}
@@ -12,7 +12,7 @@ use Rattle.text.specs.Number.{spelled, digits}
 use Rattle.model.specs.Bytes.{written}
 use Rattle.setup.specs.Setup.{permissionsInRange, readSetup}
 use Rattle.sheet.specs.Words.{readWord, memoryOf}
-use Rattle.sheet.specs.Sheet.{fileNo, wordsRefusal, linesRefusal, sheetRefusal, readSheet, refusalText}
+use Rattle.sheet.specs.Sheet.{whole, foreign, fileNo, wordsRefusal, linesRefusal, sheetRefusal, readSheet, refusalText}
 
 -- a sheet, and the question and the line number that it is refused with
 pub record Row : Type 0 where
@@ -79,6 +79,12 @@ rows =
     ∷ row (lineOne ++ ascii "8,1\n4,1\n0\n") 35 3
     -- an address that falls and is no multiple of 4
     ∷ row (lineOne ++ ascii "8,1\n2,1\n") 34 3
+    -- an address that falls in line 6, from above ff
+    ∷ row (lineOne ++ ascii "0,1\n4,1\n8,1\n100,1\nfc,1\n") 35 6
+    -- line 1 and a word line fail: line 1
+    ∷ row (ascii "0\n0,\n") 32 1
+    -- two lines fail the same question: the first
+    ∷ row (lineOne ++ ascii "0\n4\n") 32 2
     ∷ []
 
 abbrev holds : Row → Bool
@@ -93,6 +99,19 @@ all (r ∷ rs) = holds r && all rs
 pub rows-hold : all rows ≡ true
 unfolding sheetRefusal linesRefusal wordsRefusal fileNo readSetup readWord rowOf permissionsInRange firstThat count split allWide spelled
 rows-hold = refl
+
+-- the bytes below n that no sheet is refused for
+abbrev own : ℕ → List ℕ
+own zero = []
+own (suc n) = own n ++ cond (foreign n) [] (n ∷ [])
+
+-- "a digit 0-9, a-f, comma or 0a": of all bytes these
+pub own-bytes : own 256 ≡ ascii "\n,0123456789abcdef"
+own-bytes = refl
+
+-- "is the length 1 to 65,536 with last byte 0a?"
+pub longest : (whole (replicate 65535 48 ++ ascii "\n") ≡ true) × (whole (replicate 65536 48 ++ ascii "\n") ≡ false)
+longest = (refl, refl)
 
 -- ---- document 01's whole example: its words in memory
 abbrev pub words : List ℕ

@@ -16,10 +16,10 @@ use Rattle.model.specs.Bytes.{written}
 use Rattle.setup.specs.Setup.{setupFields, readSetup}
 use Rattle.sheet.specs.declared.ReadWord.{ReadWord}
 use Rattle.sheet.specs.Words.{wordOf, wordsOf, wordQuestions, readWord, memoryOf}
-use Rattle.sheet.specs.Sheet.{refusal, foreign, foreignLine, fileQuestions, fileNo, fileRefusal, wordsRefusal, linesRefusal, sheetRefusal}
+use Rattle.sheet.specs.Sheet.{refusal, whole, foreign, foreignLine, fileQuestions, fileNo, fileRefusal, wordsRefusal, linesRefusal, sheetRefusal}
 
 -- a word line that is read is the word line
-read-is : (least : ℕ) (r : Row) → (readWord least r .address ≡ wordOf r .address) × (readWord least r .word ≡ wordOf r .word)
+pub read-is : (least : ℕ) (r : Row) → (readWord least r .address ≡ wordOf r .address) × (readWord least r .word ≡ wordOf r .word)
 unfolding readWord
 read-is least r = (refl, refl)
 
@@ -33,18 +33,20 @@ word-fits least r e =
     leb-true (w .address) 0xfffc (first-half (leb (w .address) 0xfffc) (leb (w .word) 0xffffffff) top)
 
 -- ---- what a passed file gives
-pub file-whole : (s : List ℕ) → fileNo s ≡ 0 → (1 ≤ length s) × (length s ≤ 65536) × (getD s (length s - 1) 0 ≡ newline)
-unfolding fileNo
-file-whole s e =
+pub whole-parts : (s : List ℕ) → whole s ≡ true → (1 ≤ length s) × (length s ≤ 65536) × (getD s (length s - 1) 0 ≡ newline)
+whole-parts s all =
     let some = leb 1 (length s) in
     let few = leb (length s) 65536 in
     let ended = eqb (getD s (length s - 1) 0) newline in
-    let all = yes-at 0 (fileQuestions s) refl e in
     let most = second-half some (few && ended) all in (
       leb-true 1 (length s) (first-half some (few && ended) all),
       leb-true (length s) 65536 (first-half few ended most),
       eqb-true (getD s (length s - 1) 0) newline (second-half few ended most),
     )
+
+pub file-whole : (s : List ℕ) → fileNo s ≡ 0 → (1 ≤ length s) × (length s ≤ 65536) × (getD s (length s - 1) 0 ≡ newline)
+unfolding fileNo
+file-whole s e = whole-parts s (yes-at 0 (fileQuestions s) refl e)
 
 -- ---- the first foreign byte: its line, or 0; so 31 may ask for the line
 module _ (s : List ℕ) where

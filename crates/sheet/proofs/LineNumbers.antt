@@ -1,42 +1,51 @@
--- The line that a refusal of 31 to 35 names, in the reader's words (02, Job 3; 01, "Lines count from 1"): it is a line of the sheet, it
--- is the one that fails the question, and its number is one more than the 0a bytes before its first byte.
+-- Which question and which line a refusal names, in the reader's words (01, "The first no is printed", "Lines count from 1"; 02, Job 3).
+-- 31 to 35 name a line of the sheet: that of the first foreign byte, or the first line that fails; and its number is one more than the
+-- 0a bytes before its first byte.
 use mathlib.Core.Path.{_≡_, refl, ap, sym, _∙_}
-use mathlib.Core.Bool.{Bool, true, false, false≢true, cond, _&&_}
+use mathlib.Core.Bool.{Bool, true, false, false≢true, cond}
 use mathlib.Core.List.{List, [], _∷_}
 use mathlib.Core.Logic.{_⊎_, inl, inr}
-use Prim.Native.Nat.{ℕ, _+_, _-_, _<_, _≤_}
+use Prim.Native.Nat.{ℕ, zero, suc, _+_, _-_, _<_, _≤_}
 use native.Mathlib.Omega.{arith}
 use lib.Dec.{eqb, leb}
-use lib.ListN.{length, getD, drop, drop-of-length-le}
-use borrow.Author.Tests.{leb-true, leb-false, eqb-true, eqb-false, ne-eqb}
-use Rattle.text.specs.Scan.{newline, firstThat, lineNumber, LineStart}
+use lib.ListN.{length, getD, drop, take, length-drop, drop-of-length-le}
+use borrow.Author.Tests.{leb-true, leb-false, eqb-true, eqb-false, eq-eqb, ne-eqb}
+use Rattle.text.specs.Scan.{newline, firstThat, count, lineNumber, LineStart}
 use Rattle.text.specs.Split.{lines, rowOf}
-use Rattle.text.proofs.Asking.{second-half}
-use Rattle.text.proofs.Scanning.{first-is, first-le}
+use Rattle.text.proofs.Scanning.{first-is, first-le, first-before}
 use Rattle.text.proofs.Splitting.{line-more, line-ends, lines-none}
-use Rattle.text.proofs.LineNumbers.{LineAt, line-there, line-end, number-within, start-first, start-next}
+use Rattle.text.proofs.LineNumbers.{LineAt, line-there, lines-from, line-end, number-within, start-first, start-next}
 use Rattle.setup.specs.Setup.{setupFields, readSetup}
 use Rattle.sheet.specs.declared.Refusal.{Refusal}
-use Rattle.sheet.specs.Words.{readWord}
+use Rattle.sheet.specs.Words.{wordOf, readWord}
 use Rattle.sheet.specs.Sheet.{refusal, whole, foreign, fileNo, fileRefusal, wordsRefusal, sheetRefusal}
-use Rattle.sheet.proofs.Laws.{file-whole, sheet-file, sheet-setup, sheet-words, second-line}
+use Rattle.sheet.proofs.Laws.{read-is, whole-parts, file-whole, sheet-file, sheet-setup, sheet-words, second-line}
 
--- a question of 32 to 35 that a word line fails, where its address is to be at least `least`
-pub record WordFails (line : List ℕ) (question : ℕ) : Type 0 where
-  pub least : ℕ
-  pub fails : question ≡ readWord least (rowOf 2 line) .question
+-- what the address of line j + 2 is to be at least: 0 in line 2, then one more than the address in the line before
+abbrev pub leastAt : List (List ℕ) → ℕ → ℕ
+leastAt ls zero = 0
+leastAt ls (suc j) = wordOf (rowOf 2 (getD ls (suc j) [])) .address + 1
 
--- why a line that begins at position `at` is refused: it has the first foreign byte, or it is line 1, or a later one, and fails
-abbrev pub Why : List ℕ → ℕ → List ℕ → ℕ → Type 0
-Why s at line question =
-    ((question ≡ 31) × (at ≤ firstThat foreign s) × (firstThat foreign s < at + length line))
-    ⊎ (((at ≡ 0) × (question ≡ readSetup (rowOf setupFields line) .question)) ⊎ ((0 < at) × WordFails line question))
+-- the question of 32 to 35 that line k + 1 fails first, 0 where it fails none
+abbrev pub lineQuestion : List (List ℕ) → ℕ → ℕ
+lineQuestion ls zero = readSetup (rowOf setupFields (getD ls 0 [])) .question
+lineQuestion ls (suc j) = readWord (leastAt ls j) (rowOf 2 (getD ls (suc j) [])) .question
+
+-- the first k lines pass
+abbrev pub Passed : List (List ℕ) → ℕ → Type 0
+Passed ls k = (i : ℕ) → i < k → lineQuestion ls i ≡ 0
+
+-- why a line is named: it has the first foreign byte; or it fails the question, and every line before it passes
+abbrev pub Why : List ℕ → ℕ → List ℕ → Refusal → Type 0
+Why s at line r =
+    ((r .question ≡ 31) × (at ≤ firstThat foreign s) × (firstThat foreign s < at + length line))
+    ⊎ ((fileNo s ≡ 0) × (r .question ≡ lineQuestion (lines s) (r .lineno - 1)) × Passed (lines s) (r .lineno - 1))
 
 pub record RefusedLine (s : List ℕ) (r : Refusal) : Type 0 where
   pub at : ℕ
   pub line : List ℕ
   pub there : LineAt s at line (r .lineno)
-  pub why : Why s at line (r .question)
+  pub why : Why s at line r
 
 -- ---- a text that ends in 0a, of which a line begins at a position
 abbrev Ended : List ℕ → Type 0
@@ -45,8 +54,8 @@ Ended s = getD s (length s - 1) 0 ≡ newline
 abbrev Begins : List ℕ → ℕ → Type 0
 Begins s at = LineStart s at (lineNumber s at)
 
-begins-first : (s : List ℕ) → Begins s 0
-begins-first s = record { begins = refl; counted = refl }
+begun : (s : List ℕ) (at n : ℕ) → LineStart s at n → Begins s at
+begun s at n b = record { begins = b .begins; counted = refl }
 
 -- its first line l, and the lines ls after it
 module _ (s l : List ℕ) (ls : List (List ℕ)) (at : ℕ) (e : lines (drop at s) ≡ l ∷ ls) (z : Ended s) where
@@ -69,7 +78,7 @@ module _ (s l : List ℕ) (ls : List (List ℕ)) (at : ℕ) (e : lines (drop at 
   lines-next = ap (drop 1) (sym (line-more s l at first some-left) ∙ e)
 
   begins-next : Begins s at → Begins s (at + length l + 1)
-  begins-next b = record { begins = start-next s l at first inside (lineNumber s at) b .begins; counted = refl }
+  begins-next b = begun s (at + length l + 1) (lineNumber s at + 1) (start-next s l at first inside (lineNumber s at) b)
 
   numbered : Begins s at → LineAt s at l (lineNumber s at)
   numbered b = line-there s l at (lineNumber s at) first inside b
@@ -104,7 +113,31 @@ around s p at (l ∷ ls) e z h k b = by (leb p (at + length l)) refl (λ g. arou
         }
     by false f go = go (omega (arith, leb-false p (at + length l) f))
 
--- ---- 31: the line of the first foreign byte
+-- ---- 30 and 31, of the file
+
+-- "0 for 30"
+pub not-whole : (s : List ℕ) → whole s ≡ false → sheetRefusal s ≡ refusal 30 0
+unfolding sheetRefusal fileNo
+not-whole s e = rw e
+
+-- "for 31 the line of the first such byte"
+pub foreign-first : (s : List ℕ) (p : ℕ) → whole s ≡ true → p < length s → foreign (getD s p 0) ≡ true → ((i : ℕ) → i < p → foreign (getD s i 0) ≡ false)
+    → sheetRefusal s ≡ refusal 31 (lineNumber s p)
+unfolding sheetRefusal fileNo
+foreign-first s p e h b f =
+    let le = first-before foreign s p h b in
+    let ge : firstThat foreign s < p → ⊥ = λ k. false≢true (sym (f (firstThat foreign s) k) ∙ first-is foreign s (omega arith)) in
+    let found : firstThat foreign s ≡ p = omega (arith, le, ge) in
+    rw (e, found, ne-eqb p (length s) (λ z. omega (arith, z)))
+
+pub foreign-nowhere : (s : List ℕ) → whole s ≡ true → ((i : ℕ) → i < length s → foreign (getD s i 0) ≡ false) → fileNo s ≡ 0
+unfolding fileNo
+foreign-nowhere s e f =
+    let none : firstThat foreign s < length s → ⊥ = λ k. false≢true (sym (f (firstThat foreign s) k) ∙ first-is foreign s k) in
+    let past : firstThat foreign s ≡ length s = omega (arith, none, first-le foreign s) in
+    rw (e, eq-eqb (firstThat foreign s) (length s) past)
+
+-- the line of that byte
 file-31 : (s : List ℕ) → 31 ≤ fileNo s → (fileNo s ≡ 31) × (firstThat foreign s < length s) × Ended s
 unfolding fileNo
 file-31 s h = by (whole s) (eqb (firstThat foreign s) (length s)) refl refl h
@@ -116,17 +149,13 @@ file-31 s h = by (whole s) (eqb (firstThat foreign s) (length s)) refl refl h
         → (no t u ≡ 31) × (firstThat foreign s < length s) × Ended s
     by false u e f k = let z : ⊥ = omega arith in absurd z
     by true true e f k = let z : ⊥ = omega arith in absurd z
-    by true false e f k =
-        let few = leb (length s) 65536 in
-        let ended = eqb (getD s (length s - 1) 0) newline in
-        let n = eqb-false (firstThat foreign s) (length s) f in
-        (refl, omega (arith, n, first-le foreign s), eqb-true _ newline (second-half few ended (second-half (leb 1 (length s)) (few && ended) e)))
+    by true false e f k = (refl, omega (arith, eqb-false (firstThat foreign s) (length s) f, first-le foreign s), whole-parts s e .2)
 
 foreign-refused : (s : List ℕ) → 31 ≤ fileNo s → RefusedLine s (fileRefusal s)
 foreign-refused s h =
     let f = file-31 s h in
     let p = firstThat foreign s in
-    let a = around s p 0 (lines s) refl (f .2) (omega arith) (f .1) (begins-first s) in
+    let a = around s p 0 (lines s) refl (f .2) (omega arith) (f .1) (begun s 0 1 (start-first s)) in
     let n : fileRefusal s .lineno ≡ lineNumber s p = rw (f .0, ne-eqb p (length s) (λ z. omega (arith, z, f .1))) in
     let t : foreign (getD s p 0) ≡ true = first-is foreign s (f .1) in
     let off : p ≡ a .at + length (a .line) → ⊥ = λ z. false≢true (sym (ap foreign (a .ends)) ∙ sym (ap (λ k. foreign (getD s k 0)) z) ∙ t) in
@@ -137,31 +166,66 @@ foreign-refused s h =
       why = inl (f .0, a .from, omega (arith, a .to, off));
     }
 
--- ---- 32 to 35 of a word line
-word-refused : (s : List ℕ) (at least : ℕ) (ls : List (List ℕ)) → lines (drop at s) ≡ ls → Ended s → 0 < at → Begins s at
-    → (wordsRefusal s at least ls .question ≡ 0 → ⊥) → RefusedLine s (wordsRefusal s at least ls)
-unfolding wordsRefusal
-word-refused s at least [] e z k b h = absurd (h refl)
-word-refused s at least (l ∷ ls) e z k b h =
-    by (eqb (readWord least (rowOf 2 l) .question) 0) _ h
-    (word-refused s (at + length l + 1) (readWord least (rowOf 2 l) .address + 1) ls (lines-next s l ls at e z) z (omega arith) (begins-next s l ls at e z b))
+-- ---- 32 to 35: no line fails, or the first that does is named
+abbrev Decided : List ℕ → Refusal → Type 0
+Decided s r = (r .question ≡ 0 → Passed (lines s) (length (lines s))) × ((r .question ≡ 0 → ⊥) → RefusedLine s r)
+
+passed-more : (ls : List (List ℕ)) (k : ℕ) → Passed ls k → lineQuestion ls k ≡ 0 → Passed ls (suc k)
+passed-more ls k f e i h = by (eqb i k) refl
   where
-    here : Refusal
-    here = refusal (readWord least (rowOf 2 l) .question) (lineNumber s at)
+    by : (t : Bool) → eqb i k ≡ t → lineQuestion ls i ≡ 0
+    by true g = ap (lineQuestion ls) (eqb-true i k g) ∙ e
+    by false g = f i (let n = eqb-false i k g in omega (arith, n))
 
-    by : (t : Bool) (later : Refusal) → (cond t later here .question ≡ 0 → ⊥) → ((later .question ≡ 0 → ⊥) → RefusedLine s later) → RefusedLine s (cond t later here)
-    by true later g go = go g
-    by false later g go =
-        record {
-          at = at;
-          line = l;
-          there = numbered s l ls at e z b;
-          why = inr (inr (k, record { least = least; fails = refl }));
-        }
+-- the word lines from line j + 2 on, which begins at position `at`
+words-decided : (s : List ℕ) (at j least : ℕ) (ls : List (List ℕ)) → lines (drop at s) ≡ ls → fileNo s ≡ 0 → LineStart s at (j + 2) → least ≡ leastAt (lines s) j
+    → Passed (lines s) (suc j) → Decided s (wordsRefusal s at least ls)
+unfolding wordsRefusal
+words-decided s at j least [] e passes b m f =
+    let k : count newline (take at s) ≡ suc j = omega (arith, b .counted) in
+    let d : drop (suc j) (lines s) ≡ [] = sym (ap (λ n. drop n (lines s)) k) ∙ sym (lines-from s at (b .begins)) ∙ e in
+    let n : length (lines s) - suc j ≡ 0 = sym (length-drop (suc j) (lines s)) ∙ ap length d in
+    ((λ y i h. f i (omega (arith, n, h))), λ y. absurd (y refl))
+words-decided s at j least (l ∷ ls) e passes b m f =
+    by (eqb w 0) refl _ (words-decided s (at + length l + 1) (suc j) (readWord least (rowOf 2 l) .address + 1) ls (lines-next s l ls at e z) passes next above)
+  where
+    z : Ended s
+    z = file-whole s passes .2
 
--- ---- every refusal of 31 to 35
-lines-refused : (s : List ℕ) → fileNo s ≡ 0 → (sheetRefusal s .question ≡ 0 → ⊥) → RefusedLine s (sheetRefusal s)
-lines-refused s f h = by (eqb (readSetup (rowOf setupFields line) .question) 0) refl
+    w : ℕ
+    w = readWord least (rowOf 2 l) .question
+
+    place : lineNumber s at - 1 ≡ suc j
+    place = omega (arith, b .counted)
+
+    it : getD (lines s) (suc j) [] ≡ l
+    it = sym (ap (λ k. getD (lines s) k []) place) ∙ numbered s l ls at e z (begun s at (j + 2) b) .nth
+
+    asked : w ≡ lineQuestion (lines s) (suc j)
+    asked = ap (λ k. readWord k (rowOf 2 l) .question) m ∙ sym (ap (λ t. readWord (leastAt (lines s) j) (rowOf 2 t) .question) it)
+
+    above : readWord least (rowOf 2 l) .address + 1 ≡ leastAt (lines s) (suc j)
+    above = ap (λ k. k + 1) (read-is least (rowOf 2 l) .0 ∙ sym (ap (λ t. wordOf (rowOf 2 t) .address) it))
+
+    next : LineStart s (at + length l + 1) (suc j + 2)
+    next =
+        let n : j + 2 + 1 ≡ suc j + 2 = omega arith in
+        rw n at (start-next s l at (first s l ls at e z) (inside s l ls at e z) (j + 2) b)
+
+    by : (t : Bool) → eqb w 0 ≡ t → (later : Refusal) → (Passed (lines s) (suc (suc j)) → Decided s later) → Decided s (cond t later (refusal w (lineNumber s at)))
+    by true g later go = go (passed-more (lines s) (suc j) f (sym asked ∙ eqb-true w 0 g))
+    by false g later go = (
+      (λ y. absurd (eqb-false w 0 g y)),
+      λ y. record {
+        at = at;
+        line = l;
+        there = numbered s l ls at e z (begun s at (j + 2) b);
+        why = inr (passes, asked ∙ ap (lineQuestion (lines s)) (sym place), λ i h. f i (omega (arith, place, h)));
+      },
+    )
+
+lines-decided : (s : List ℕ) → fileNo s ≡ 0 → Decided s (sheetRefusal s)
+lines-decided s f = by (eqb (readSetup (rowOf setupFields line) .question) 0) refl
   where
     line : List ℕ
     line = getD (lines s) 0 []
@@ -169,36 +233,39 @@ lines-refused s f h = by (eqb (readSetup (rowOf setupFields line) .question) 0) 
     ended : Ended s
     ended = file-whole s f .2
 
-    by : (t : Bool) → eqb (readSetup (rowOf setupFields line) .question) 0 ≡ t → RefusedLine s (sheetRefusal s)
+    by : (t : Bool) → eqb (readSetup (rowOf setupFields line) .question) 0 ≡ t → Decided s (sheetRefusal s)
     by true e =
-        let words = sheet-words s line f refl (eqb-true _ 0 e) in
-        let second = second-line s line f refl .1 in
-        rw words
-        (word-refused
-        s
-        (length line + 1)
-        0
-        (lines (drop (length line + 1) s))
-        refl
-        ended
-        (omega arith)
-        (record { begins = second .begins; counted = refl })
-        (λ y. h (ap (λ r. r .question) words ∙ y)))
+        let passed : lineQuestion (lines s) 0 ≡ 0 = eqb-true _ 0 e in
+        let only : Passed (lines s) 1 = λ i h. let n : i ≡ 0 = omega arith in ap (lineQuestion (lines s)) n ∙ passed in
+        rw (sheet-words s line f refl passed)
+        (words-decided s (length line + 1) 0 0 (lines (drop (length line + 1) s)) refl f (second-line s line f refl .1) refl only)
     by false e =
+        let no = eqb-false _ 0 e in
         let inside = line-ends s line 0 refl (file-whole s f .0) ended in
-        rw (sheet-setup s line f refl (eqb-false _ 0 e))
-        (record {
-          at = 0;
-          line = line;
-          there = line-there s line 0 1 refl inside (start-first s);
-          why = inr (inl (refl, refl));
-        })
+        rw (sheet-setup s line f refl no) (
+          (λ y. absurd (no y)),
+          λ y. record {
+            at = 0;
+            line = line;
+            there = line-there s line 0 1 refl inside (start-first s);
+            why = inr (f, refl, λ i h. (let z : ⊥ = omega arith in absurd z));
+          },
+        )
 
+-- ---- every refusal of 31 to 35
 pub refused-line : (s : List ℕ) → 31 ≤ sheetRefusal s .question → RefusedLine s (sheetRefusal s)
 refused-line s h = by (eqb (fileNo s) 0) refl
   where
     by : (t : Bool) → eqb (fileNo s) 0 ≡ t → RefusedLine s (sheetRefusal s)
-    by true e = lines-refused s (eqb-true (fileNo s) 0 e) (λ z. omega (arith, z, h))
+    by true e = lines-decided s (eqb-true (fileNo s) 0 e) .1 (λ z. omega (arith, z, h))
     by false e =
         let file = sheet-file s (eqb-false (fileNo s) 0 e) in
         rw file (foreign-refused s (omega (arith, h, ap (λ r. r .question) file)))
+
+-- ---- and what is not refused: every byte is a sheet's, and every line passes
+pub passed-lines : (s : List ℕ) → sheetRefusal s .question ≡ 0 → (fileNo s ≡ 0) × Passed (lines s) (length (lines s))
+passed-lines s h = by (eqb (fileNo s) 0) refl
+  where
+    by : (t : Bool) → eqb (fileNo s) 0 ≡ t → (fileNo s ≡ 0) × Passed (lines s) (length (lines s))
+    by true e = (eqb-true (fileNo s) 0 e, lines-decided s (eqb-true (fileNo s) 0 e) .0 h)
+    by false e = let no = eqb-false (fileNo s) 0 e in absurd (no (sym (ap (λ r. r .question) (sheet-file s no)) ∙ h))

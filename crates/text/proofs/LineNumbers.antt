@@ -43,8 +43,8 @@ module _ (s line : List ℕ) (at : ℕ) (e : line ≡ getD (lines (drop at s)) 0
   end-inside = omega (arith, length-drop at s, line-width s line at e)
 
   -- no 0a in it
-  pub line-alone : count newline line ≡ 0
-  line-alone = ap (count newline) (line-is s line at e) ∙ count-before newline (drop at s) (position newline (drop at s)) (omega arith)
+  line-unbroken : count newline line ≡ 0
+  line-unbroken = ap (count newline) (line-is s line at e) ∙ count-before newline (drop at s) (position newline (drop at s)) (omega arith)
 
   -- and one after it
   pub line-end : getD s (at + length line) 0 ≡ newline
@@ -65,7 +65,7 @@ module _ (s line : List ℕ) (at : ℕ) (e : line ≡ getD (lines (drop at s)) 0
       omega (arith, n, count-before newline (drop at s) (p - at) w)
 
   -- and past its end the number is one more
-  pub number-next : lineNumber s (at + length line + 1) ≡ lineNumber s at + 1
+  number-next : lineNumber s (at + length line + 1) ≡ lineNumber s at + 1
   number-next =
       let on = rw (eq-eqb (getD s (at + length line) 0) newline line-end) at (number-on s (at + length line) h) in
       omega (arith, on, number-within (at + length line) (omega arith) (omega arith))
@@ -109,8 +109,8 @@ lines-from (b ∷ bs) (suc (suc i)) e = by (eqb b newline) (lines-from bs (suc i
 -- a line, which begins at a position, is the n-th of the text and has the number n
 pub record LineAt (s : List ℕ) (at : ℕ) (line : List ℕ) (n : ℕ) : Type 0 where
   pub start : LineStart s at n
-  pub here : take (length line + 1) (drop at s) ≡ line ++ (newline ∷ [])
-  pub alone : count newline line ≡ 0
+  pub bytes : take (length line + 1) (drop at s) ≡ line ++ (newline ∷ [])
+  pub unbroken : count newline line ≡ 0
   pub nth : getD (lines s) (n - 1) [] ≡ line
 
 pub line-there : (s line : List ℕ) (at n : ℕ) → line ≡ getD (lines (drop at s)) 0 [] → at + length line < length s → LineStart s at n → LineAt s at line n
@@ -120,11 +120,11 @@ line-there s line at n e h l =
     let z : count newline (take at s) + 0 ≡ n - 1 = omega (arith, l .counted) in
     record {
       start = l;
-      here =
+      bytes =
           ap (λ k. take k (drop at s)) (add-one (length line))
           ∙ take-suc (drop at s) (length line) 0 inside
           ∙ rw (getD-drop at s (length line) 0, line-end s line at e h) (ap (λ t. t ++ (newline ∷ [])) (sym w));
-      alone = line-alone s line at e h;
+      unbroken = line-unbroken s line at e h;
       nth =
           sym (ap (λ k. getD (lines s) k []) z)
           ∙ sym (getD-drop (count newline (take at s)) (lines s) 0 [])

@@ -31,8 +31,8 @@ count c (b ∷ bs) = cond (is c b) 1 0 + count c bs
 abbrev pub lineNumber : List ℕ → ℕ → ℕ
 lineNumber s at = count newline (take at s) + 1
 
--- a line begins at position `at`, the text's start or past an 0a (as if one stood before the text), and n is its number: "one more
--- than the number of 0a bytes before that line" (02, Job 3)
+-- a line begins at position `at`, or the text ends there: it is the text's start or past an 0a (as if one stood before the text). n is
+-- the line's number, "one more than the number of 0a bytes before that line" (02, Job 3)
 pub record LineStart (s : List ℕ) (at n : ℕ) : Type 0 where
   pub begins : getD (newline ∷ s) at 0 ≡ newline
   pub counted : n ≡ lineNumber s at

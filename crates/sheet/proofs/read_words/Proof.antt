@@ -16,10 +16,10 @@ use Rattle.sheet.proofs.read_words.Statement.{statement}
 use Rattle.sheet.proofs.read_words.Tie as tie
 
 abbrev Inv-loop : tie.InvT-loop
-Inv-loop s start first mem₀ at₀ lineno₀ least₀ mem at lineno least = (length mem ≡ 65536) × (at ≤ length s) × LineStart s at lineno × (wordsRefusal s at least (lines (drop at s)) ≡ wordsRefusal s start 0 (lines (drop start s))) × (memoryOf mem (wordsOf (lines (drop at s))) ≡ memoryOf mem₀ (wordsOf (lines (drop start s))))
+Inv-loop s start startline mem₀ at₀ lineno₀ least₀ mem at lineno least = (length mem ≡ 65536) × (at ≤ length s) × LineStart s at lineno × (wordsRefusal s at least (lines (drop at s)) ≡ wordsRefusal s start 0 (lines (drop start s))) × (memoryOf mem (wordsOf (lines (drop at s))) ≡ memoryOf mem₀ (wordsOf (lines (drop start s))))
 
 abbrev μ-loop : tie.MeasureT-loop
-μ-loop s start first mem₀ at₀ lineno₀ least₀ mem at lineno least = length s - at
+μ-loop s start startline mem₀ at₀ lineno₀ least₀ mem at lineno least = length s - at
 
 loop-holds : tie.Need-loop-holds Inv-loop μ-loop
 loop-holds c = (search needs, search needs, c .before .before .pre .4, refl, refl)
