@@ -167,7 +167,7 @@ foreign-refused s h =
     }
 
 -- ---- 32 to 35: no line fails, or the first that does is named
-abbrev Decided : List ℕ → Refusal → Type 0
+abbrev pub Decided : List ℕ → Refusal → Type 0
 Decided s r = (r .question ≡ 0 → Passed (lines s) (length (lines s))) × ((r .question ≡ 0 → ⊥) → RefusedLine s r)
 
 passed-more : (ls : List (List ℕ)) (k : ℕ) → Passed ls k → lineQuestion ls k ≡ 0 → Passed ls (suc k)
@@ -224,7 +224,7 @@ words-decided s at j least (l ∷ ls) e passes b m f =
       },
     )
 
-lines-decided : (s : List ℕ) → fileNo s ≡ 0 → Decided s (sheetRefusal s)
+pub lines-decided : (s : List ℕ) → fileNo s ≡ 0 → Decided s (sheetRefusal s)
 lines-decided s f = by (eqb (readSetup (rowOf setupFields line) .question) 0) refl
   where
     line : List ℕ
