@@ -51,12 +51,6 @@ pub record RefusedLine (s : List ℕ) (r : Refusal) : Type 0 where
 abbrev Ended : List ℕ → Type 0
 Ended s = getD s (length s - 1) 0 ≡ newline
 
-abbrev Begins : List ℕ → ℕ → Type 0
-Begins s at = LineStart s at (lineNumber s at)
-
-begun : (s : List ℕ) (at n : ℕ) → LineStart s at n → Begins s at
-begun s at n b = record { begins = b .begins; counted = refl }
-
 -- its first line l, and the lines ls after it
 module _ (s l : List ℕ) (ls : List (List ℕ)) (at : ℕ) (e : lines (drop at s) ≡ l ∷ ls) (z : Ended s) where
   first : l ≡ getD (lines (drop at s)) 0 []
@@ -77,36 +71,40 @@ module _ (s l : List ℕ) (ls : List (List ℕ)) (at : ℕ) (e : lines (drop at 
   lines-next : lines (drop (at + length l + 1) s) ≡ ls
   lines-next = ap (drop 1) (sym (line-more s l at first some-left) ∙ e)
 
-  begins-next : Begins s at → Begins s (at + length l + 1)
-  begins-next b = begun s (at + length l + 1) (lineNumber s at + 1) (start-next s l at first inside (lineNumber s at) b)
+  next : (n : ℕ) → LineStart s at n → LineStart s (at + length l + 1) (n + 1)
+  next = start-next s l at first inside
 
-  numbered : Begins s at → LineAt s at l (lineNumber s at)
-  numbered b = line-there s l at (lineNumber s at) first inside b
+  numbered : (n : ℕ) → LineStart s at n → LineAt s at l n
+  numbered n = line-there s l at n first inside
 
 -- ---- the line that a position lies in
 record Around (s : List ℕ) (p : ℕ) : Type 0 where
   at : ℕ
   line : List ℕ
-  there : LineAt s at line (lineNumber s p)
+  n : ℕ
+  there : LineAt s at line n
+  number : n ≡ lineNumber s p
   from : at ≤ p
   to : p ≤ at + length line
   ends : getD s (at + length line) 0 ≡ newline
 
-around : (s : List ℕ) (p at : ℕ) (ls : List (List ℕ)) → lines (drop at s) ≡ ls → Ended s → at ≤ p → p < length s → Begins s at → Around s p
-around s p at [] e z h k b =
+around : (s : List ℕ) (p at n : ℕ) (ls : List (List ℕ)) → lines (drop at s) ≡ ls → Ended s → at ≤ p → p < length s → LineStart s at n → Around s p
+around s p at n [] e z h k b =
     let l = getD (lines (drop at s)) 0 [] in
     let none : [] ≡ l ∷ lines (drop (at + length l + 1) s) = sym e ∙ line-more s l at refl (omega arith) in
-    absurd (let n : 0 ≡ 1 + length (lines (drop (at + length l + 1) s)) = ap length none ∙ omega arith in omega (arith, n))
-around s p at (l ∷ ls) e z h k b = by (leb p (at + length l)) refl (λ g. around s p (at + length l + 1) ls (lines-next s l ls at e z) z g k (begins-next s l ls at e z b))
+    absurd (let m : 0 ≡ 1 + length (lines (drop (at + length l + 1) s)) = ap length none ∙ omega arith in omega (arith, m))
+around s p at n (l ∷ ls) e z h k b =
+    by (leb p (at + length l)) refl (λ g. around s p (at + length l + 1) (n + 1) ls (lines-next s l ls at e z) z g k (next s l ls at e z n b))
   where
     by : (t : Bool) → leb p (at + length l) ≡ t → (at + length l + 1 ≤ p → Around s p) → Around s p
     by true f go =
         let to = leb-true p (at + length l) f in
-        let n = number-within s l at (first s l ls at e z) (inside s l ls at e z) p h to in
         record {
           at = at;
           line = l;
-          there = rw n (numbered s l ls at e z b);
+          n = n;
+          there = numbered s l ls at e z n b;
+          number = b .counted ∙ sym (number-within s l at (first s l ls at e z) (inside s l ls at e z) p h to);
           from = h;
           to = to;
           ends = line-end s l at (first s l ls at e z) (inside s l ls at e z);
@@ -155,14 +153,14 @@ foreign-refused : (s : List ℕ) → 31 ≤ fileNo s → RefusedLine s (fileRefu
 foreign-refused s h =
     let f = file-31 s h in
     let p = firstThat foreign s in
-    let a = around s p 0 (lines s) refl (f .2) (omega arith) (f .1) (begun s 0 1 (start-first s)) in
+    let a = around s p 0 1 (lines s) refl (f .2) (omega arith) (f .1) (start-first s) in
     let n : fileRefusal s .lineno ≡ lineNumber s p = rw (f .0, ne-eqb p (length s) (λ z. omega (arith, z, f .1))) in
     let t : foreign (getD s p 0) ≡ true = first-is foreign s (f .1) in
     let off : p ≡ a .at + length (a .line) → ⊥ = λ z. false≢true (sym (ap foreign (a .ends)) ∙ sym (ap (λ k. foreign (getD s k 0)) z) ∙ t) in
     record {
       at = a .at;
       line = a .line;
-      there = rw n (a .there);
+      there = rw (n ∙ sym (a .number)) (a .there);
       why = inl (f .0, a .from, omega (arith, a .to, off));
     }
 
@@ -187,7 +185,7 @@ words-decided s at j least [] e passes b m f =
     let n : length (lines s) - suc j ≡ 0 = sym (length-drop (suc j) (lines s)) ∙ ap length d in
     ((λ y i h. f i (omega (arith, n, h))), λ y. absurd (y refl))
 words-decided s at j least (l ∷ ls) e passes b m f =
-    by (eqb w 0) refl _ (words-decided s (at + length l + 1) (suc j) (readWord least (rowOf 2 l) .address + 1) ls (lines-next s l ls at e z) passes next above)
+    by (eqb w 0) refl _ (words-decided s (at + length l + 1) (suc j) (readWord least (rowOf 2 l) .address + 1) ls (lines-next s l ls at e z) passes after above)
   where
     z : Ended s
     z = file-whole s passes .2
@@ -195,11 +193,11 @@ words-decided s at j least (l ∷ ls) e passes b m f =
     w : ℕ
     w = readWord least (rowOf 2 l) .question
 
-    place : lineNumber s at - 1 ≡ suc j
-    place = omega (arith, b .counted)
+    place : j + 2 - 1 ≡ suc j
+    place = omega arith
 
     it : getD (lines s) (suc j) [] ≡ l
-    it = sym (ap (λ k. getD (lines s) k []) place) ∙ numbered s l ls at e z (begun s at (j + 2) b) .nth
+    it = sym (ap (λ k. getD (lines s) k []) place) ∙ numbered s l ls at e z (j + 2) b .nth
 
     asked : w ≡ lineQuestion (lines s) (suc j)
     asked = ap (λ k. readWord k (rowOf 2 l) .question) m ∙ sym (ap (λ t. readWord (leastAt (lines s) j) (rowOf 2 t) .question) it)
@@ -207,31 +205,27 @@ words-decided s at j least (l ∷ ls) e passes b m f =
     above : readWord least (rowOf 2 l) .address + 1 ≡ leastAt (lines s) (suc j)
     above = ap (λ k. k + 1) (read-is least (rowOf 2 l) .0 ∙ sym (ap (λ t. wordOf (rowOf 2 t) .address) it))
 
-    next : LineStart s (at + length l + 1) (suc j + 2)
-    next =
-        let n : j + 2 + 1 ≡ suc j + 2 = omega arith in
-        rw n at (start-next s l at (first s l ls at e z) (inside s l ls at e z) (j + 2) b)
+    after : LineStart s (at + length l + 1) (suc j + 2)
+    after = let n : j + 2 + 1 ≡ suc j + 2 = omega arith in rw n at (next s l ls at e z (j + 2) b)
 
     by : (t : Bool) → eqb w 0 ≡ t → (later : Refusal) → (Passed (lines s) (suc (suc j)) → Decided s later) → Decided s (cond t later (refusal w (lineNumber s at)))
     by true g later go = go (passed-more (lines s) (suc j) f (sym asked ∙ eqb-true w 0 g))
-    by false g later go = (
-      (λ y. absurd (eqb-false w 0 g y)),
-      λ y. record {
-        at = at;
-        line = l;
-        there = numbered s l ls at e z (begun s at (j + 2) b);
-        why = inr (passes, asked ∙ ap (lineQuestion (lines s)) (sym place), λ i h. f i (omega (arith, place, h)));
-      },
-    )
+    by false g later go =
+        rw (ap (refusal w) (sym (b .counted))) (
+          (λ y. absurd (eqb-false w 0 g y)),
+          λ y. record {
+            at = at;
+            line = l;
+            there = numbered s l ls at e z (j + 2) b;
+            why = inr (passes, asked ∙ ap (lineQuestion (lines s)) (sym place), λ i h. f i (omega (arith, place, h)));
+          },
+        )
 
 pub lines-decided : (s : List ℕ) → fileNo s ≡ 0 → Decided s (sheetRefusal s)
 lines-decided s f = by (eqb (readSetup (rowOf setupFields line) .question) 0) refl
   where
     line : List ℕ
     line = getD (lines s) 0 []
-
-    ended : Ended s
-    ended = file-whole s f .2
 
     by : (t : Bool) → eqb (readSetup (rowOf setupFields line) .question) 0 ≡ t → Decided s (sheetRefusal s)
     by true e =
@@ -241,7 +235,7 @@ lines-decided s f = by (eqb (readSetup (rowOf setupFields line) .question) 0) re
         (words-decided s (length line + 1) 0 0 (lines (drop (length line + 1) s)) refl f (second-line s line f refl .1) refl only)
     by false e =
         let no = eqb-false _ 0 e in
-        let inside = line-ends s line 0 refl (file-whole s f .0) ended in
+        let inside = line-ends s line 0 refl (file-whole s f .0) (file-whole s f .2) in
         rw (sheet-setup s line f refl no) (
           (λ y. absurd (no y)),
           λ y. record {
