@@ -2,3 +2,4 @@ pub mod Laws
 pub mod Results
 pub mod Cases
 pub mod LineNumbers
+pub mod DefaultBudget

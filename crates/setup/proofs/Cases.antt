@@ -24,12 +24,15 @@ pub example-setup : readSetup (rowOf setupFields (ascii "0,5,100,200,10,3,0,0,0,
 unfolding readSetup rowOf split spelled
 example-setup = refl
 
--- the digits of the budget in line 1, and the budget: "an empty budget means 1,000"
+-- the digits of the budget in line 1, and the budget: "An empty budget now means 50,000." (02, Job 4)
 abbrev pub budgets : List (List ℕ × ℕ)
 budgets =
-    ([], 1000)
+    ([], 50000)
     ∷ (ascii "0", 0)
+    ∷ (ascii "0000000000000000", 0)
     ∷ (ascii "a", 10)
+    ∷ (ascii "3e8", 1000)
+    ∷ (ascii "c350", 50000)
     ∷ (ascii "ffffffff", 0xffffffff)
     ∷ []
 

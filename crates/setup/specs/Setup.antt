@@ -27,9 +27,9 @@ regionsFrom vs k zero = []
 regionsFrom vs k (suc n) =
     record { base = getD vs k 0; bound = getD vs (k + 1) 0; permission = getD vs (k + 2) 0 } ∷ regionsFrom vs (k + 3) n
 
--- "an empty budget means 1,000"
+-- "An empty budget now means 50,000." (02, Job 4)
 abbrev pub defaultBudget : ℕ
-defaultBudget = 1000
+defaultBudget = 50000
 
 abbrev pub setupOf : Row → Setup
 setupOf r =

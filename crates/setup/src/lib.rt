@@ -20,7 +20,7 @@ const SETUP_FIELDS: usize = 4 + 3 * REGIONS;
 const BUDGET_FIELD: usize = SETUP_FIELDS - 1;
 
 // What an empty budget means.
-const DEFAULT_BUDGET: u64 = 1000;
+const DEFAULT_BUDGET: u64 = 50000;
 
 // The values of line 1.
 pub struct Setup {

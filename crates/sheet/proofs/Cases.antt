@@ -61,6 +61,8 @@ rows =
     ∷ row lineOne 0 0
     -- document 01's example sheet,33,2
     ∷ row (lineOne ++ ascii "0,\n") 33 2
+    -- an empty address
+    ∷ row (lineOne ++ ascii ",1\n") 33 2
     -- a blank last line
     ∷ row (lineOne ++ ascii "0,1\n\n") 32 3
     -- the tenth word line, in line 11

@@ -6,8 +6,8 @@ use Prim.Native.Nat.{ℕ, zero, suc, _+_, _-_, _<_, _≤_}
 use native.Mathlib.Numerals.{add-one}
 use native.Mathlib.Omega.{arith}
 use lib.Dec.{eqb}
-use lib.ListN.{length, getD, drop, take, length-drop, length-take}
-use lib.Seq.{take-suc, take-add, drop-nil, getD-drop}
+use lib.ListN.{length, getD, drop, take, length-drop, length-take, take-append-drop}
+use lib.Seq.{take-suc, take-add, take-append-le, take-append-add, drop-nil, getD-drop}
 use borrow.Author.Tests.{eqb-true, eq-eqb}
 use Rattle.text.specs.Scan.{is, count, newline, lineNumber, LineStart}
 use Rattle.text.specs.Split.{push, split, lines}
@@ -75,6 +75,21 @@ module _ (s line : List ℕ) (at : ℕ) (e : line ≡ getD (lines (drop at s)) 0
   start-next n l =
       let i : at + length line + 1 ≡ suc (at + length line) = omega arith in
       record { begins = rw i line-end; counted = ap (λ k. k + 1) (l .counted) ∙ sym number-next }
+
+-- ---- a text whose first line is known, and what follows its end
+module _ (line rest : List ℕ) (h : count newline line ≡ 0) where
+  -- every byte of the line has the number 1
+  pub number-inside : (p : ℕ) → p ≤ length line → lineNumber (line ++ (newline ∷ rest)) p ≡ 1
+  number-inside p k =
+      let parts : count newline line ≡ count newline (take p line) + count newline (drop p line) =
+      ap (count newline) (sym (take-append-drop p line)) ∙ count-append newline (take p line) (drop p line) in
+      rw (take-append-le p line (newline ∷ rest) k) (omega (arith, parts))
+
+  -- a byte after it has one more than its number in the rest
+  pub number-after : (p : ℕ) → lineNumber (line ++ (newline ∷ rest)) (length line + suc p) ≡ lineNumber rest p + 1
+  unfolding count
+  number-after p =
+      rw (take-append-add line (newline ∷ rest) (suc p), count-append newline line (newline ∷ take p rest)) (omega arith)
 
 -- ---- the n-th line: the lines from a line's start on are those from its number on
 

@@ -95,7 +95,7 @@ byte-without c d h =
     let n : digitByte d ≡ c → ⊥ = λ e. omega (arith, byte-high (ltb d 10) d) in
     rw (ne-eqb (digitByte d) c n)
 
-nil-without : (c : ℕ) → count c [] ≡ 0
+pub nil-without : (c : ℕ) → count c [] ≡ 0
 unfolding count
 nil-without c = refl
 

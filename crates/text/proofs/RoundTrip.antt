@@ -75,6 +75,31 @@ field-alone (b ∷ bs) h = by (eqb b comma) h (λ k. field-alone bs k)
     by true g f = let z : ⊥ = omega arith in absurd z
     by false g f = ap (push b) (f (omega arith))
 
+-- fields before a comma, and after it
+fields-some : (s : List ℕ) → 1 ≤ length (fields s)
+unfolding split
+fields-some [] = lit≤ tt
+fields-some (b ∷ bs) = by (eqb b comma) (fields bs) (fields-some bs)
+  where
+    by : (t : Bool) (ps : List (List ℕ)) → 1 ≤ length ps → 1 ≤ length (cond t ([] ∷ ps) (push b ps))
+    by true ps h = omega arith
+    by false [] h = lit≤ tt
+    by false (p ∷ ps) h = omega arith
+
+fields-append : (s t : List ℕ) → fields (s ++ (comma ∷ t)) ≡ fields s ++ fields t
+unfolding split
+fields-append [] t = refl
+fields-append (b ∷ bs) t = by (eqb b comma) (fields bs) (fields-some bs) (fields-append bs t)
+  where
+    by : (u : Bool) (ps : List (List ℕ)) → 1 ≤ length ps → fields (bs ++ (comma ∷ t)) ≡ ps ++ fields t
+        → cond u ([] ∷ fields (bs ++ (comma ∷ t))) (push b (fields (bs ++ (comma ∷ t)))) ≡ cond u ([] ∷ ps) (push b ps) ++ fields t
+    by true ps h e = ap (λ k. [] ∷ k) e
+    by false [] h e = let z : ⊥ = omega arith in absurd z
+    by false (p ∷ ps) h e = ap (push b) e
+
+pub field-then : (s f : List ℕ) → count comma f ≡ 0 → fields (s ++ (comma ∷ f)) ≡ fields s ++ (f ∷ [])
+field-then s f h = fields-append s f ∙ ap (λ k. fields s ++ k) (field-alone f h)
+
 pub line-then : (l s : List ℕ) → count newline l ≡ 0 → lines (l ++ (newline ∷ s)) ≡ l ∷ lines s
 line-then l s h = split-piece newline [] l s h
 

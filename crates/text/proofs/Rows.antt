@@ -1,15 +1,16 @@
 -- A line read field by field into slots.
-use mathlib.Core.Path.{_≡_, ap, sym, _∙_}
+use mathlib.Core.Path.{_≡_, refl, ap, sym, _∙_}
 use mathlib.Core.Bool.{true, _&&_}
-use mathlib.Core.List.{List, [], _∷_, map}
-use Prim.Native.Nat.{ℕ, suc, _+_, _<_, _≤_}
+use mathlib.Core.List.{List, [], _∷_, _++_, map, append-nil}
+use Prim.Native.Nat.{ℕ, zero, suc, _+_, _<_, _≤_}
 use native.Mathlib.Numerals.{add-one}
 use native.Mathlib.Omega.{arith}
-use lib.ListN.{length, getD, drop, set, replicate, drop-of-length-le}
-use lib.Seq.{drop-cons, sets}
+use lib.ListN.{length, getD, drop, take, set, replicate, drop-of-length-le, length-replicate, length-map, List·getD-map}
+use lib.Seq.{drop-cons, sets, sets-eq, length-sets}
 use Rattle.text.specs.Number.{number}
 use Rattle.text.specs.Split.{fields, Row, rowWith, rowOver, rowOf, wide, allWide}
 use Rattle.text.proofs.Splitting.{field-more, field-last}
+use Rattle.text.proofs.Asking.{first-half, second-half}
 
 -- the row of a line of which n fields are read and the fields fs remain
 abbrev pub rowFrom : ℕ → List ℕ → List ℕ → List (List ℕ) → Row
@@ -46,7 +47,46 @@ pub wide-off : (ws : List ℕ) (i : ℕ) → length ws ≤ i → allWide (drop i
 unfolding allWide
 wide-off ws i h = rw (drop-of-length-le ws h)
 
+-- each of the first n is wide
+pub wide-at : (ws : List ℕ) (n i : ℕ) → i < n → i < length ws → allWide (take n ws) ≡ true → wide (getD ws i 0) ≡ true
+unfolding allWide
+wide-at [] n i h k e = let z : ⊥ = omega arith in absurd z
+wide-at (w ∷ ws) zero i h k e = let z : ⊥ = omega arith in absurd z
+wide-at (w ∷ ws) (suc n) zero h k e = first-half (wide w) (allWide (take n ws)) e
+wide-at (w ∷ ws) (suc n) (suc i) h k e = wide-at ws n i (omega arith) (omega arith) (second-half (wide w) (allWide (take n ws)) e)
+
 -- ---- a row in slots of 0
+sets-all : (l vs : List ℕ) → length l ≡ length vs → sets l 0 vs ≡ vs
+sets-all l vs e =
+    let fits : 0 + length vs ≤ length l = omega (arith, e) in
+    let none : length l ≤ 0 + length vs = omega (arith, e) in
+    sets-eq vs l 0 fits ∙ ap (λ k. vs ++ k) (drop-of-length-le l none) ∙ append-nil vs
+
 pub row-in : (n : ℕ) (line : List ℕ) (r : Row) → r ≡ rowOver (replicate n 0) (replicate n 0) line → r ≡ rowOf n line
 unfolding rowOf
 row-in n line r e = e
+
+pub row-count : (n : ℕ) (line : List ℕ) → rowOf n line .count ≡ length (fields line)
+unfolding rowOf
+row-count n line = refl
+
+pub row-widths : (n : ℕ) (line : List ℕ) → length (rowOf n line .widths) ≡ n
+unfolding rowOf
+row-widths n line = length-sets (replicate n 0) 0 (map length (fields line)) ∙ length-replicate n 0
+
+-- a line with as many fields as there are slots fills them
+pub row-full : (n : ℕ) (line : List ℕ) → n ≡ length (fields line) → rowOf n line ≡ rowWith n (map (number 16) (fields line)) (map length (fields line))
+unfolding rowOf
+row-full n line e =
+    let values = sets-all (replicate n 0) (map (number 16) (fields line)) (length-replicate n 0 ∙ e ∙ sym (length-map (fields line) (number 16))) in
+    let widths = sets-all (replicate n 0) (map length (fields line)) (length-replicate n 0 ∙ e ∙ sym (length-map (fields line) length)) in
+    rw (values, widths) (ap (λ k. rowWith k (map (number 16) (fields line)) (map length (fields line))) (sym e))
+
+-- where the first m fields of such a line are wide, so is each of them
+pub row-wide : (n m i : ℕ) (line : List ℕ) → rowOf n line .count ≡ n → allWide (take m (rowOf n line .widths)) ≡ true → i < m → i < n
+    → wide (length (getD (fields line) i [])) ≡ true
+row-wide n m i line c a h k =
+    let e : n ≡ length (fields line) = sym c ∙ row-count n line in
+    let all : allWide (take m (map length (fields line))) ≡ true = rw (row-full n line e) at a in
+    let inside : i < length (map length (fields line)) = omega (arith, e, length-map (fields line) length) in
+    rw (List·getD-map length (fields line) i []) at (wide-at (map length (fields line)) m i h inside all)

@@ -1,5 +1,5 @@
 -- Scanning a text. A loop at position i speaks of what is left, `drop i s`: each definition has a law for the next byte and one for the end.
-use mathlib.Core.Path.{_≡_, refl}
+use mathlib.Core.Path.{_≡_, refl, ap}
 use mathlib.Core.Bool.{Bool, true, false, cond}
 use mathlib.Core.List.{List, [], _∷_, _++_}
 use Prim.Native.Nat.{ℕ, zero, suc, _+_, _-_, _<_, _≤_}
@@ -59,6 +59,29 @@ first-is test (b ∷ bs) h = by (test b) refl h (first-is test bs)
         → test (getD (b ∷ bs) (cond t 0 (suc (firstThat test bs))) 0) ≡ true
     by true e g f = e
     by false e g f = f (omega arith)
+
+-- of two texts, one after the other: in the first, or past it
+pub first-in : (test : ℕ → Bool) (s t : List ℕ) → firstThat test s < length s → firstThat test (s ++ t) ≡ firstThat test s
+unfolding firstThat
+first-in test [] t h = let z : ⊥ = omega arith in absurd z
+first-in test (b ∷ bs) t h = by (test b) h (first-in test bs t)
+  where
+    by : (u : Bool) → cond u 0 (suc (firstThat test bs)) < suc (length bs)
+        → (firstThat test bs < length bs → firstThat test (bs ++ t) ≡ firstThat test bs)
+        → cond u 0 (suc (firstThat test (bs ++ t))) ≡ cond u 0 (suc (firstThat test bs))
+    by true g f = refl
+    by false g f = ap suc (f (omega arith))
+
+pub first-past : (test : ℕ → Bool) (s t : List ℕ) → firstThat test s ≡ length s → firstThat test (s ++ t) ≡ length s + firstThat test t
+unfolding firstThat
+first-past test [] t e = omega arith
+first-past test (b ∷ bs) t e = by (test b) e (first-past test bs t)
+  where
+    by : (u : Bool) → cond u 0 (suc (firstThat test bs)) ≡ suc (length bs)
+        → (firstThat test bs ≡ length bs → firstThat test (bs ++ t) ≡ length bs + firstThat test t)
+        → cond u 0 (suc (firstThat test (bs ++ t))) ≡ suc (length bs) + firstThat test t
+    by true g f = let z : ⊥ = omega (arith, g) in absurd z
+    by false g f = omega (arith, f (omega (arith, g)))
 
 -- a byte counts for one at most
 one-le : (t : Bool) → cond t 1 0 ≤ 1

@@ -132,6 +132,9 @@ lines-more s h = by (leb (length s) (position newline s)) refl
         ∙ ap (λ l. take (position newline s) s ∷ l) (sym (ap lines (drop-of-length-le s g) ∙ lines-none))
     by false f = split-more newline [] s (leb-false (length s) (position newline s) f)
 
+pub lines-some : (s : List ℕ) → 0 < length s → 0 < length (lines s)
+lines-some s h = rw (lines-more s h) (omega arith)
+
 -- the line that begins at position `at`
 module _ (s line : List ℕ) (at : ℕ) (e : line ≡ getD (lines (drop at s)) 0 []) where
   pub line-is : line ≡ take (position newline (drop at s)) (drop at s)

@@ -1,0 +1,71 @@
+-- "An empty budget now means 50,000." (02, Job 4): a sheet with an empty budget has the answer of the same sheet with c350 written there,
+-- whatever else stands in it, refused sheets included.
+use mathlib.Core.Path.{_≡_, refl, ap, sym, _∙_}
+use mathlib.Core.Bool.{Bool, true, false}
+use mathlib.Core.List.{List, [], _∷_, _++_, append-assoc}
+use Prim.Native.Nat.{ℕ, _+_, _<_, _≤_}
+use native.Mathlib.Omega.{arith}
+use lib.Dec.{eqb}
+use lib.ListN.{length, length-append}
+use borrow.Author.Tests.{eqb-true, le-leb, lt-leb}
+use Rattle.text.specs.Ascii.{ascii}
+use Rattle.text.specs.Scan.{newline, comma, firstThat, count}
+use Rattle.text.specs.Number.{digits}
+use Rattle.text.proofs.Scanning.{count-append}
+use Rattle.setup.proofs.DefaultBudget.{defaultDigits, default-alike}
+use Rattle.sheet.specs.Sheet.{sheetRefusal, refusalText}
+use Rattle.sheet.proofs.LineNumbers.{not-whole}
+use Rattle.sheet.proofs.LineOne.{sheetOf, allOwn, own-append, SheetsAlike, line-one-alike}
+use Rattle.report.specs.Report.{reportOver, report}
+use Rattle.report.proofs.LineNumbers.{refusal-printed}
+
+-- sheets that are read alike have one answer
+alike-printed : (s t : List ℕ) → SheetsAlike s t → report s ≡ report t
+unfolding report reportOver
+alike-printed s t e = by (eqb (sheetRefusal s .question) 0) refl
+  where
+    by : (u : Bool) → eqb (sheetRefusal s .question) 0 ≡ u → report s ≡ report t
+    by true f =
+        let values = e .1 (eqb-true (sheetRefusal s .question) 0 f) in
+        rw (e .0, values .0, values .1)
+    by false f = rw (f, sym (ap (λ r. eqb (r .question) 0) (e .0)) ∙ f) (ap (λ r. refusalText (r .question) (r .lineno)) (e .0))
+
+-- ---- a sheet whose line 1 is `before`, a comma and the budget; `after` are its other lines
+abbrev pub withBudget : List ℕ → List ℕ → List ℕ → List ℕ
+withBudget before budget after = before ++ ascii "," ++ budget ++ ascii "\n" ++ after
+
+parts : (before budget after : List ℕ) → withBudget before budget after ≡ sheetOf (before ++ (comma ∷ budget)) after
+parts before budget after =
+    append-assoc (before ++ (comma ∷ []) ++ budget) (newline ∷ []) after ∙ ap (λ l. sheetOf l after) (append-assoc before (comma ∷ []) budget)
+
+unbroken : (before : List ℕ) → count newline before ≡ 0 → (count newline (before ++ (comma ∷ [])) ≡ 0) × (count newline (before ++ (comma ∷ defaultDigits)) ≡ 0)
+unfolding count
+unbroken before h = (omega (arith, count-append newline before (comma ∷ [])), omega (arith, count-append newline before (comma ∷ defaultDigits)))
+
+-- no foreign byte is written
+own-alike : (before : List ℕ) → allOwn (before ++ (comma ∷ [])) ≡ allOwn (before ++ (comma ∷ defaultDigits))
+unfolding firstThat
+own-alike before = own-append before (comma ∷ []) refl ∙ sym (own-append before (comma ∷ defaultDigits) refl)
+
+-- Job 4's theorem, where there is room for the four digits
+pub empty-budget : (before after : List ℕ) → count newline before ≡ 0 → length (withBudget before (ascii "c350") after) ≤ 65536
+    → report (withBudget before [] after) ≡ report (withBudget before (ascii "c350") after)
+empty-budget before after h k =
+    let empty = before ++ (comma ∷ []) in
+    let written = before ++ (comma ∷ defaultDigits) in
+    let long : length (sheetOf written after) ≤ 65536 = rw (parts before (ascii "c350") after) at k in
+    let shorter : length (sheetOf empty after) ≤ 65536 =
+    omega (arith, long, length-append empty (newline ∷ after), length-append written (newline ∷ after), length-append before (comma ∷ []), length-append before (comma ∷ defaultDigits)) in
+    let lines = unbroken before h in
+    rw (parts before [] after, parts before (ascii "c350") after)
+    (alike-printed (sheetOf empty after) (sheetOf written after)
+    (line-one-alike empty written after (lines .0) (lines .1) shorter long (own-alike before) (default-alike before)))
+
+-- where there is none, the sheet with the digits is too long, whatever stands in it
+pub no-room : (s : List ℕ) → 65536 < length s → report s ≡ ascii "sheet,30,0\n"
+unfolding digits
+no-room s h =
+    let some : 1 ≤ length s = omega arith in
+    let r = not-whole s (rw (le-leb 1 (length s) some, lt-leb (length s) 65536 h)) in
+    let no : sheetRefusal s .question ≡ 0 → ⊥ = λ z. omega (arith, z, ap (λ q. q .question) r) in
+    rw (refusal-printed s no, r)

@@ -1,0 +1,38 @@
+-- "33: has each field 1 to 16 digits (an empty budget passes)?" (01): in a sheet that is not refused, no field but the budget is empty.
+use mathlib.Core.Path.{_≡_, refl}
+use mathlib.Core.Bool.{true}
+use mathlib.Core.List.{List, []}
+use Prim.Native.Nat.{ℕ, suc, _<_}
+use native.Mathlib.Omega.{arith}
+use lib.ListN.{length, getD, take}
+use lib.Seq.{take-all}
+use borrow.Author.Tests.{eqb-true}
+use Rattle.text.specs.Split.{lines, fields, rowOf, wide}
+use Rattle.text.proofs.Asking.{yes-at}
+use Rattle.text.proofs.Rows.{row-widths, row-wide}
+use Rattle.text.proofs.Splitting.{lines-some}
+use Rattle.setup.specs.Setup.{budgetField}
+use Rattle.setup.proofs.DefaultBudget.{others-some}
+use Rattle.sheet.specs.Words.{wordOf, wordQuestions, readWord}
+use Rattle.sheet.specs.Sheet.{sheetRefusal}
+use Rattle.sheet.proofs.Laws.{file-whole}
+use Rattle.sheet.proofs.LineNumbers.{leastAt, passed-lines}
+
+word-some : (least : ℕ) (line : List ℕ) (i : ℕ) → readWord least (rowOf 2 line) .question ≡ 0 → i < 2 → wide (length (getD (fields line) i [])) ≡ true
+unfolding readWord
+word-some least line i z h =
+    let r = rowOf 2 line in
+    let asked = wordQuestions least r (wordOf r) in
+    let n : r .count ≡ 2 = eqb-true (r .count) 2 (yes-at 0 asked refl z) in
+    let both : take 2 (r .widths) ≡ r .widths = take-all 2 (r .widths) (omega (arith, row-widths 2 line)) in
+    row-wide 2 2 i line n (rw both (yes-at 1 asked refl z)) h h
+
+module _ (s : List ℕ) (z : sheetRefusal s .question ≡ 0) where
+  pub setup-some : (i : ℕ) → i < budgetField → wide (length (getD (fields (getD (lines s) 0 [])) i [])) ≡ true
+  setup-some i h =
+      let p = passed-lines s z in
+      let some : 0 < length (lines s) = lines-some s (file-whole s (p .0) .0) in
+      others-some (getD (lines s) 0 []) i (p .1 0 some) h
+
+  pub words-some : (j i : ℕ) → suc j < length (lines s) → i < 2 → wide (length (getD (fields (getD (lines s) (suc j) [])) i [])) ≡ true
+  words-some j i h k = word-some (leastAt (lines s) j) (getD (lines s) (suc j) []) i (passed-lines s z .1 (suc j) h) k
