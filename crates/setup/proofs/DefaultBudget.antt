@@ -30,13 +30,16 @@ regions-same us vs k zero e = refl
 regions-same us vs k (suc n) e =
     rw (e k (omega arith), e (k + 1) (omega arith), e (k + 2) (omega arith), regions-same us vs (k + 3) n (λ i h. e i (omega arith)))
 
-abbrev setupWith : List ℕ → ℕ → Setup
-setupWith vs b =
-    record { pc = getD vs 0 0; options = getD vs 1 0; handler = getD vs 2 0; regions = regionsFrom vs 3 lastRegion; budget = b }
-
 abbrev readWith : ℕ → List ℕ → List ℕ → ℕ → ReadSetup
 readWith n vs ws b =
-    let s = setupWith vs b in
+    let s : Setup =
+    record {
+      pc = getD vs 0 0;
+      options = getD vs 1 0;
+      handler = getD vs 2 0;
+      regions = regionsFrom vs 3 lastRegion;
+      budget = b;
+    } in
     let range = leb (s .options) 0xff && (permissionsInRange (s .regions) && leb b 0xffffffff) in
     record { question = firstNo ((eqb n setupFields, 32) ∷ (allWide ws && true, 33) ∷ (range, 34) ∷ []); setup = s }
 
@@ -66,29 +69,29 @@ unfolding readSetup
 other-count r e = rw e
 
 module _ (before f : List ℕ) (h : count comma f ≡ 0) where
-  abbrev line : List ℕ
-  line = before ++ (comma ∷ f)
+  abbrev joined : List ℕ
+  joined = before ++ (comma ∷ f)
 
-  fields-all : length (fields line) ≡ length (fields before) + 1
+  fields-all : length (fields joined) ≡ length (fields before) + 1
   fields-all = ap length (field-then before f h) ∙ length-append (fields before) (f ∷ [])
 
   row-then : length (fields before) ≡ budgetField
-      → rowOf setupFields line ≡ rowWith setupFields (map (number 16) (fields before) ++ (number 16 f ∷ [])) (map length (fields before) ++ (length f ∷ []))
+      → rowOf setupFields joined ≡ rowWith setupFields (map (number 16) (fields before) ++ (number 16 f ∷ [])) (map length (fields before) ++ (length f ∷ []))
   row-then e =
-      row-full setupFields line (omega (arith, e, fields-all))
+      row-full setupFields joined (omega (arith, e, fields-all))
       ∙ ap (λ fs. rowWith setupFields (map (number 16) fs) (map length fs)) (field-then before f h)
       ∙ rw (map-append (number 16) (fields before) (f ∷ []), map-append length (fields before) (f ∷ []))
 
   read-then : (b : ℕ) → length (fields before) ≡ budgetField → cond (eqb (length f) 0) defaultBudget (number 16 f) ≡ b → leb (length f) 16 ≡ true
-      → readSetup (rowOf setupFields line) ≡ readWith setupFields (map (number 16) (fields before)) (map length (fields before)) b
+      → readSetup (rowOf setupFields joined) ≡ readWith setupFields (map (number 16) (fields before)) (map length (fields before)) b
   read-then b e =
       rw (row-then e) (read-with setupFields (map (number 16) (fields before)) (map length (fields before)) (number 16 f) (length f) b
-        (length-map (fields before) (number 16) ∙ e) (length-map (fields before) length ∙ e))
+      (length-map (fields before) (number 16) ∙ e) (length-map (fields before) length ∙ e))
 
-  refused-then : (length (fields before) ≡ budgetField → ⊥) → readSetup (rowOf setupFields line) .question ≡ 32
+  refused-then : (length (fields before) ≡ budgetField → ⊥) → readSetup (rowOf setupFields joined) .question ≡ 32
   refused-then n =
-      let other : rowOf setupFields line .count ≡ setupFields → ⊥ = λ e. n (omega (arith, e, row-count setupFields line, fields-all)) in
-      other-count (rowOf setupFields line) (ne-eqb (rowOf setupFields line .count) setupFields other)
+      let other : rowOf setupFields joined .count ≡ setupFields → ⊥ = λ e. n (omega (arith, e, row-count setupFields joined, fields-all)) in
+      other-count (rowOf setupFields joined) (ne-eqb (rowOf setupFields joined .count) setupFields other)
 
 -- the same question is failed first; where none is, the values are the same
 abbrev pub ReadAlike : ReadSetup → ReadSetup → Type 0

@@ -36,6 +36,7 @@ eqb-after k p q = by (eqb p q) refl
     by true e = eq-eqb (k + suc p) (k + suc q) (ap (λ n. k + suc n) (eqb-true p q e))
     by false e = ne-eqb (k + suc p) (k + suc q) (λ z. eqb-false p q e (omega (arith, z)))
 
+-- a text after it that has none changes nothing
 pub own-append : (s t : List ℕ) → allOwn t ≡ true → allOwn (s ++ t) ≡ allOwn s
 own-append s t e = by (allOwn s) refl
   where
