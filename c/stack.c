@@ -217,7 +217,7 @@ static void sheet_of(const char *text)
     measure(RESPOND);
 }
 
-/* A result, each refusal, a run of 1,000,000 steps, and the longest sheet with all registers set. */
+/* A result, each refusal, an empty budget, a run of 1,000,000 steps, and the longest sheet with all registers set. */
 static void sheets(void)
 {
     sheet_of("0,5,100,200,10,3,0,0,0,0,fffffffffffffff0,4,a\n0,00500513\n4,00a001ab\n8,0400005b\n");
@@ -227,6 +227,7 @@ static void sheets(void)
     sheet_of("0,5,,200,10,3,0,0,0,0,fffffffffffffff0,4,a\n");
     sheet_of("0,5,100,200,10,300,0,0,0,0,fffffffffffffff0,4,a\n");
     sheet_of("0,5,100,200,10,3,0,0,0,0,fffffffffffffff0,4,a\n4,0\n4,0\n");
+    sheet_of("0,0,0,0,0,0,0,0,0,0,ffffffffffff0000,4,\n0,0000006f\n");
     sheet_of("0,0,0,0,0,0,0,0,0,0,ffffffffffff0000,4,f4240\n0,0000006f\n");
     char *at = (char *)sheet + sprintf((char *)sheet, "0,0,0,0,0,0,0,0,0,0,ffffffffffff0000,4,f4240\n");
     for (unsigned n = 0; (uint8_t *)at + 14 < sheet + 65536; n++)

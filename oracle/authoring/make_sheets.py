@@ -2,8 +2,8 @@
 """Writes the sheets of crates/sheets/data and the page sheets.md beside this file.
 
 Each sheet stands below with the first line of its output, worked out by hand
-from document 01, as document 02 has changed it; some of RV64M and two long ones
-with all their registers too. `oracle sheets FOLDER` then
+from document 01, as document 02 has changed it; some of RV64M, some budgets and
+two long ones with all their registers too. `oracle sheets FOLDER` then
 prints what the oracle makes of them, and `--check FILE` holds that against the
 lines here. `--store ORACLE` writes data/index and stdout, the answers being the
 oracle's, if its first lines are those here.
@@ -127,7 +127,10 @@ def sized(total):
     return text
 
 
-sheet("length-65536", sized(65536), "21,3e8,fa0,0,0,0,0,0,0", "the longest sheet passes and runs its 1,000 steps", Q30)
+# This one stops after 1,000 steps, which are written out since Job 4; line 2 has three zeros fewer.
+LONGEST = sized(65536).replace(",4,\n000", ",4,3e8\n", 1)
+assert len(LONGEST) == 65536
+sheet("length-65536", LONGEST, "21,3e8,fa0,0,0,0,0,0,0", "the longest sheet passes and runs its 1,000 steps", Q30)
 sheet("length-65537", sized(65537), "sheet,30,0", "one byte more", Q30)
 sheet("length-65536-only-line-ends", "\n" * 65536, "sheet,32,1", "65,536 line ends pass 30; line 1 has one field", Q30)
 sheet("length-65537-only-line-ends", "\n" * 65537, "sheet,30,0", "65,537 line ends", Q30)
@@ -200,6 +203,15 @@ sheet("empty-options", setup(options=""), "sheet,33,1", "empty options", Q33)
 sheet("empty-handler", setup(handler=""), "sheet,33,1", "an empty handler", Q33)
 sheet("empty-permission", setup(r3=(0, mask(12), "")), "sheet,33,1", "an empty permission, beside the budget", Q33)
 sheet("empty-base", setup(r1=("", 0, 0)), "sheet,33,1", "an empty base", Q33)
+for name, region, shows in [
+    ("empty-bound-one", {"r1": (0, "", 0)}, "bound of region 1"), ("empty-permission-one", {"r1": (0, 0, "")}, "permission of region 1"),
+    ("empty-base-two", {"r2": ("", 0, 0)}, "base of region 2"), ("empty-mask-two", {"r2": (0, "", 0)}, "mask of region 2"),
+    ("empty-permission-two", {"r2": (0, 0, "")}, "permission of region 2"),
+    ("empty-base-three", {"r3": ("", mask(12), 4)}, "base of region 3"), ("empty-mask-three", {"r3": (0, "", 4)}, "mask of region 3"),
+]:
+    sheet(name, setup(budget=0xa, **region), "sheet,33,1", "an empty %s, the budget written out" % shows, Q33)
+sheet("empty-handler-c350", setup(handler="", budget=0xc350), "sheet,33,1", "an empty handler, 50,000 as budget", Q33)
+sheet("empty-handler-and-budget", program(J(0, 0), handler=""), "sheet,33,1", "handler and budget empty, a word follows: only the budget may be", Q33)
 sheet("thirteen-empty-fields", ",,,,,,,,,,,,\n", "sheet,33,1", "13 empty fields: only the budget may be", Q33)
 sheet("empty-address", SETUP + ",13\n", "sheet,33,2", "an empty address", Q33)
 sheet("empty-word", SETUP + "0,\n", "sheet,33,2", "an empty word", Q33)
@@ -296,8 +308,48 @@ sheet("three-before-ten", program(NOP, options=0x10, pc=2), "3,0,2,0,0,0,0,0,0",
 section("Budgets and stop 21")
 Q21 = "Before each step of a run: does the budget have a step left? No: **21**."
 LOOP = J(0, 0)
-sheet("budget-empty-loop", program(LOOP), "21,3e8,0,0,0,0,0,0,0", "an empty budget is 1,000 steps", "an empty budget means 1,000")
-sheet("budget-3e8-loop", program(LOOP, budget=0x3e8), "21,3e8,0,0,0,0,0,0,0", "1,000 written out", "an empty budget means 1,000")
+EMPTY = "02, Job 4: An empty budget now means 50,000."
+OLD = "02, Job 4: Your stored test sheets that relied on the old stop write `3e8`"
+sheet("budget-empty-loop", program(LOOP), "21,c350,0,0,0,0,0,0,0", "an empty budget is 50,000 steps", EMPTY)
+sheet("budget-c350-loop", program(LOOP, budget=0xc350), "21,c350,0,0,0,0,0,0,0", "50,000 written out: the same", EMPTY)
+sheet("budget-c350-sixteen-digits", program(LOOP, budget="000000000000c350"), "21,c350,0,0,0,0,0,0,0", "50,000 with leading zeros", EMPTY)
+sheet("budget-c34f-loop", program(LOOP, budget=0xc34f), "21,c34f,0,0,0,0,0,0,0", "one step fewer than the empty budget has", EMPTY)
+sheet("budget-c351-loop", program(LOOP, budget=0xc351), "21,c351,0,0,0,0,0,0,0", "one step more", EMPTY)
+sheet("budget-3e8-loop", program(LOOP, budget=0x3e8), "21,3e8,0,0,0,0,0,0,0", "1,000 written out stay 1,000 steps", OLD)
+sheet("budget-empty-unlocked", program(LOOP, options=0), "21,c350,0,0,0,0,0,0,0", "50,000 steps with regions unlocked", EMPTY)
+sheet("budget-empty-no-words", setup(pc=8), "13,0,8,0,0,0,0,0,0", "line 1 alone: there is a step left, and zeros are illegal", EMPTY)
+# 25,000 rounds of two words: x5 is 25,000 and pc at the start again.
+for name, budget in [("budget-empty-counting", ""), ("budget-c350-counting", 0xc350)]:
+    registers[name] = {5: 25000}
+    sheet(name, program(addi(5, 5, 1), J(0, -4), budget=budget), "21,c350,0,0,0,0,0,0,0", "25,000 rounds of two words", EMPTY)
+# The sum of 500 down to 1: one step, then 500 rounds of three, which are 1,501, or 5dd. 1,000 steps are 333 rounds: 167 is
+# still to be added, and 500 down to 168 are 125,250 less 167 * 168 / 2.
+SUM_DOWN = [addi(5, 0, 500), R(0x33, 0, 0, 10, 10, 5), addi(5, 5, -1), B(1, 5, 0, -8), ECALL]
+registers["budget-empty-past-1000"] = {10: 125250}
+registers["budget-3e8-too-small"] = {5: 167, 10: 111222}
+sheet("budget-empty-past-1000", program(*SUM_DOWN), "18,5dd,10,0,0,0,0,0,0", "1,501 steps by themselves: 21 before Job 4", EMPTY)
+sheet("budget-3e8-too-small", program(*SUM_DOWN, budget=0x3e8), "21,3e8,4,0,0,0,0,0,0", "the same with 1,000 written out: 21 as before", OLD)
+
+
+def rounds(n):
+    """x5 counts from n down to 0: two steps, then n rounds of two. The word after them stands at 10."""
+    assert n % 4096 < 2048
+    return [lui(5, n >> 12), addi(5, 5, n % 4096), addi(5, 5, -1), B(1, 5, 0, -4)]
+
+
+# 2 + 2 * 499 = 1,000; 2 + 2 * 24,999 = 50,000; 2 + 2 * 24,998 + 1 = 49,999, the one being a word that does nothing.
+for name, words, budget, first, shows in [
+    ("budget-empty-1000-then-call", [*rounds(499), ECALL], "", "18,3e8,10,0,0,0,0,0,0", "18 after 1,000 steps: 21 before Job 4"),
+    ("budget-empty-1000-then-exit", [*rounds(499), EXIT], "", "20,3e9,14,1,10,0,0,0,0", "step 1,001 leaves"),
+    ("budget-empty-exact-then-call", [*rounds(24999), ECALL], "", "21,c350,10,0,0,0,0,0,0", "50,000 steps: 21 before the step that would stop with 18"),
+    ("budget-empty-one-to-spare", [*rounds(24998), NOP, ECALL], "", "18,c34f,14,0,0,0,0,0,0", "49,999 steps, then 18"),
+    ("budget-empty-exact-leaving", [*rounds(24998), NOP, EXIT], "", "20,c350,18,1,14,0,0,0,0", "step 50,000 leaves: 20"),
+    ("budget-empty-one-short", [*rounds(24999), EXIT], "", "21,c350,10,0,0,0,0,0,0", "step 50,001 would leave: 21"),
+    ("budget-c351-then-call", [*rounds(24999), ECALL], 0xc351, "18,c350,10,0,0,0,0,0,0", "with one step more, 18 after 50,000"),
+    ("budget-c34f-then-call", [*rounds(24998), NOP, ECALL], 0xc34f, "21,c34f,14,0,0,0,0,0,0", "with one step fewer, 21 after 49,999"),
+]:
+    registers[name] = {}
+    sheet(name, program(*words, budget=budget), first, shows, EMPTY)
 sheet("budget-0", program(NOP, budget=0), "21,0,0,0,0,0,0,0,0", "no step", Q21)
 sheet("budget-0-odd-pc", program(NOP, pc=1, budget=0), "21,0,1,0,0,0,0,0,0", "21 before 10", Q21)
 sheet("budget-1", program(NOP, NOP, budget=1), "21,1,4,0,0,0,0,0,0", "one step", Q21)
@@ -1014,7 +1066,7 @@ sheet("long-31-after-65534-blank", "\n" * 65534 + "g\n", "sheet,31,65535", "the 
 def write():
     names = [r[0] for r in rows]
     assert len(set(names)) == len(names), [n for n in names if names.count(n) > 1]
-    for word in ("oven", "deck", "bake", "mill", "recipe"):
+    for word in ("oven", "deck", "bake", "mill", "recipe", "season"):
         assert not any(word in n for n in names), word
     os.makedirs(SHEETS, exist_ok=True)
     for name, content, _, _, _ in rows:
@@ -1022,7 +1074,7 @@ def write():
     out = ["# Stored sheets", "",
            "One file a sheet. The first lines were worked out by hand from document 01, or from",
            "document 02 where a row says `02` (they stand in `oracle/authoring/make_sheets.py`, which",
-           "writes this page, and so do the registers of most RV64M sheets and of two long ones), and then confirmed by the oracle. The sheets stand in `crates/sheets/data`; `crates/sheets/stdout` has",
+           "writes this page, and so do the registers of most RV64M sheets, of some budgets and of two long ones), and then confirmed by the oracle. The sheets stand in `crates/sheets/data`; `crates/sheets/stdout` has",
            "for each a line with its name and then the whole output.", ""]
     starts = dict(sections)
     for i, (name, _, first, shows, sentence) in enumerate(rows):

@@ -9,7 +9,7 @@ use crate::numbers::{bit, power};
 use crate::reach::writable;
 use crate::region::{keeps_rule, Place};
 use crate::step::{data_access, load_size, step_asked, store_size};
-use crate::supply::{sheet_of, Supply, AIMS};
+use crate::supply::{sheet_of, written_out, Supply, AIMS};
 
 /// What an engine under test offers. `None` means that it lacks the call.
 pub trait Engine {
@@ -130,6 +130,12 @@ pub struct Counts {
     pub long_most: usize,
     /// Refusals of long sheets by line (`LONG_PLACES`) and by question, from 31 on.
     pub long_refused: BTreeMap<&'static str, [u64; 5]>,
+    /// Sheets with an empty budget that were answered like those with c350, by what became of them.
+    pub empty_pairs: BTreeMap<&'static str, u64>,
+    /// Of them those of `EMPTY_STEPS`: their last word stops, or leaves.
+    pub empty_lasting: BTreeMap<&'static str, [u64; 2]>,
+    /// Sheets refused by 33 for another empty field.
+    pub empty_elsewhere: u64,
     pub isolation_stops: BTreeMap<u64, u64>,
     pub isolation_steps: u64,
     /// Isolation pairs whose memories truly differed.
@@ -155,6 +161,7 @@ impl Counts {
         all(&mut self.crossings, other.crossings);
         all(&mut self.resume_stops, other.resume_stops);
         all(&mut self.sheet_lines, other.sheet_lines);
+        all(&mut self.empty_pairs, other.empty_pairs);
         all(&mut self.isolation_stops, other.isolation_stops);
         for (name, (completed, stopped)) in other.instructions {
             let entry = self.instructions.entry(name).or_default();
@@ -173,6 +180,11 @@ impl Counts {
             let entry = self.long_refused.entry(place).or_default();
             (0..5).for_each(|n| entry[n] += met[n]);
         }
+        for (range, met) in other.empty_lasting {
+            let entry = self.empty_lasting.entry(range).or_default();
+            (0..2).for_each(|n| entry[n] += met[n]);
+        }
+        self.empty_elsewhere += other.empty_elsewhere;
         self.long_valid += other.long_valid;
         self.long_most = self.long_most.max(other.long_most);
         self.run_steps += other.run_steps;
@@ -436,25 +448,120 @@ pub fn compare_resume(left: &dyn Engine, right: &dyn Engine, machine: &Machine, 
 
 /// One sheet to both engines. Answers what the left one prints.
 pub fn compare_sheet(left: &dyn Engine, right: &dyn Engine, sheet: &[u8], counts: &mut Counts) -> String {
+    both_answers(left, right, sheet, counts).0
+}
+
+/// One sheet to both engines. Answers what each prints.
+fn both_answers(left: &dyn Engine, right: &dyn Engine, sheet: &[u8], counts: &mut Counts) -> (String, Option<Vec<u8>>) {
     let a = left.respond(sheet).expect("the measure responds");
     let text = String::from_utf8_lossy(&a).to_string();
     let first: Vec<&str> = text.split(',').collect();
     let key = if first[0] == "sheet" { format!("sheet,{}", first[1]) } else { first[0].to_string() };
     *counts.sheet_lines.entry(key).or_default() += 1;
-    if let Some(b) = right.respond(sheet) {
+    let answer = right.respond(sheet);
+    if let Some(b) = &answer {
         counts.compared += 1;
-        if a != b {
+        if a != *b {
             counts.difference(format!(
                 "sheet {:?}\n  {} {:?}\n  {} {:?}",
                 String::from_utf8_lossy(sheet),
                 left.title(),
                 text,
                 right.title(),
-                String::from_utf8_lossy(&b)
+                String::from_utf8_lossy(b)
             ));
         }
     }
+    (text, answer)
+}
+
+/// One sheet to both engines, and if its budget is empty the same with c350 there, which the right one must answer alike.
+/// Answers what the left one prints to the first.
+pub fn compare_budgets(left: &dyn Engine, right: &dyn Engine, sheet: &[u8], counts: &mut Counts) -> String {
+    let (text, answer) = both_answers(left, right, sheet, counts);
+    if let (Some(answer), Some(written)) = (answer, written_out(sheet)) {
+        let other = both_answers(left, right, &written, counts).1.expect("it responds");
+        if answer == other {
+            *counts.empty_pairs.entry(became(&text)).or_default() += 1;
+        } else {
+            let told = [sheet, &answer, &other].map(String::from_utf8_lossy);
+            counts.difference(format!("sheet {:?}\n  {:?}, with c350 {:?}", told[0], told[1], told[2]));
+        }
+    }
     text
+}
+
+/// What became of a sheet with an empty budget, by what was printed.
+fn became(text: &str) -> &'static str {
+    let fields: Vec<&str> = text.split(',').collect();
+    match (fields[0], u64::from_str_radix(fields[1], 16).expect("steps")) {
+        ("sheet", _) => "refused",
+        ("21", _) => "used up",
+        (_, 0..=1_000) => "ended within 1,000 steps",
+        _ => "ended later",
+    }
+}
+
+/// How many steps the program of a sheet with an empty budget completes before its last word: the name, the fewest, the most.
+pub const EMPTY_STEPS: [(&str, u64, u64); 8] = [
+    ("20 to 998", 20, 998),
+    ("999 to 1,001", 999, 1_001),
+    ("1,002 to 49,990", 1_002, 49_990),
+    ("49,991 to 49,998", 49_991, 49_998),
+    ("49,999", 49_999, 49_999),
+    ("50,000", 50_000, 50_000),
+    ("50,001 to 50,010", 50_001, 50_010),
+    ("50,011 to 1,000,000", 50_011, 1_000_000),
+];
+
+/// How many turns it takes until each number of steps has had a last word that stops and one that leaves.
+pub const EMPTY_TURNS: u64 = 2 * EMPTY_STEPS.len() as u64;
+
+/// A sheet with an empty budget, going by the turn; none from `EMPTY_TURNS` on.
+pub fn empty_budget(left: &dyn Engine, right: &dyn Engine, supply: &mut Supply, turn: u64, counts: &mut Counts) {
+    let Some((range, fewest, most)) = EMPTY_STEPS.get(turn as usize / 2) else { return };
+    let (leaves, steps) = (turn % 2, fewest + supply.below(most - fewest + 1));
+    let (lines, stop) = supply.lasting_lines(steps, leaves == 1);
+    let printed = compare_budgets(left, right, &sheet_of(&lines), counts);
+    // 50,000 steps do not reach the word after them; the step that leaves counts.
+    let expected = if steps < 50_000 { format!("{stop},{:x},", steps + leaves) } else { "21,c350,".to_string() };
+    if printed.starts_with(&expected) {
+        counts.empty_lasting.entry(range).or_default()[leaves as usize] += 1;
+    } else {
+        counts.difference(format!("{steps} steps and then {stop} are answered by {printed:?}"));
+    }
+}
+
+/// A sheet with an empty budget and another empty field, for each of line 1 and for both of line 2; 33 refuses it.
+pub fn empty_elsewhere(left: &dyn Engine, right: &dyn Engine, supply: &mut Supply, counts: &mut Counts) {
+    let (lines, _) = supply.lasting_lines(20, false);
+    for (line, place) in (0..12).map(|place| (0, place)).chain([(1, 0), (1, 1)]) {
+        let mut changed = lines.clone();
+        let mut fields: Vec<&[u8]> = lines[line].split(|byte| *byte == b',').collect();
+        fields[place] = b"";
+        changed[line] = fields.join(&b',');
+        let printed = compare_budgets(left, right, &sheet_of(&changed), counts);
+        if printed == format!("sheet,33,{}\n", line + 1) {
+            counts.empty_elsewhere += 1;
+        } else {
+            counts.difference(format!("field {} of line {} is empty: {printed:?}", place + 1, line + 1));
+        }
+    }
+}
+
+/// The numbers of steps that no sheet with an empty budget had before it stopped, or left, and what else was not met.
+pub fn empty_budgets_unmet(counts: &Counts) -> Vec<String> {
+    let mut unmet = Vec::new();
+    for (range, _, _) in EMPTY_STEPS {
+        let met = counts.empty_lasting.get(range).copied().unwrap_or_default();
+        for n in (0..2).filter(|n| met[*n] == 0) {
+            unmet.push(format!("no sheet with an empty budget {} after {range} steps", ["stopped", "left"][n]));
+        }
+    }
+    if counts.empty_elsewhere == 0 {
+        unmet.push("no sheet had another empty field".to_string());
+    }
+    unmet
 }
 
 /// Where in a long sheet a line is refused: the name, and the first and the last such line of a sheet of so many.
@@ -680,9 +787,9 @@ pub fn rounds(left: &dyn Engine, right: &dyn Engine, seed: u64, number: u64, cou
         }
         for _ in 0..2 {
             let valid = supply.valid_sheet();
-            compare_sheet(left, right, &valid, counts);
+            compare_budgets(left, right, &valid, counts);
             let damaged = supply.damaged_sheet();
-            compare_sheet(left, right, &damaged, counts);
+            compare_budgets(left, right, &damaged, counts);
         }
         for turn in 0..8 {
             isolation_pair(right, &mut supply, turn, length, counts);
@@ -690,11 +797,18 @@ pub fn rounds(left: &dyn Engine, right: &dyn Engine, seed: u64, number: u64, cou
         if round % LONG_EVERY == 0 {
             long_sheets(left, right, &mut supply, round / LONG_EVERY, counts);
         }
+        if round % EMPTY_EVERY == 0 {
+            empty_elsewhere(left, right, &mut supply, counts);
+        }
+        empty_budget(left, right, &mut supply, round % EMPTY_EVERY, counts);
     }
 }
 
 /// Long sheets take longer than a round, so one round in so many has them.
 const LONG_EVERY: u64 = 200;
+
+/// So do sheets with an empty budget: of so many rounds only the first have them.
+const EMPTY_EVERY: u64 = 1_000;
 
 /// Any machine over a memory of random words: steps, a run, a resumption.
 fn any_machine(left: &dyn Engine, right: &dyn Engine, supply: &mut Supply, memory: &[u8], counts: &mut Counts) {
@@ -843,6 +957,12 @@ pub fn print_counts(counts: &Counts) {
     for (place, _) in LONG_PLACES {
         let met = counts.long_refused.get(place).copied().unwrap_or_default();
         println!("  {place}: {}", met.map(|count| count.to_string()).join(" "));
+    }
+    println!("sheets with an empty budget, answered like those with c350: {:?}", counts.empty_pairs);
+    println!("refused for another empty field: {}; so many steps before a word that stops, that leaves:", counts.empty_elsewhere);
+    for (range, _, _) in EMPTY_STEPS {
+        let met = counts.empty_lasting.get(range).copied().unwrap_or_default();
+        println!("  {range}: {}", met.map(|count| count.to_string()).join(" "));
     }
     println!(
         "isolation stops {:?}, steps {}, pairs with different memories {}, pairs in which a run changed its memory {}",

@@ -5,7 +5,8 @@ use crate::run::run;
 
 pub const SHEET_LIMIT: usize = 65_536;
 pub const SHEET_MEMORY: usize = 65_536;
-pub const EMPTY_BUDGET: u64 = 1_000;
+/// Document 02, Job 4: "An empty budget now means 50,000."
+pub const EMPTY_BUDGET: u64 = 50_000;
 const SETUP_FIELDS: usize = 13;
 const WORD_FIELDS: usize = 2;
 

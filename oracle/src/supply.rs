@@ -75,6 +75,9 @@ pub const AIMED_LENGTH: usize = 12_288;
 /// Registers that a run leaves alone: two offsets inside region 1 and an edge.
 const OFFSETS: [u64; 3] = [17, 18, 29];
 
+/// Another, which counts the rounds of a loop.
+const ROUNDS: u64 = 20;
+
 /// A small generator of random numbers; the same seed gives the same numbers.
 pub struct Supply {
     state: u64,
@@ -922,7 +925,7 @@ impl Supply {
             text.push(',');
         }
         match self.below(12) {
-            0 => {}
+            0 if self.once_in(2) => {} // not often, as it may take 50,000 steps
             1 if self.once_in(8) => text.push_str("f4240"),
             2 if self.once_in(4) => text.push_str("f4241"),
             3 if self.once_in(4) => text.push_str("ffffffff"),
@@ -1073,6 +1076,61 @@ impl Supply {
         lines
     }
 
+    /// A word that neither jumps nor stops where x1, x2 and x8 are those of `lasting_lines`, and writes to none of them.
+    fn harmless(&mut self) -> Instruction {
+        loop {
+            let rs1 = self.pick(&[0, 1, 2, 8]);
+            match self.steady_instruction() {
+                Instruction::Jal { .. } | Instruction::Jalr { .. } | Instruction::Branch { .. } => {}
+                Instruction::System { .. } | Instruction::Hfi { .. } => {}
+                Instruction::HLoad { kind, rd, offset, .. } => return Instruction::HLoad { kind, rd, rs1, offset },
+                Instruction::HStore { kind, rs2, offset, .. } => return Instruction::HStore { kind, rs1, rs2, offset },
+                other => return other,
+            }
+        }
+    }
+
+    /// A program that completes so many steps, 20 or more, and then comes to the word after its last: a loop of up to seven
+    /// words, then as many words as are left over.
+    fn lasting_program(&mut self, steps: u64) -> Vec<Instruction> {
+        let lui = |rd, field| Instruction::Upper { kind: UpperKind::Lui, rd, field };
+        let addi = |rs1, value| Instruction::Immediate { kind: ImmediateKind::Addi, rd: ROUNDS, rs1, value };
+        let inside = self.below(6);
+        let (rounds, rest) = ((steps - 5) / (inside + 2), (steps - 5) % (inside + 2));
+        let upper = (rounds + 0x800) >> 12;
+        let lower = rounds as i64 - (upper << 12) as i64;
+        let mut program = vec![lui(1, 5), lui(2, 6), lui(8, 7), lui(ROUNDS, upper), addi(ROUNDS, lower)];
+        program.extend((0..inside).map(|_| self.harmless()));
+        program.push(addi(ROUNDS, -1));
+        program.push(Instruction::Branch { kind: BranchKind::Bne, rs1: ROUNDS, rs2: 0, offset: -4 * (inside as i64 + 1) });
+        program.extend((0..rest).map(|_| self.harmless()));
+        program
+    }
+
+    /// The lines of a valid sheet with an empty budget, without their ends, whose program completes so many steps, 20 or
+    /// more, and then comes to a word that leaves or to one that stops; and the number which that word gives.
+    pub fn lasting_lines(&mut self, steps: u64, leaves: bool) -> (Vec<Vec<u8>>, u64) {
+        const ECALL: u64 = 0x73;
+        let (stop, last) = match leaves {
+            true => (20, self.pick(&[ECALL, 0x0400_005b])),
+            false => self.pick(&[(13, 0), (18, ECALL), (19, 0x0010_0073)]),
+        };
+        let (mut options, handler) = (self.below(16), self.below(0x4000) * 4);
+        if last == ECALL {
+            options = options & !2 | 2 * leaves as u64;
+        }
+        // Code below 1000, ordinary data 4000 to 7fff, the explicit region above.
+        let setup = [0, options, handler, 0x8000, 0x8000, 3, 0x4000, ALL << 14, 3, 0, ALL << 12, 4];
+        let first: Vec<String> = setup.into_iter().map(|value| self.digits(value)).collect();
+        let mut lines = vec![(first.join(",") + ",").into_bytes()];
+        let program = self.lasting_program(steps);
+        let words = program.iter().map(|instruction| encode(instruction).expect("in range") as u64).chain([last]);
+        for (n, word) in words.enumerate() {
+            lines.push(format!("{},{}", self.digits(4 * n as u64), self.digits(word)).into_bytes());
+        }
+        (lines, stop)
+    }
+
     /// Changes line k of `long_lines` so that this question refuses it, in one of up to three ways for which there is room.
     /// Not for 35 in lines 1 and 2.
     pub fn plant(&mut self, lines: &mut [Vec<u8>], question: u64, k: usize) {
@@ -1127,6 +1185,15 @@ pub fn sheet_of(lines: &[Vec<u8>]) -> Vec<u8> {
     let mut bytes = lines.join(&b'\n');
     bytes.push(b'\n');
     bytes
+}
+
+/// The sheet with c350 written in place of an empty budget: the last of 13 fields of line 1. None if it is not empty or if
+/// there is no room.
+pub fn written_out(sheet: &[u8]) -> Option<Vec<u8>> {
+    let end = sheet.iter().position(|byte| *byte == b'\n')?;
+    let commas = sheet[..end].iter().filter(|byte| **byte == b',').count();
+    let empty = commas == 12 && sheet[end - 1] == b',';
+    (empty && sheet.len() + 4 <= SHEET_LIMIT).then(|| [&sheet[..end], b"c350", &sheet[end..]].concat())
 }
 
 /// The address of a word line.

@@ -1,8 +1,11 @@
 //! Directed tests of questions 30 to 35 and of the printed form.
 
-use oracle::compare::{long_sheets, long_sheets_unmet, rounds, Counts, Engine, Oracle, H_ROUNDS};
+use oracle::compare::{
+    empty_budget, empty_budgets_unmet, empty_elsewhere, long_sheets, long_sheets_unmet, rounds, Counts, Engine, Oracle,
+    EMPTY_TURNS, H_ROUNDS,
+};
 use oracle::sheet::read_sheet;
-use oracle::supply::{sheet_of, Supply};
+use oracle::supply::{sheet_of, written_out, Supply};
 use oracle::{respond, Machine};
 
 const SETUP: &str = "0,0,0,0,0,0,0,0,0,0,fffffffffffffff0,4,a\n";
@@ -104,7 +107,67 @@ fn line_numbers_are_decimal() {
 #[test]
 fn steps_are_hexadecimal() {
     check("0,0,0,0,0,0,0,0,0,0,fffffffffffffff0,4,1f\n0,6f\n", "21,1f,0,0,0,0,0,0,0\n");
-    check("0,0,0,0,0,0,0,0,0,0,fffffffffffffff0,4,\n0,6f\n", "21,3e8,0,0,0,0,0,0,0\n");
+    check("0,0,0,0,0,0,0,0,0,0,fffffffffffffff0,4,\n0,6f\n", "21,c350,0,0,0,0,0,0,0\n");
+}
+
+/// A sheet with this budget: n rounds of two words, which take 2 + 2n steps, then these lines from 10 on.
+fn rounds_of(n: u64, budget: &str, then: &str) -> String {
+    assert!(n & 0xfff < 0x800);
+    // lui x5; addi x5,x5; addi x5,x5,-1; bne x5,x0,-4
+    let words = format!("0,{:x}\n4,{:x}\n8,fff28293\nc,fe029ee3\n", n >> 12 << 12 | 0x2b7, (n & 0xfff) << 20 | 0x28293);
+    format!("0,0,0,0,0,0,0,0,0,0,ffffffffffffffe0,4,{budget}\n{words}{then}")
+}
+
+#[test]
+fn an_empty_budget_is_50_000() {
+    for budget in ["", "c350", "0c350", "000000000000c350"] {
+        // never ends; 50,000 and 49,999 steps before an ECALL; the 50,000th and the 50,001st leaves
+        check(&format!("0,0,0,0,0,0,0,0,0,0,fffffffffffffff0,4,{budget}\n0,6f\n"), "21,c350,0,0,0,0,0,0,0\n");
+        check(&rounds_of(24_999, budget, "10,73\n"), "21,c350,10,0,0,0,0,0,0\n");
+        check(&rounds_of(24_998, budget, "10,13\n14,73\n"), "18,c34f,14,0,0,0,0,0,0\n");
+        check(&rounds_of(24_998, budget, "10,13\n14,400005b\n"), "20,c350,18,1,14,0,0,0,0\n");
+        check(&rounds_of(24_999, budget, "10,400005b\n"), "21,c350,10,0,0,0,0,0,0\n");
+        // about the old default
+        check(&rounds_of(499, budget, "10,73\n"), "18,3e8,10,0,0,0,0,0,0\n");
+        check(&rounds_of(499, budget, "10,13\n14,73\n"), "18,3e9,14,0,0,0,0,0,0\n");
+        // only line 1; 3 before any step
+        check(&format!("8,0,0,0,0,0,0,0,0,0,fffffffffffffff0,4,{budget}\n"), "13,0,8,0,0,0,0,0,0\n");
+        check(&format!("8,10,0,0,0,0,0,0,0,0,fffffffffffffff0,4,{budget}\n"), "3,0,8,0,0,0,0,0,0\n");
+    }
+    check(&rounds_of(24_999, "c34f", "10,73\n"), "21,c34f,c,0,0,0,0,0,0\n");
+    check(&rounds_of(24_999, "c351", "10,73\n"), "18,c350,10,0,0,0,0,0,0\n");
+    check(&rounds_of(499, "3e8", "10,73\n"), "21,3e8,10,0,0,0,0,0,0\n");
+}
+
+#[test]
+fn only_the_budget_may_be_empty() {
+    for budget in ["", "c350"] {
+        for place in 0..12 {
+            let mut fields = vec!["0"; 12];
+            fields[place] = "";
+            check(&format!("{},{budget}\n0,13\n", fields.join(",")), "sheet,33,1\n");
+        }
+        let first = "0,0,0,0,0,0,0,0,0,0,0,0";
+        check(&format!("{first},{budget}\n,13\n"), "sheet,33,2\n");
+        check(&format!("{first},{budget}\n0,\n"), "sheet,33,2\n");
+        check(&format!("{first}{budget}\n"), "sheet,32,1\n");
+    }
+}
+
+/// A longest sheet may have an empty budget though there is no room to write it out.
+#[test]
+fn the_longest_sheet_with_an_empty_budget() {
+    let setup = "0,0,0,0,0,0,0,0,0,0,fffffffffffffff0,4,\n0,6f\n";
+    let zeros = |count: usize| (1..=count).map(|n| format!("{:016x},{:016x}\n", 4 * n, 0)).collect::<String>();
+    let count = (65_536 - setup.len()) / 34;
+    let short = format!("{setup}{}", zeros(count));
+    let longest = short.replacen("0,6f", &format!("{:0width$x},6f", 0, width = 1 + 65_536 - short.len()), 1);
+    assert!(longest.len() == 65_536 && longest.lines().count() == count + 2);
+    check(&longest, "21,c350,0,0,0,0,0,0,0\n");
+    assert_eq!(written_out(longest.as_bytes()), None);
+    let four_less = longest.replacen("0000", "", 1);
+    assert_eq!(written_out(four_less.as_bytes()).unwrap().len(), 65_536);
+    check(&four_less, "21,c350,0,0,0,0,0,0,0\n");
 }
 
 #[test]
@@ -188,12 +251,12 @@ fn long_sheets_tell_the_line() {
     }
 }
 
-/// The oracle with another line number in its refusals: what it makes of the sheet's lines, the question and the line.
-struct Miscounting(fn(&[&[u8]], u64, usize) -> usize);
+/// An engine that answers sheets so, and nothing else.
+struct Answering<F: Fn(&[u8]) -> Vec<u8>>(F);
 
-impl Engine for Miscounting {
+impl<F: Fn(&[u8]) -> Vec<u8>> Engine for Answering<F> {
     fn title(&self) -> String {
-        "miscounting".to_string()
+        "answering".to_string()
     }
     fn decode_encode(&self, _word: u32) -> Option<(u64, u32)> {
         None
@@ -208,18 +271,22 @@ impl Engine for Miscounting {
         None
     }
     fn respond(&self, sheet: &[u8]) -> Option<Vec<u8>> {
-        let Err((question, line)) = read_sheet(sheet) else { return Some(respond(sheet)) };
-        let lines: Vec<&[u8]> = sheet.split(|byte| *byte == b'\n').collect();
-        let line = if question == 30 { 0 } else { (self.0)(&lines, question, line) };
-        Some(format!("sheet,{question},{line}\n").into_bytes())
+        Some((self.0)(sheet))
     }
 }
 
-/// How many of the sheets that long sheets come to are answered otherwise.
-fn miscounted(line: fn(&[&[u8]], u64, usize) -> usize) -> u64 {
+/// How many of the sheets that long sheets come to are answered otherwise, if refusals have another line number: what the
+/// fault makes of the sheet's lines, the question and the line.
+fn miscounted(fault: fn(&[&[u8]], u64, usize) -> usize) -> u64 {
+    let engine = Answering(|sheet: &[u8]| {
+        let Err((question, line)) = read_sheet(sheet) else { return respond(sheet) };
+        let lines: Vec<&[u8]> = sheet.split(|byte| *byte == b'\n').collect();
+        let line = if question == 30 { 0 } else { fault(&lines, question, line) };
+        format!("sheet,{question},{line}\n").into_bytes()
+    });
     let mut counts = Counts::default();
     for turn in 0..4 {
-        long_sheets(&Oracle, &Miscounting(line), &mut Supply::new(turn), turn, &mut counts);
+        long_sheets(&Oracle, &engine, &mut Supply::new(turn), turn, &mut counts);
     }
     counts.differing
 }
@@ -248,6 +315,89 @@ fn miscounts_are_caught() {
     for (n, fault) in faults.into_iter().enumerate() {
         assert!(miscounted(fault) > 0, "fault {n}");
     }
+}
+
+/// The sheet with these digits in an empty field of this line and place, both from 0; another sheet as it is.
+fn filled(sheet: &[u8], line: usize, place: usize, digits: &str) -> Vec<u8> {
+    let mut lines: Vec<Vec<u8>> = sheet.split(|byte| *byte == b'\n').map(|line| line.to_vec()).collect();
+    let mut fields: Vec<&[u8]> = lines.get(line).map_or(Vec::new(), |line| line.split(|byte| *byte == b',').collect());
+    if fields.get(place).is_some_and(|field| field.is_empty()) {
+        fields[place] = digits.as_bytes();
+        lines[line] = fields.join(&b',');
+    }
+    lines.join(&b'\n')
+}
+
+/// An engine that takes an empty field as if these digits stood there.
+fn filling(line: usize, place: usize, digits: &str) -> impl Engine + '_ {
+    Answering(move |sheet: &[u8]| respond(&filled(sheet, line, place, digits)))
+}
+
+/// How many of the sheets with an empty budget are answered otherwise.
+fn misread(engine: impl Engine) -> u64 {
+    let mut counts = Counts::default();
+    for turn in 0..EMPTY_TURNS {
+        empty_budget(&Oracle, &engine, &mut Supply::new(turn), turn, &mut counts);
+    }
+    counts.differing
+}
+
+/// How many of those with another empty field.
+fn passed_over(engine: impl Engine) -> u64 {
+    let mut counts = Counts::default();
+    empty_elsewhere(&Oracle, &engine, &mut Supply::new(1), &mut counts);
+    counts.differing
+}
+
+#[test]
+fn other_defaults_are_caught() {
+    assert_eq!(misread(filling(0, 12, "c350")), 0);
+    assert_eq!(passed_over(filling(0, 12, "c350")), 0);
+    // the old default, one step off, the digits of 50,000, others
+    for digits in ["3e8", "c34f", "c351", "50000", "c3500", "0", "1", "f4240", "f4241", "ffffffff"] {
+        assert!(misread(filling(0, 12, digits)) > 0, "{digits}");
+    }
+    // a default for another field
+    for (line, place) in (0..12).map(|place| (0, place)).chain([(1, 0), (1, 1)]) {
+        assert!(passed_over(filling(line, place, "c350")) > 0, "field {place}");
+        assert!(passed_over(filling(line, place, "0")) > 0, "field {place}");
+    }
+    // c350 written out has the old meaning; an empty budget is refused
+    let written = |sheet: &[u8]| respond(String::from_utf8_lossy(sheet).replacen(",c350\n", ",3e8\n", 1).as_bytes());
+    assert!(misread(Answering(written)) > 0);
+    let refusing = |sheet: &[u8]| if written_out(sheet).is_some() { b"sheet,33,1\n".to_vec() } else { respond(sheet) };
+    assert!(misread(Answering(refusing)) > 0);
+    // by the whole comparison too
+    for engine in [filling(0, 12, "3e8"), filling(0, 2, "c350")] {
+        let mut counts = Counts::default();
+        rounds(&Oracle, &engine, 1, EMPTY_TURNS, &mut counts);
+        assert!(counts.differing > 0);
+    }
+}
+
+/// Programs that are to complete so many steps do so where the budget lets them.
+#[test]
+fn lasting_programs_last() {
+    let mut supply = Supply::new(1);
+    for steps in (20..60).chain([998, 1_000, 4_096, 49_999, 50_000, 50_001, 50_010, 500_000, 999_998]) {
+        for leaves in [false, true] {
+            let (lines, stop) = supply.lasting_lines(steps, leaves);
+            let written = filled(&sheet_of(&lines), 0, 12, "f4240");
+            let printed = String::from_utf8(respond(&written)).unwrap();
+            assert!(printed.starts_with(&format!("{stop},{:x},", steps + leaves as u64)), "{steps} {stop} {printed}");
+        }
+    }
+}
+
+/// The fewest rounds that ask for it have each number of steps of empty budgets.
+#[test]
+fn every_number_of_steps_is_met() {
+    let mut counts = Counts::default();
+    rounds(&Oracle, &Oracle, 100, EMPTY_TURNS, &mut counts);
+    assert!(counts.differences.is_empty(), "{:?}", counts.differences);
+    assert_eq!(empty_budgets_unmet(&counts), Vec::<String>::new());
+    // Each is asked for, and another empty field.
+    assert_eq!(empty_budgets_unmet(&Counts::default()).len() as u64, EMPTY_TURNS + 1);
 }
 
 /// The fewest rounds that ask for it have a fault for each question in each place, whatever the seed.

@@ -5,7 +5,8 @@
 //! proved static library, with `--features proved`). Ends with 1 if there is a difference.
 
 use oracle::compare::{
-    compare_step, h_words_unmet, long_memories, long_sheets_unmet, print_counts, rounds, Counts, Engine, Oracle, H_ROUNDS,
+    compare_step, empty_budgets_unmet, h_words_unmet, long_memories, long_sheets_unmet, print_counts, rounds, Counts, Engine,
+    Oracle, EMPTY_TURNS, H_ROUNDS,
 };
 use oracle::sheet::{print_result, read_sheet, sheet_memory};
 use oracle::Machine;
@@ -68,6 +69,9 @@ fn main() {
         if many / threads >= H_ROUNDS {
             let unmet = [h_words_unmet(&counts), oracle::m_words::unmet(&counts.m_words), long_sheets_unmet(&counts)].concat();
             unmet.into_iter().for_each(|text| counts.difference(text));
+        }
+        if many / threads >= EMPTY_TURNS {
+            empty_budgets_unmet(&counts).into_iter().for_each(|text| counts.difference(text));
         }
         print_counts(&counts);
     }
