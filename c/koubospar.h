@@ -193,7 +193,8 @@ struct koubospar_encoded koubospar_encode(struct koubospar_instruction instructi
 /* What the sheet program prints for the sheet `input`: either the one line of a refusal (30 to 35), or the result of the
  * run and its registers. It stands at the start of `output`; the number of bytes is answered, and those after them are
  * left as they were. The run has a memory of its own, on the stack (64 KiB). "An empty budget now means 50,000": such a
- * sheet has the answer of the same sheet with c350 written there. koubospar_run has no default, its budget is given. */
+ * sheet is answered like the same sheet with c350 written there, where that has at most 65,536 bytes. koubospar_run has no
+ * default. */
 size_t koubospar_respond(const uint8_t *input, size_t length, uint8_t output[KOUBOSPAR_MOST]);
 
 /* ---- a test of these declarations ----------------------------------------------------------------------------- */

@@ -318,6 +318,18 @@ sheet("budget-c351-loop", program(LOOP, budget=0xc351), "21,c351,0,0,0,0,0,0,0",
 sheet("budget-3e8-loop", program(LOOP, budget=0x3e8), "21,3e8,0,0,0,0,0,0,0", "1,000 written out stay 1,000 steps", OLD)
 sheet("budget-empty-unlocked", program(LOOP, options=0), "21,c350,0,0,0,0,0,0,0", "50,000 steps with regions unlocked", EMPTY)
 sheet("budget-empty-no-words", setup(pc=8), "13,0,8,0,0,0,0,0,0", "line 1 alone: there is a step left, and zeros are illegal", EMPTY)
+sheet("budget-empty-all-options", program(LOOP, options=0xf), "21,c350,0,0,0,0,0,0,0", "50,000 steps with every option", EMPTY)
+
+
+def long_loop(total):
+    """A sheet of that many bytes with an empty budget: a jump to itself, then words that are never fetched."""
+    return sized(total).replace("%016x\n" % NOP, "%016x\n" % LOOP, 1)
+
+
+ROOM = long_loop(65532)
+sheet("budget-empty-longest", long_loop(65536), "21,c350,0,0,0,0,0,0,0", "the longest sheet has no room for the digits of its budget", EMPTY)
+sheet("budget-empty-last-room", ROOM, "21,c350,0,0,0,0,0,0,0", "65,532 bytes: there is room for four digits", EMPTY)
+sheet("budget-c350-last-room", ROOM.replace(",4,\n", ",4,c350\n", 1), "21,c350,0,0,0,0,0,0,0", "with the digits it is 65,536 bytes long: the same", EMPTY)
 # 25,000 rounds of two words: x5 is 25,000 and pc at the start again.
 for name, budget in [("budget-empty-counting", ""), ("budget-c350-counting", 0xc350)]:
     registers[name] = {5: 25000}

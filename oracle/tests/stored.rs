@@ -20,7 +20,7 @@ fn sheets() {
         printed.extend(format!("{name}\n").into_bytes());
         printed.extend(oracle::respond(&input));
     }
-    assert!(index.lines().count() >= 768);
+    assert!(index.lines().count() >= 772);
     assert_eq!(String::from_utf8(printed).unwrap(), text("crates/sheets/stdout"));
 }
 
@@ -58,7 +58,7 @@ fn index() {
         assert_eq!(lines[at + 1], first, "{name}");
         seen += 1;
     }
-    assert!(seen >= 568);
+    assert!(seen >= 572);
 }
 
 /// The stored calls are those that the oracle writes, and it answers the

@@ -1,5 +1,6 @@
--- "An empty budget now means 50,000." (02, Job 4), read off the contract of the code's `respond`, so that nobody has to join the two:
--- two calls, each of which met its contract, on a sheet with an empty budget and on the same sheet with c350 written there.
+-- "A sheet with an empty field runs as with 50,000" (02, Job 4), read off the contract of the code's `respond`, so that nobody has to join
+-- contract and theorem: two calls, each of which met its contract, on a sheet with an empty budget and on the same sheet with c350 written
+-- there.
 -- Assumes nothing.
 use mathlib.Core.Path.{_≡_, ap, sym, _∙_}
 use mathlib.Core.List.{List, []}

@@ -55,6 +55,13 @@ rows =
     ∷ row (ascii "0,5,100,200,10,3,0,0,0,0,0,100,a\n") 34 1
     -- a budget above ffffffff
     ∷ row (ascii "0,5,100,200,10,3,0,0,0,0,0,4,100000000\n") 34 1
+    -- the largest budget, and one of 16 digits: accepted
+    ∷ row (ascii "0,5,100,200,10,3,0,0,0,0,0,4,ffffffff\n") 0 0
+    ∷ row (ascii "0,5,100,200,10,3,0,0,0,0,0,4,000000000000c350\n") 0 0
+    -- a budget of 17 digits
+    ∷ row (ascii "0,5,100,200,10,3,0,0,0,0,0,4,0000000000000000a\n") 33 1
+    -- 14 fields, the last of them empty
+    ∷ row (ascii "0,5,100,200,10,3,0,0,0,0,0,4,a,\n") 32 1
     -- an empty budget, leading zeros: accepted
     ∷ row (ascii "0,00000000000000ff,100,200,10,3,0,0,0,0,0,4,\n") 0 0
     -- the worked example's line 1 alone: accepted

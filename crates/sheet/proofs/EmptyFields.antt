@@ -1,4 +1,5 @@
--- "33: has each field 1 to 16 digits (an empty budget passes)?" (01): in a sheet that is not refused, no field but the budget is empty.
+-- "33: has each field 1 to 16 digits (an empty budget passes)?" (01): in a sheet that is not refused each field but the budget is 1 to 16
+-- bytes wide. (That its bytes are digits is 31.)
 use mathlib.Core.Path.{_≡_, refl}
 use mathlib.Core.Bool.{true}
 use mathlib.Core.List.{List, []}
@@ -12,15 +13,15 @@ use Rattle.text.proofs.Asking.{yes-at}
 use Rattle.text.proofs.Rows.{row-widths, row-wide}
 use Rattle.text.proofs.Splitting.{lines-some}
 use Rattle.setup.specs.Setup.{budgetField}
-use Rattle.setup.proofs.DefaultBudget.{others-some}
+use Rattle.setup.proofs.DefaultBudget.{others-wide}
 use Rattle.sheet.specs.Words.{wordOf, wordQuestions, readWord}
 use Rattle.sheet.specs.Sheet.{sheetRefusal}
 use Rattle.sheet.proofs.Laws.{file-whole}
 use Rattle.sheet.proofs.LineNumbers.{leastAt, passed-lines}
 
-word-some : (least : ℕ) (line : List ℕ) (i : ℕ) → readWord least (rowOf 2 line) .question ≡ 0 → i < 2 → wide (length (getD (fields line) i [])) ≡ true
+word-wide : (least : ℕ) (line : List ℕ) (i : ℕ) → readWord least (rowOf 2 line) .question ≡ 0 → i < 2 → wide (length (getD (fields line) i [])) ≡ true
 unfolding readWord
-word-some least line i z h =
+word-wide least line i z h =
     let r = rowOf 2 line in
     let asked = wordQuestions least r (wordOf r) in
     let n : r .count ≡ 2 = eqb-true (r .count) 2 (yes-at 0 asked refl z) in
@@ -28,11 +29,11 @@ word-some least line i z h =
     row-wide 2 2 i line n (rw both (yes-at 1 asked refl z)) h h
 
 module _ (s : List ℕ) (z : sheetRefusal s .question ≡ 0) where
-  pub setup-some : (i : ℕ) → i < budgetField → wide (length (getD (fields (getD (lines s) 0 [])) i [])) ≡ true
-  setup-some i h =
+  pub setup-wide : (i : ℕ) → i < budgetField → wide (length (getD (fields (getD (lines s) 0 [])) i [])) ≡ true
+  setup-wide i h =
       let p = passed-lines s z in
       let some : 0 < length (lines s) = lines-some s (file-whole s (p .0) .0) in
-      others-some (getD (lines s) 0 []) i (p .1 0 some) h
+      others-wide (getD (lines s) 0 []) i (p .1 0 some) h
 
-  pub words-some : (j i : ℕ) → suc j < length (lines s) → i < 2 → wide (length (getD (fields (getD (lines s) (suc j) [])) i [])) ≡ true
-  words-some j i h k = word-some (leastAt (lines s) j) (getD (lines s) (suc j) []) i (passed-lines s z .1 (suc j) h) k
+  pub words-wide : (j i : ℕ) → suc j < length (lines s) → i < 2 → wide (length (getD (fields (getD (lines s) (suc j) [])) i [])) ≡ true
+  words-wide j i h k = word-wide (leastAt (lines s) j) (getD (lines s) (suc j) []) i (passed-lines s z .1 (suc j) h) k

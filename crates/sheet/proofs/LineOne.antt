@@ -1,4 +1,4 @@
--- Two sheets that are the same after line 1: where their lines 1 are refused alike, so are they.
+-- Two sheets that are the same after line 1: where their lines 1 are refused and read alike, so are they.
 use mathlib.Core.Path.{_≡_, refl, ap, sym, _∙_}
 use mathlib.Core.Bool.{Bool, true, false, cond}
 use mathlib.Core.List.{List, [], _∷_, _++_}
@@ -28,26 +28,27 @@ sheetOf line rest = line ++ (newline ∷ rest)
 abbrev pub allOwn : List ℕ → Bool
 allOwn s = eqb (firstThat foreign s) (length s)
 
--- positions after line 1 and its end are the same exactly if they are in the rest
-eqb-after : (k p q : ℕ) → eqb (k + suc p) (k + suc q) ≡ eqb p q
-eqb-after k p q = by (eqb p q) refl
-  where
-    by : (t : Bool) → eqb p q ≡ t → eqb (k + suc p) (k + suc q) ≡ t
-    by true e = eq-eqb (k + suc p) (k + suc q) (ap (λ n. k + suc n) (eqb-true p q e))
-    by false e = ne-eqb (k + suc p) (k + suc q) (λ z. eqb-false p q e (omega (arith, z)))
-
--- a text after it that has none changes nothing
+-- a text without foreign bytes, put after another, changes nothing
 pub own-append : (s t : List ℕ) → allOwn t ≡ true → allOwn (s ++ t) ≡ allOwn s
 own-append s t e = by (allOwn s) refl
   where
     by : (u : Bool) → allOwn s ≡ u → allOwn (s ++ t) ≡ u
     by true f =
         let past = first-past foreign s t (eqb-true (firstThat foreign s) (length s) f) in
-        eq-eqb (firstThat foreign (s ++ t)) (length (s ++ t)) (past ∙ ap (λ n. length s + n) (eqb-true (firstThat foreign t) (length t) e) ∙ sym (length-append s t))
+        let end : firstThat foreign t ≡ length t = eqb-true (firstThat foreign t) (length t) e in
+        eq-eqb (firstThat foreign (s ++ t)) (length (s ++ t)) (past ∙ ap (λ n. length s + n) end ∙ sym (length-append s t))
     by false f =
         let off = eqb-false (firstThat foreign s) (length s) f in
         let inside : firstThat foreign s < length s = omega (arith, off, first-le foreign s) in
         ne-eqb (firstThat foreign (s ++ t)) (length (s ++ t)) (λ z. omega (arith, z, first-in foreign s t inside, length-append s t))
+
+-- two positions past line 1 are equal exactly if their places in the rest are
+eqb-after : (k p q : ℕ) → eqb (k + suc p) (k + suc q) ≡ eqb p q
+eqb-after k p q = by (eqb p q) refl
+  where
+    by : (t : Bool) → eqb p q ≡ t → eqb (k + suc p) (k + suc q) ≡ t
+    by true e = eq-eqb (k + suc p) (k + suc q) (ap (λ n. k + suc n) (eqb-true p q e))
+    by false e = ne-eqb (k + suc p) (k + suc q) (λ z. eqb-false p q e (omega (arith, z)))
 
 module _ (line rest : List ℕ) where
   long : length (sheetOf line rest) ≡ length line + suc (length rest)
@@ -58,7 +59,12 @@ module _ (line rest : List ℕ) where
   whole-after h =
       let last : length (sheetOf line rest) - 1 ≡ length line + length rest = omega (arith, long) in
       let some : 1 ≤ length (sheetOf line rest) = omega (arith, long) in
-      rw (le-leb 1 (length (sheetOf line rest)) some, le-leb (length (sheetOf line rest)) 65536 h, last, getD-append-add line (newline ∷ rest) (length rest) 0)
+      rw (
+        le-leb 1 (length (sheetOf line rest)) some,
+        le-leb (length (sheetOf line rest)) 65536 h,
+        last,
+        getD-append-add line (newline ∷ rest) (length rest) 0,
+      )
 
   -- a foreign byte stands in line 1, or in the rest
   foreign-after : count newline line ≡ 0

@@ -25,6 +25,11 @@ hexadecimal-back n h = spelled-digits 16 16 n (lit< tt) (lit≤ tt) (omega arith
 pub hexadecimal-number : (n : ℕ) → n < 2 ^ 64 → number 16 (hexadecimal n) ≡ n
 hexadecimal-number n h = rw (le-leb (length (hexadecimal n)) 16 (digits-le 16 16 n)) (hexadecimal-back n h)
 
+-- a zero before it, whose byte is 48, changes no number of at most 16 digits
+pub zero-before : (f : List ℕ) → length f < 16 → number 16 (48 ∷ f) ≡ number 16 f
+unfolding spelled
+zero-before f h = rw (le-leb (length (48 ∷ f)) 16 (omega arith), le-leb (length f) 16 (omega arith))
+
 pub hexadecimal-wide : (n : ℕ) → wide (length (hexadecimal n)) ≡ true
 hexadecimal-wide n =
     rw (le-leb 1 (length (hexadecimal n)) (digits-some 16 16 n (lit< tt))) (le-leb (length (hexadecimal n)) 16 (digits-le 16 16 n))
