@@ -121,16 +121,6 @@ pub default-alike : (before : List ℕ)
 unfolding count spelled
 default-alike before = default-read before (ascii "c350") refl refl refl
 
--- ---- no other field may be empty: where line 1 passes, each of them is 1 to 16 bytes wide
-pub others-wide : (line : List ℕ) (i : ℕ) → readSetup (rowOf setupFields line) .question ≡ 0 → i < budgetField
-    → wide (length (getD (fields line) i [])) ≡ true
-unfolding readSetup
-others-wide line i z h =
-    let r = rowOf setupFields line in
-    let asked = setupQuestions r (setupOf r) in
-    let wides = first-half (allWide (take budgetField (r .widths))) (leb (getD (r .widths) budgetField 0) 16) (yes-at 1 asked refl z) in
-    row-wide setupFields budgetField i line (eqb-true (r .count) setupFields (yes-at 0 asked refl z)) wides h (omega arith)
-
 -- ---- which budget it is
 
 -- what the last field of line 1 says: 50,000 where it is empty, else its number
@@ -147,21 +137,41 @@ budget-is line e =
       List·getD-map (number 16) (fields line) budgetField [],
     )
 
--- where line 1 passes, it has 13 fields, and the budget is at most 16 bytes wide and at most ffffffff
-pub budget-fits : (line : List ℕ) → readSetup (rowOf setupFields line) .question ≡ 0
-    → (length (fields line) ≡ 13)
-    × (length (getD (fields line) budgetField []) ≤ 16)
-    × (budgetOf (getD (fields line) budgetField []) ≤ 0xffffffff)
-unfolding readSetup
-budget-fits line z =
-    let r = rowOf setupFields line in
-    let asked = setupQuestions r (setupOf r) in
-    let n : length (fields line) ≡ setupFields = sym (row-count setupFields line) ∙ eqb-true (r .count) setupFields (yes-at 0 asked refl z) in
-    let narrow = second-half (allWide (take budgetField (r .widths))) (leb (getD (r .widths) budgetField 0) 16) (yes-at 1 asked refl z) in
-    let low = leb (setupOf r .budget) 0xffffffff in
-    let range = second-half (leb (setupOf r .options) 0xff) (permissionsInRange (setupOf r .regions) && low) (yes-at 2 asked refl z) in
-    let most = leb-true (setupOf r .budget) 0xffffffff (second-half (permissionsInRange (setupOf r .regions)) low range) in (
-      n,
-      leb-true _ 16 (rw (row-full setupFields line (sym n), List·getD-map length (fields line) budgetField []) at narrow),
-      rw (budget-is line n) at most,
-    )
+-- ---- where line 1 passes
+module _ (line : List ℕ) (z : readSetup (rowOf setupFields line) .question ≡ 0) where
+  abbrev row : Row
+  row = rowOf setupFields line
+
+  -- questions 32 to 34, answered yes
+  counted : length (fields line) ≡ setupFields
+  unfolding readSetup
+  counted = sym (row-count setupFields line) ∙ eqb-true (row .count) setupFields (yes-at 0 (setupQuestions row (setupOf row)) refl z)
+
+  widths-pass : allWide (take budgetField (row .widths)) && leb (getD (row .widths) budgetField 0) 16 ≡ true
+  unfolding readSetup
+  widths-pass = yes-at 1 (setupQuestions row (setupOf row)) refl z
+
+  values-pass : leb (setupOf row .options) 0xff && (permissionsInRange (setupOf row .regions) && leb (setupOf row .budget) 0xffffffff) ≡ true
+  unfolding readSetup
+  values-pass = yes-at 2 (setupQuestions row (setupOf row)) refl z
+
+  -- no other field is empty: each is 1 to 16 bytes wide
+  pub others-wide : (i : ℕ) → i < budgetField → wide (length (getD (fields line) i [])) ≡ true
+  others-wide i h =
+      let wides = first-half (allWide (take budgetField (row .widths))) (leb (getD (row .widths) budgetField 0) 16) widths-pass in
+      row-wide setupFields budgetField i line (row-count setupFields line ∙ counted) wides h (omega arith)
+
+  -- it has 13 fields, and the budget is at most 16 bytes wide and at most ffffffff
+  pub budget-fits : (length (fields line) ≡ 13)
+      × (length (getD (fields line) budgetField []) ≤ 16)
+      × (budgetOf (getD (fields line) budgetField []) ≤ 0xffffffff)
+  unfolding readSetup
+  budget-fits =
+      let narrow = second-half (allWide (take budgetField (row .widths))) (leb (getD (row .widths) budgetField 0) 16) widths-pass in
+      let low = leb (setupOf row .budget) 0xffffffff in
+      let range = second-half (leb (setupOf row .options) 0xff) (permissionsInRange (setupOf row .regions) && low) values-pass in
+      let most = leb-true (setupOf row .budget) 0xffffffff (second-half (permissionsInRange (setupOf row .regions)) low range) in (
+        counted,
+        leb-true _ 16 (rw (row-full setupFields line (sym counted), List·getD-map length (fields line) budgetField []) at narrow),
+        rw (budget-is line counted) at most,
+      )

@@ -33,7 +33,7 @@ module _ (s : List ℕ) (z : sheetRefusal s .question ≡ 0) where
   setup-wide i h =
       let p = passed-lines s z in
       let some : 0 < length (lines s) = lines-some s (file-whole s (p .0) .0) in
-      others-wide (getD (lines s) 0 []) i (p .1 0 some) h
+      others-wide (getD (lines s) 0 []) (p .1 0 some) i h
 
   pub words-wide : (j i : ℕ) → suc j < length (lines s) → i < 2 → wide (length (getD (fields (getD (lines s) (suc j) [])) i [])) ≡ true
   words-wide j i h k = word-wide (leastAt (lines s) j) (getD (lines s) (suc j) []) i (passed-lines s z .1 (suc j) h) k

@@ -4,7 +4,7 @@ use mathlib.Core.Bool.{Bool, true, false, cond}
 use mathlib.Core.List.{List, [], _∷_, _++_}
 use Prim.Native.Nat.{ℕ, suc, _+_, _-_, _<_, _≤_}
 use native.Mathlib.Omega.{arith}
-use lib.Dec.{eqb, leb}
+use lib.Dec.{eqb}
 use lib.ListN.{length, getD, length-append}
 use lib.Seq.{getD-append-add}
 use borrow.Author.Tests.{eqb-true, eqb-false, eq-eqb, ne-eqb, le-leb}
@@ -16,7 +16,7 @@ use Rattle.text.proofs.RoundTrip.{line-then}
 use Rattle.setup.specs.Setup.{setupFields, readSetup}
 use Rattle.setup.proofs.DefaultBudget.{ReadAlike}
 use Rattle.sheet.specs.Words.{readWord}
-use Rattle.sheet.specs.Sheet.{refusal, whole, foreign, foreignLine, fileNo, fileRefusal, wordsRefusal, linesRefusal, sheetRefusal, readSheet}
+use Rattle.sheet.specs.Sheet.{whole, foreign, foreignLine, fileNo, fileRefusal, wordsRefusal, linesRefusal, sheetRefusal, readSheet}
 use Rattle.sheet.proofs.Laws.{foreign-asked}
 use Rattle.sheet.proofs.LineNumbers.{passed-lines}
 

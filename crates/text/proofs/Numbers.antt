@@ -4,7 +4,7 @@ use mathlib.Core.Bool.{Bool, true, false, cond}
 use mathlib.Core.List.{List, [], _∷_, _++_}
 use Prim.Native.Nat.{ℕ, zero, suc, _+_, _*_, _-_, _/_, _%_, _^_, _<_, _≤_}
 use native.Mathlib.Numerals.{add-one}
-use native.Mathlib.Nat.{pow-zero, pow-succ', mul-le-mul-left, mul-comm, mul-one, mod-lt, le-div-iff-mul-le, pow-le-pow-right, lt-of-lt-of-le, div-add-mod', div-lt-iff-lt-mul}
+use native.Mathlib.Nat.{pow-zero, pow-succ', mul-le-mul-left, mul-comm, mod-lt, le-div-iff-mul-le, pow-le-pow-right, lt-of-lt-of-le, div-add-mod', div-lt-iff-lt-mul}
 use native.Mathlib.Omega.{arith}
 use lib.Dec.{ltb, lit<}
 use lib.ListN.{length, getD, drop, drop-of-length-le, length-append}
