@@ -7,7 +7,7 @@ ghost use Rattle.instructions.specs.declared.instruction.Instruction.the-varian
 ghost use Rattle.model.specs.Machine.{redirectsExits, withBase, withBound, withPermission, zeroRegions, entered as enteredOf, exited as exitedOf, withSelector, withRegions, withHandler, machine};
 ghost use Rattle.model.specs.WellFormed.{clearHandler};
 ghost use Rattle.model.specs.Outcome.{completed as completedOf, aligned};
-ghost use Rattle.model.specs.Hfi.{modeForbids, operandForbids, hfiStop, selected as selectedOf, changed as changedOf, hfiPerform};
+ghost use Rattle.model.specs.Hfi.{modeForbids, operandForbids, lockForbids, hfiStop, selected as selectedOf, changed as changedOf, hfiPerform};
 ghost use Rattle.model.specs.Step.{perform as performOf};
 ghost use Rattle.hart.specs.Effect.{effectWith};
 use hart::effect::Effect;
@@ -30,6 +30,7 @@ use model::LARGEST_OPTIONS;
 use model::LAST_REGION;
 use model::REGIONS;
 use model::Region;
+use reach::exposes_code;
 
 // Does the mode forbid the word?
 fn mode_forbids(h: HfiState, k: HfiKind) -> bool
@@ -73,6 +74,27 @@ fn operand_forbids(h: HfiState, k: HfiKind, a: u64) -> bool
     }
 }
 
+// Would the word begin a locked state with writable code?
+fn lock_forbids(h: HfiState, k: HfiKind, a: u64) -> bool
+    ensures { λ r. ⌜ r ≡ lockForbids h k a ⌝ }
+{
+    match k {
+        HfiKind::Enter => exposes_code(entered(h, a)),
+        HfiKind::EnterJump => exposes_code(entered(h, a)),
+        HfiKind::Exit => false,
+        HfiKind::SelectRegion => false,
+        HfiKind::SetBase => false,
+        HfiKind::GetBase => false,
+        HfiKind::SetBound => false,
+        HfiKind::GetBound => false,
+        HfiKind::SetPermission => false,
+        HfiKind::GetPermission => false,
+        HfiKind::SetHandler => false,
+        HfiKind::GetHandler => false,
+        HfiKind::ResetRegions => false,
+    }
+}
+
 // Question 8: its number, or 0.
 pub fn hfi_stop(h: HfiState, k: HfiKind, a: u64) -> u64
     ensures { λ r. ⌜ r ≡ hfiStop h k a ⌝ }
@@ -80,7 +102,10 @@ pub fn hfi_stop(h: HfiState, k: HfiKind, a: u64) -> u64
     if mode_forbids(h, k) {
         return 14;
     }
-    if operand_forbids(h, k, a) { 14 } else { 0 }
+    if operand_forbids(h, k, a) {
+        return 14;
+    }
+    if lock_forbids(h, k, a) { 22 } else { 0 }
 }
 
 // The selected region.

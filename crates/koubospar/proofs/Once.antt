@@ -10,6 +10,7 @@ use borrow.Author.Tests.{eqb-true}
 use Rattle.model.specs.Machine.{inside}
 use Rattle.model.specs.Outcome.{Outcome, stopped, steppedWith}
 use Rattle.model.specs.WellFormed.{wellFormed}
+use Rattle.model.specs.WritableCode.{exposesCode}
 use Rattle.model.specs.Step.{step, longest, stepCall}
 use Rattle.model.specs.Run.{Ended, ended, ranWith, runBy, run, runCall}
 use Rattle.model.specs.declared.Machine.{Machine}
@@ -41,13 +42,15 @@ run-once began m mem =
 call-once : (m : Machine) (mem : List ℕ) → asOutcome (runCall m mem 1) ≡ stepCall m mem
 unfolding runCall stepCall
 call-once m mem =
-    go (ltb longest (length mem)) (wellFormed m) (run (inside (m .hfi)) 1 0 m mem) (step m mem) (run-once (inside (m .hfi)) m mem)
+    go (ltb longest (length mem)) (wellFormed m) (exposesCode (m .hfi)) (run (inside (m .hfi)) 1 0 m mem) (step m mem) (run-once (inside (m .hfi)) m mem)
   where
-    go : (a b : Bool) (r : Ended) (o : Outcome) → asOutcome r ≡ o
-        → asOutcome (cond a (ended 1 0 0 m mem) (cond b r (ended 3 0 0 m mem))) ≡ cond a (stopped 1 m mem) (cond b o (stopped 3 m mem))
-    go true b r o e = refl
-    go false true r o e = e
-    go false false r o e = refl
+    go : (a b c : Bool) (r : Ended) (o : Outcome) → asOutcome r ≡ o
+        → asOutcome (cond a (ended 1 0 0 m mem) (cond b (cond c (ended 4 0 0 m mem) r) (ended 3 0 0 m mem)))
+        ≡ cond a (stopped 1 m mem) (cond b (cond c (stopped 4 m mem) o) (stopped 3 m mem))
+    go true b c r o e = refl
+    go false true true r o e = refl
+    go false true false r o e = e
+    go false false c r o e = refl
 
 -- so the answer of a run with budget 1 is, as a step's, the step's
 pub single : (m : Machine) (mem : List ℕ) (r : Ran) (s : List ℕ) → ranWith r s ≡ runCall m mem 1 → steppedWith (asStep r) s ≡ stepCall m mem

@@ -15,7 +15,7 @@ pub fn permits(wanted: u64, r: Region) -> bool
 }
 
 // The count of the mask's trailing zero bits.
-fn mask_zeros(mask: u64) -> u64
+pub fn mask_zeros(mask: u64) -> u64
     ensures { λ q. ⌜ q ≡ maskZeros mask ⌝ }
 {
     u64::trailing_zeros(mask) as u64

@@ -16,6 +16,7 @@ use Rattle.model.specs.Outcome.{stopped, allowed, aligned, settle}
 use Rattle.model.specs.WellFormed.{stateFits, wellFormed}
 use Rattle.model.specs.Hfi.{hfiStop, hWordStop, hfiPerform}
 use Rattle.model.specs.Regions.{explicitRule, matches, firstMatch, implicitGrants, explicitGrants}
+use Rattle.model.specs.WritableCode.{explicitHolds, writableCode, exposesCode}
 use Rattle.model.specs.Access.{scan, firstRefused, firstAbsent, verdict}
 use Rattle.model.specs.Step.{load, store, jump, branch, perform, executeWord, step, stepCall, resumeCall}
 use Rattle.model.specs.Run.{ended, runBy, runCall}
@@ -26,11 +27,11 @@ use Rattle.model.proofs.Rows.Answer.{told, gave}
 
 -- ---- words; those that read a register read x5 (and x6), those that write one write x6
 
-abbrev enter : ℕ
+abbrev pub enter : ℕ
 enter = 0x0002805b
 
 -- options in x5, target in x6
-abbrev enterJump : ℕ
+abbrev pub enterJump : ℕ
 enterJump = 0x0262805b
 
 abbrev exit : ℕ
@@ -73,7 +74,7 @@ abbrev ebreak : ℕ
 ebreak = 0x00100073
 
 -- addi x7, x0, 7
-abbrev seven : ℕ
+abbrev pub seven : ℕ
 seven = 0x00700393
 
 -- jal x0, .+2; beq x0, x0, .+6; beq x5, x0, .+6
@@ -115,34 +116,34 @@ busy =
     (reason, 2) ∷ (epc, 0x88) ∷ (handler, 0x40) ∷ (selector, 2)
     ∷ (base 1, 0x10) ∷ (bound 1, 8) ∷ (permission 1, 3)
     ∷ (base 2, 0x40) ∷ (bound 2, 0xffffffffffffffc0) ∷ (permission 2, 1)
-    ∷ (bound 3, 0xffffffffffffffe0) ∷ (permission 3, 4)
+    ∷ (bound 3, 0xfffffffffffffff0) ∷ (permission 3, 4)
     ∷ (occurred, 1) ∷ (faultRegion, 2) ∷ (op, 1) ∷ (faulting, 0x99) ∷ []
 
-abbrev outside : ℕ → List (ℕ × ℕ)
+abbrev pub outside : ℕ → List (ℕ × ℕ)
 outside o = busy ++ ((options, o) ∷ [])
 
-abbrev inside : ℕ → List (ℕ × ℕ)
+abbrev pub inside : ℕ → List (ℕ × ℕ)
 inside o = busy ++ ((mode, 1) ∷ (options, o) ∷ [])
 
 -- what x5 and x6 hold
-abbrev operands : ℕ → ℕ → List (ℕ × ℕ)
+abbrev pub operands : ℕ → ℕ → List (ℕ × ℕ)
 operands a b = (x 5, a) ∷ (x 6, b) ∷ []
 
 -- ---- rows
 
 -- a step over these bytes, its stop and address, and the places of the machine that it changes; the memory stays
-abbrev stepsOver : List (ℕ × ℕ) → List ℕ → ℕ → ℕ → List (ℕ × ℕ) → Row
+abbrev pub stepsOver : List (ℕ × ℕ) → List ℕ → ℕ → ℕ → List (ℕ × ℕ) → Row
 stepsOver start mem stop address changes = (stepping (with start) mem, gave stop 0 address (with (start ++ changes)) mem)
 
-abbrev steps : List (ℕ × ℕ) → ℕ → ℕ → List (ℕ × ℕ) → Row
+abbrev pub steps : List (ℕ × ℕ) → ℕ → ℕ → List (ℕ × ℕ) → Row
 steps start w stop changes = stepsOver start (bytes (w ∷ [])) stop 0 changes
 
 -- a step that completes and goes to the next word
-abbrev goes : List (ℕ × ℕ) → ℕ → List (ℕ × ℕ) → Row
+abbrev pub goes : List (ℕ × ℕ) → ℕ → List (ℕ × ℕ) → Row
 goes start w changes = steps start w 0 ((pc, 4) ∷ changes)
 
 -- a step that question 8 stops
-abbrev forbidden : List (ℕ × ℕ) → ℕ → Row
+abbrev pub forbidden : List (ℕ × ℕ) → ℕ → Row
 forbidden start w = steps start w 14 []
 
 -- an h-word that its region refuses, by what the fault record then says: load or store, and the address
@@ -154,11 +155,11 @@ abbrev writes : List (ℕ × ℕ) → List ℕ → List (ℕ × ℕ) → List (�
 writes start mem changes written = (stepping (with start) mem, gave 0 0 0 (with (start ++ changes)) (puts mem written))
 
 -- a run over words: its budget, stop, count and address, and the places that it changes
-abbrev runs : List (ℕ × ℕ) → List ℕ → ℕ → ℕ → ℕ → ℕ → List (ℕ × ℕ) → Row
+abbrev pub runs : List (ℕ × ℕ) → List ℕ → ℕ → ℕ → ℕ → ℕ → List (ℕ × ℕ) → Row
 runs start ws budget stop count address changes =
     (running (with start) (bytes ws) budget, gave stop count address (with (start ++ changes)) (bytes ws))
 
-abbrev resumes : List (ℕ × ℕ) → ℕ → ℕ → List (ℕ × ℕ) → Row
+abbrev pub resumes : List (ℕ × ℕ) → ℕ → ℕ → List (ℕ × ℕ) → Row
 resumes start v stop changes = (resuming (with start) v, gave stop 0 0 (with (start ++ changes)) [])
 
 unfoldable pub entering : List Row
@@ -344,9 +345,9 @@ operating =
     ∷ goes (outside 0 ++ operands (2 ^ 64 - 7) 2) 0x0262f33b ((x 6, 1) ∷ [])
     ∷ []
 
--- an h-word of x6 at -5(x21), locked: region 1 has the nine bytes from 3 on, and the offset is 1
+-- an h-word of x6 at -5(x21): region 1 has the nine bytes from 3 on, and the offset is 1
 abbrev reaching : List (ℕ × ℕ)
-reaching = inside 1 ++ ((base 1, 3) ∷ (bound 1, 9) ∷ (x 6, 0x0102030405060708) ∷ (x 21, 6) ∷ [])
+reaching = inside 0 ++ ((base 1, 3) ∷ (bound 1, 9) ∷ (x 6, 0x0102030405060708) ∷ (x 21, 6) ∷ [])
 
 abbrev around : ℕ → List ℕ
 around w = bytes (w ∷ 0xf3e2d1c0 ∷ 0x8796a5b4 ∷ [])
@@ -498,22 +499,22 @@ abbrev pub rows : List Row
 rows = entering ++ leaving ++ locking ++ keeping ++ running-on ++ asking ++ operating ++ offsets ++ absent ++ going-on ++ forming
 
 pub clauses : found rows ≡ stated rows
-unfolding entering leaving locking keeping running-on asking operating offsets absent going-on forming trailingZeros sext lowHalf highHalf quotient remainder decodeWord matches explicitRule firstMatch implicitGrants explicitGrants scan firstRefused firstAbsent verdict value written allowed aligned settle stateFits wellFormed hfiStop hWordStop hfiPerform load store jump branch perform executeWord step stepCall resumeCall runBy runCall
+unfolding entering leaving locking keeping running-on asking operating offsets absent going-on forming trailingZeros sext lowHalf highHalf quotient remainder decodeWord matches explicitRule firstMatch implicitGrants explicitGrants explicitHolds writableCode exposesCode scan firstRefused firstAbsent verdict value written allowed aligned settle stateFits wellFormed hfiStop hWordStop hfiPerform load store jump branch perform executeWord step stepCall resumeCall runBy runCall
 clauses = refl
 
 -- ---- "Is memory no longer than 16,777,216?" of memories that are too long to write down
 
-pub longest-step : (m : Machine) (mem : List ℕ) → length mem ≡ 16777216 → wellFormed m ≡ true → stepCall m mem ≡ step m mem
+pub longest-step : (m : Machine) (mem : List ℕ) → length mem ≡ 16777216 → wellFormed m ≡ true → exposesCode (m .hfi) ≡ false → stepCall m mem ≡ step m mem
 unfolding stepCall
-longest-step m mem e w = rw (e, w) refl
+longest-step m mem e w x = rw (e, w, x) refl
 
 pub too-long-step : (m : Machine) (mem : List ℕ) → length mem ≡ 16777217 → stepCall m mem ≡ stopped 1 m mem
 unfolding stepCall
 too-long-step m mem e = rw e refl
 
-pub longest-run : (m : Machine) (mem : List ℕ) → length mem ≡ 16777216 → wellFormed m ≡ true → runCall m mem 0 ≡ ended 21 0 0 m mem
+pub longest-run : (m : Machine) (mem : List ℕ) → length mem ≡ 16777216 → wellFormed m ≡ true → exposesCode (m .hfi) ≡ false → runCall m mem 0 ≡ ended 21 0 0 m mem
 unfolding runCall runBy
-longest-run m mem e w = rw (e, w) refl
+longest-run m mem e w x = rw (e, w, x) refl
 
 pub too-long-run : (m : Machine) (mem : List ℕ) (budget : ℕ) → length mem ≡ 16777217 → runCall m mem budget ≡ ended 1 0 0 m mem
 unfolding runCall

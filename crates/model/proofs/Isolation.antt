@@ -13,6 +13,7 @@ use Rattle.words.specs.Word.{field}
 use Rattle.instructions.specs.Decode.{decodeWord}
 use Rattle.model.specs.Machine.{loadOp, storeOp, fetchOp, inside}
 use Rattle.model.specs.WellFormed.{wellFormed}
+use Rattle.model.specs.WritableCode.{exposesCode}
 use Rattle.model.specs.Bytes.{byteOf, value}
 use Rattle.model.specs.Access.{verdict, fetchAccess}
 use Rattle.model.specs.Reach.{Readable, Writable, Executable}
@@ -27,7 +28,7 @@ use Rattle.model.specs.declared.Verdict.the-variants.{Passed, Refused, A
 use Rattle.model.proofs.Bytes.{value-same, written-same}
 use Rattle.model.proofs.Cleared.{passing}
 use Rattle.model.proofs.Moves.{Settings, Move, enact, word-moves}
-use Rattle.model.proofs.Runs.{step-length, step-settings, run-length, locked-unwritten}
+use Rattle.model.proofs.Runs.{step-length, step-settings, run-length, locked-unwritten, locked-executable}
 
 -- what a step does over s and over t
 record Related (s t : List ℕ) (o p : Outcome) : Type 0 where
@@ -135,7 +136,10 @@ call-related m s t budget l a =
     (λ e.
     by-test s t (ltb largestBudget budget) (λ e. unmoved m s t 2 0)
     (λ e.
-    by-test s t (wellFormed m) (λ e. rw (eq-eqb _ _ (l .mode)) (run-related budget 0 m s t l a)) (λ e. unmoved m s t 3 0))))
+    by-test s t (wellFormed m)
+    (λ e.
+    by-test s t (exposesCode (m .hfi)) (λ e. unmoved m s t 4 0) (λ e. rw (eq-eqb _ _ (l .mode)) (run-related budget 0 m s t l a)))
+    (λ e. unmoved m s t 3 0))))
 
 pub isolation : Isolation
 isolation m s t budget l a =
@@ -145,6 +149,7 @@ isolation m s t budget l a =
       lengths = (run-length m s budget, run-length m t budget);
       agreeing = h .agreeing;
       unwritten = λ b w. (locked-unwritten m s budget l b w, locked-unwritten m t budget l b w);
+      executable = λ b x. (locked-executable m s budget l b x, locked-executable m t budget l b x);
     }
 
 -- ---- the same from plain facts and in plain terms: each half-sentence of the demand for itself
@@ -163,6 +168,8 @@ pub runs-isolated : (m : Machine) (s t : List ℕ) (budget : ℕ) (e f : Ended) 
     × ((a : ℕ) → getD s a 0 ≡ getD t a 0 → getD (e .memory) a 0 ≡ getD (f .memory) a 0)
     × ((a : ℕ) → (Writable (m .hfi .regions) a → ⊥) → getD (e .memory) a 0 ≡ getD s a 0)
     × ((a : ℕ) → (Writable (m .hfi .regions) a → ⊥) → getD (f .memory) a 0 ≡ getD t a 0)
+    × ((a : ℕ) → Executable (m .hfi .regions) a → getD (e .memory) a 0 ≡ getD s a 0)
+    × ((a : ℕ) → Executable (m .hfi .regions) a → getD (f .memory) a 0 ≡ getD t a 0)
 runs-isolated m s t budget e f p q mode lock lengths readable executable =
     let l : Locked m = record { mode = mode; lock = lock } in
     let a : Agree m s t = record { lengths = lengths; readable = readable; executable = executable } in
@@ -176,4 +183,6 @@ runs-isolated m s t budget e f p q mode lock lengths readable executable =
       i .agreeing,
       (λ b w. i .unwritten b w .0),
       (λ b w. i .unwritten b w .1),
+      (λ b x. i .executable b x .0),
+      (λ b x. i .executable b x .1),
     )

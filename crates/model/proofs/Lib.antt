@@ -6,10 +6,13 @@ pub mod Intervals
 pub mod Rows
 pub mod Cases
 pub mod Clauses
+pub mod WritableRows
 pub mod Integer
 pub mod Isolation
 pub mod Reach
+pub mod WritableCode
 pub mod Witness
 pub mod Runs
+pub mod Refused
 pub mod Formed
 pub mod Moves

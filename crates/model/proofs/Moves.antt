@@ -26,12 +26,13 @@ use Rattle.instructions.proofs.Tests.{and-both}
 use Rattle.model.specs.Machine.{reg, setReg, loadOp, storeOp, fetchOp, largestOptions, inside, locked, redirectsCalls, region, zeroRegions, entered, exited, machine, lastRegion}
 use Rattle.model.specs.Regions.{dataRegions, codeRegions, permissionFits, matches, firstMatch}
 use Rattle.model.specs.WellFormed.{wellFormed}
+use Rattle.model.specs.WritableCode.{exposesCode}
 use Rattle.model.specs.Bytes.{value, written}
 use Rattle.model.specs.Access.{Access, verdict, fetchAccess, loadAccess, storeAccess, hloadAccess, hstoreAccess}
 use Rattle.model.specs.Reach.{Passes, Readable, Writable}
 use Rattle.model.specs.Outcome.{Outcome, outcome, allowed, aligned, faulted, settle}
 use Rattle.model.specs.Arithmetic.{taken}
-use Rattle.model.specs.Hfi.{modeForbids, operandForbids, hfiStop, hWordStop, changed, hfiPerform}
+use Rattle.model.specs.Hfi.{modeForbids, operandForbids, lockForbids, hfiStop, hWordStop, changed, hfiPerform}
 use Rattle.model.specs.Step.{load, store, jump, branch, perform, executeWord, step}
 use Rattle.model.specs.declared.Region.{Region}
 use Rattle.model.specs.declared.HfiState.{HfiState}
@@ -65,12 +66,13 @@ pub record Kept (m k : Machine) : Type 0 where
   pub mode : Mode m k
   pub options : inside (m .hfi) ≡ true → k .hfi .options ≡ m .hfi .options
   pub lock : locked (m .hfi) ≡ true → settings k ≡ settings m
+  pub code : exposesCode (m .hfi) ≡ false → exposesCode (k .hfi) ≡ false
 
 -- ---- the answer of a step
 
--- a completed step gives no address, and 20 and 21 are the run's own numbers
+-- a completed step gives no address; 1 to 4 are the calls' own numbers, and 20 and 21 the run's
 abbrev pub proper : ℕ → ℕ → Bool
-proper stop at = (not (eqb stop 0) || eqb at 0) && (not (eqb stop 20) && not (eqb stop 21))
+proper stop at = (not (eqb stop 0) || eqb at 0) && (not (leb 1 stop && leb stop 4) && (not (eqb stop 20) && not (eqb stop 21)))
 
 -- ---- what an instruction does, whatever memory it is done over
 
@@ -112,6 +114,11 @@ asked false c e = e
 locked-inside : (h : HfiState) → locked h ≡ true → inside h ≡ true
 locked-inside h = asked (inside h) _
 
+-- what is not locked is not refused for writable code
+unlocked-safe : (h : HfiState) → locked h ≡ false → exposesCode h ≡ false
+unfolding exposesCode
+unlocked-safe h n = rw n refl
+
 -- and so is the redirection of calls
 calls-inside : (h : HfiState) → redirectsCalls h ≡ true → inside h ≡ true
 calls-inside h = asked (inside h) _
@@ -141,18 +148,21 @@ module _ (m : Machine) where
         mode = Mode.stays refl;
         options = λ e. refl;
         lock = λ e. refl;
+        code = λ e. e;
       }
 
   same-kept : Kept m m
   same-kept = still (m .x) (m .pc) (λ z. z)
 
   faulted-kept : (op at region : ℕ) → leb op fetchOp ≡ true → leb region lastRegion ≡ true → Kept m (faulted m op at region)
+  unfolding exposesCode
   faulted-kept op at region l r =
       record {
         well = λ w. formed _ (record { zero = good m w .zero; state = fault-fits (m .hfi) (good m w .state) op at region l r });
         mode = Mode.stays refl;
         options = λ e. refl;
         lock = λ e. refl;
+        code = λ e. e;
       }
 
   -- ---- the moves that there are
@@ -180,25 +190,29 @@ module _ (m : Machine) where
 
 -- ---- the words of opcode 5b
 
--- question 8 lets a word pass that neither the mode nor its operand forbids
-permitted : (h : HfiState) (k : HfiKind) (a : ℕ) → eqb (hfiStop h k a) 0 ≡ true → (modeForbids h k ≡ false) × (operandForbids h k a ≡ false)
+-- question 8 lets a word pass that neither the mode nor its operand forbids, nor the lock that it would begin
+permitted : (h : HfiState) (k : HfiKind) (a : ℕ) → eqb (hfiStop h k a) 0 ≡ true
+    → (modeForbids h k ≡ false) × (operandForbids h k a ≡ false) × (lockForbids h k a ≡ false)
 unfolding hfiStop
-permitted h k a e = go (modeForbids h k) (operandForbids h k a) _ _ (λ e. omega (arith, e)) (λ e. omega (arith, e)) e
+permitted h k a e = go (modeForbids h k) (operandForbids h k a) (lockForbids h k a) _ _ _ (λ e. omega (arith, e)) (λ e. omega (arith, e)) (λ e. omega (arith, e)) e
   where
-    go : (b c : Bool) (p q : ℕ) → (p ≡ 0 → ⊥) → (q ≡ 0 → ⊥) → eqb (cond b p (cond c q 0)) 0 ≡ true → (b ≡ false) × (c ≡ false)
-    go true c p q f g e = absurd (f (eqb-true p 0 e))
-    go false true p q f g e = absurd (g (eqb-true q 0 e))
-    go false false p q f g e = (refl, refl)
+    go : (b c d : Bool) (p q r : ℕ) → (p ≡ 0 → ⊥) → (q ≡ 0 → ⊥) → (r ≡ 0 → ⊥) → eqb (cond b p (cond c q (cond d r 0))) 0 ≡ true
+        → (b ≡ false) × (c ≡ false) × (d ≡ false)
+    go true c d p q r f g h e = absurd (f (eqb-true p 0 e))
+    go false true d p q r f g h e = absurd (g (eqb-true q 0 e))
+    go false false true p q r f g h e = absurd (h (eqb-true r 0 e))
+    go false false false p q r f g h e = (refl, refl, refl)
 
 -- and its number is none of the run's own
 stop-proper : (h : HfiState) (k : HfiKind) (a : ℕ) → proper (hfiStop h k a) 0 ≡ true
 unfolding hfiStop
-stop-proper h k a = go (modeForbids h k) (operandForbids h k a) _ _ refl refl
+stop-proper h k a = go (modeForbids h k) (operandForbids h k a) (lockForbids h k a) _ _ _ refl refl refl
   where
-    go : (b c : Bool) (p q : ℕ) → proper p 0 ≡ true → proper q 0 ≡ true → proper (cond b p (cond c q 0)) 0 ≡ true
-    go true c p q f g = f
-    go false true p q f g = g
-    go false false p q f g = refl
+    go : (b c d : Bool) (p q r : ℕ) → proper p 0 ≡ true → proper q 0 ≡ true → proper r 0 ≡ true → proper (cond b p (cond c q (cond d r 0))) 0 ≡ true
+    go true c d p q r f g h = f
+    go false true d p q r f g h = g
+    go false false true p q r f g h = h
+    go false false false p q r f g h = refl
 
 h-word-proper : (h : HfiState) → proper (hWordStop h) 0 ≡ true
 unfolding hWordStop
@@ -227,6 +241,7 @@ module _ (m : Machine) where
           mode = Mode.stays e;
           options = λ i. o;
           lock = λ l. absurd (clash n l);
+          code = λ c. unlocked-safe h (rw (e, o) n);
         });
         same = λ mem. refl;
       }
@@ -244,14 +259,16 @@ module _ (m : Machine) where
       → (Good m → permissionFits (m .hfi .selector) (r .permission) ≡ true) → Moves m (λ mem. outcome 0 0 (machine (m .x) pc (changed (m .hfi) r)) mem)
   changes pc r n e p = unlocked pc _ n refl refl (λ g. record { zero = g .zero; state = changed-fits (m .hfi) (g .state) r e (p g) })
 
-  entering : (pc a : ℕ) → inside (m .hfi) ≡ false → ltb largestOptions a ≡ false → Moves m (λ mem. outcome 0 0 (machine (m .x) pc (entered (m .hfi) a)) mem)
-  entering pc a n e =
+  entering : (pc a : ℕ) → inside (m .hfi) ≡ false → ltb largestOptions a ≡ false → exposesCode (entered (m .hfi) a) ≡ false
+      → Moves m (λ mem. outcome 0 0 (machine (m .x) pc (entered (m .hfi) a)) mem)
+  entering pc a n e x =
       record {
         move = Move.quiet 0 0 _ refl (record {
           well = λ w. formed _ (record { zero = good m w .zero; state = entered-fits (m .hfi) (good m w .state) a e });
           mode = Mode.enters n refl;
           options = λ i. absurd (clash n i);
           lock = λ l. absurd (clash n (locked-inside (m .hfi) l));
+          code = λ c. x;
         });
         same = λ mem. refl;
       }
@@ -264,32 +281,33 @@ module _ (m : Machine) where
           mode = Mode.leaves i refl;
           options = λ e. refl;
           lock = λ l. refl;
+          code = λ c. unlocked-safe _ refl;
         });
         same = λ mem. refl;
       }
 
   hfi-moves : (next : ℕ) (k : HfiKind) (rd rs1 rs2 : ℕ) → modeForbids (m .hfi) k ≡ false → operandForbids (m .hfi) k (reg (m .x) rs1) ≡ false
-      → Moves m (λ mem. hfiPerform m mem next k rd rs1 rs2)
+      → lockForbids (m .hfi) k (reg (m .x) rs1) ≡ false → Moves m (λ mem. hfiPerform m mem next k rd rs1 rs2)
   unfolding hfiPerform
-  hfi-moves next Enter rd rs1 rs2 n e = entering next (reg (m .x) rs1) n e
-  hfi-moves next EnterJump rd rs1 rs2 n e = aligns m (reg (m .x) rs2) (entering (reg (m .x) rs2) (reg (m .x) rs1) n e)
-  hfi-moves next Exit rd rs1 rs2 n e = leaving _ 1 (not-not _ n) refl
-  hfi-moves next SelectRegion rd rs1 rs2 n e =
+  hfi-moves next Enter rd rs1 rs2 n e c = entering next (reg (m .x) rs1) n e c
+  hfi-moves next EnterJump rd rs1 rs2 n e c = aligns m (reg (m .x) rs2) (entering (reg (m .x) rs2) (reg (m .x) rs1) n e c)
+  hfi-moves next Exit rd rs1 rs2 n e c = leaving _ 1 (not-not _ n) refl
+  hfi-moves next SelectRegion rd rs1 rs2 n e c =
       let a = reg (m .x) rs1 in
       unlocked next _ n refl refl
       (λ g. record { zero = g .zero; state = regions-fit (m .hfi) (g .state) a (m .hfi .regions) (and-both (leb 1 a) (leb a lastRegion) (not-not _ e) .1) (g .state .permissions) })
-  hfi-moves next SetBase rd rs1 rs2 n e = changes next _ n e (λ g. selected-fits (m .hfi) (g .state) e)
-  hfi-moves next GetBase rd rs1 rs2 n e = assigns m next rd _
-  hfi-moves next SetBound rd rs1 rs2 n e = changes next _ n e (λ g. selected-fits (m .hfi) (g .state) e)
-  hfi-moves next GetBound rd rs1 rs2 n e = assigns m next rd _
-  hfi-moves next SetPermission rd rs1 rs2 n e =
+  hfi-moves next SetBase rd rs1 rs2 n e c = changes next _ n e (λ g. selected-fits (m .hfi) (g .state) e)
+  hfi-moves next GetBase rd rs1 rs2 n e c = assigns m next rd _
+  hfi-moves next SetBound rd rs1 rs2 n e c = changes next _ n e (λ g. selected-fits (m .hfi) (g .state) e)
+  hfi-moves next GetBound rd rs1 rs2 n e c = assigns m next rd _
+  hfi-moves next SetPermission rd rs1 rs2 n e c =
       let p = neither (eqb (m .hfi .selector) 0) _ e in
       changes next _ n (p .0) (λ g. not-not _ (p .1))
-  hfi-moves next GetPermission rd rs1 rs2 n e = assigns m next rd _
-  hfi-moves next SetHandler rd rs1 rs2 n e =
+  hfi-moves next GetPermission rd rs1 rs2 n e c = assigns m next rd _
+  hfi-moves next SetHandler rd rs1 rs2 n e c =
       unlocked next _ (outside n) refl refl (λ g. record { zero = g .zero; state = handler-fits (m .hfi) (g .state) (reg (m .x) rs1) })
-  hfi-moves next GetHandler rd rs1 rs2 n e = assigns m next rd _
-  hfi-moves next ResetRegions rd rs1 rs2 n e =
+  hfi-moves next GetHandler rd rs1 rs2 n e c = assigns m next rd _
+  hfi-moves next ResetRegions rd rs1 rs2 n e c =
       unlocked next _ n refl refl (λ g. record { zero = g .zero; state = regions-fit (m .hfi) (g .state) 0 zeroRegions refl refl })
 
   -- ---- the instructions
@@ -334,7 +352,7 @@ module _ (m : Machine) where
       (record { few = store-width k; reach = λ b p. Writable.byHStore _ (m .x) k rs1 rs2 imm (encodes _ h) p; numbered = λ i. refl }))
   perform-moves next (Hfi k rd rs1 rs2) h =
       let a = reg (m .x) rs1 in
-      allows m _ (stop-proper (m .hfi) k a) (λ e. let p = permitted (m .hfi) k a e in hfi-moves next k rd rs1 rs2 (p .0) (p .1))
+      allows m _ (stop-proper (m .hfi) k a) (λ e. let p = permitted (m .hfi) k a e in hfi-moves next k rd rs1 rs2 (p .0) (p .1) (p .2))
 
   -- a word's instruction is in range
   pub word-moves : (w : ℕ) → Moves m (λ mem. executeWord m mem (decodeWord w))

@@ -9,6 +9,7 @@ use Rattle.instructions.specs.declared.instruction.Decoded.{Decoded}
 use Rattle.model.specs.Machine.{lastRegion, machine}
 use Rattle.model.specs.Regions.{matches, explicitRule}
 use Rattle.model.specs.WellFormed.{wellFormed}
+use Rattle.model.specs.WritableCode.{writableCode}
 use Rattle.model.specs.Step.{stepCall, resumeCall}
 use Rattle.model.specs.Run.{runCall}
 use Rattle.model.specs.declared.Region.{Region}
@@ -110,6 +111,8 @@ pub data Question : Type 0 where
   matching : Region → ℕ → Question
   -- does an explicit region keep its rule?
   ruling : Region → Question
+  -- is some byte both writable and executable, by these regions?
+  exposing : List Region → Question
   -- is a machine well formed?
   judging : Machine → Question
   -- the calls: a step, a run with its budget, a resumption with its value
@@ -127,6 +130,7 @@ abbrev pub answered : Question → Answer
 answered (decoding w) = decoded (decodeWord w)
 answered (matching r a) = told (matches r a)
 answered (ruling r) = told (explicitRule r)
+answered (exposing rs) = told (writableCode rs)
 answered (judging m) = told (wellFormed m)
 answered (stepping m mem) = let o = stepCall m mem in gave (o .result .stop) 0 (o .result .address) (o .result .machine) (o .memory)
 answered (running m mem budget) =

@@ -6,20 +6,22 @@ use mathlib.Core.List.{List}
 use mathlib.Core.Logic.{_⊎_, inl, inr}
 use Prim.Native.Nat.{ℕ, zero, suc, _+_, _-_, _<_, _≤_}
 use native.Mathlib.Omega.{arith}
-use lib.Dec.{eqb, ltb}
+use lib.Dec.{eqb, leb, ltb, lit≤}
 use lib.ListN.{length, getD}
-use borrow.Author.Tests.{eqb-true, eq-eqb, ne-eqb, eqb-false}
+use borrow.Author.Tests.{eqb-true, eq-eqb, ne-eqb, eqb-false, le-leb}
 use Rattle.instructions.proofs.Tests.{and-both}
-use Rattle.model.specs.Machine.{inside}
+use Rattle.model.specs.Machine.{inside, locked}
 use Rattle.model.specs.WellFormed.{wellFormed}
+use Rattle.model.specs.WritableCode.{writableCode, exposesCode}
 use Rattle.model.specs.Outcome.{Outcome}
 use Rattle.model.specs.Step.{step, longest, stepCall}
 use Rattle.model.specs.Run.{Ended, ended, runBy, run, runCall, largestBudget}
-use Rattle.model.specs.Reach.{Writable}
+use Rattle.model.specs.Reach.{Writable, Executable}
 use Rattle.model.specs.Isolation.{Locked}
 use Rattle.model.specs.declared.Machine.{Machine}
 use Rattle.model.proofs.Bytes.{length-written, written-other}
 use Rattle.model.proofs.Cleared.{passing}
+use Rattle.model.proofs.WritableCode.{not-both}
 use Rattle.model.proofs.Moves.{Settings, settings, Stored, clash, step-does}
 
 -- ---- for the loop
@@ -86,70 +88,88 @@ module _ (began : Bool) (Q : ℕ → ℕ → Machine → List ℕ → Ended → 
         go false q c d h = stops n k m mem (eqb-false _ 0 q)
 
 -- what holds of a refusal and of the run holds of the call
-call-ind : (Q : Ended → Type 0) (m : Machine) (mem : List ℕ) (budget : ℕ) → Q (ended 1 0 0 m mem) → Q (ended 2 0 0 m mem) → Q (ended 3 0 0 m mem)
-    → (wellFormed m ≡ true → Q (run (inside (m .hfi)) budget 0 m mem)) → Q (runCall m mem budget)
+pub call-ind : (Q : Ended → Type 0) (m : Machine) (mem : List ℕ) (budget : ℕ) → ((stop : ℕ) → 1 ≤ stop → stop ≤ 4 → Q (ended stop 0 0 m mem))
+    → (wellFormed m ≡ true → exposesCode (m .hfi) ≡ false → Q (run (inside (m .hfi)) budget 0 m mem)) → Q (runCall m mem budget)
 unfolding runCall
-call-ind Q m mem budget one two three r = go (ltb longest (length mem)) (ltb largestBudget budget) (wellFormed m) refl
+call-ind Q m mem budget refused r = go (ltb longest (length mem)) (ltb largestBudget budget) (wellFormed m) (exposesCode (m .hfi)) refl refl
   where
-    go : (a b c : Bool) → wellFormed m ≡ c → Q (cond a (ended 1 0 0 m mem) (cond b (ended 2 0 0 m mem) (cond c (run (inside (m .hfi)) budget 0 m mem) (ended 3 0 0 m mem))))
-    go true b c e = one
-    go false true c e = two
-    go false false true e = r e
-    go false false false e = three
+    go : (a b c d : Bool) → wellFormed m ≡ c → exposesCode (m .hfi) ≡ d
+        → Q (cond a (ended 1 0 0 m mem) (cond b (ended 2 0 0 m mem)
+        (cond c (cond d (ended 4 0 0 m mem) (run (inside (m .hfi)) budget 0 m mem)) (ended 3 0 0 m mem))))
+    go true b c d e f = refused 1 (lit≤ tt) (lit≤ tt)
+    go false true c d e f = refused 2 (lit≤ tt) (lit≤ tt)
+    go false false true true e f = refused 4 (lit≤ tt) (lit≤ tt)
+    go false false true false e f = r e f
+    go false false false d e f = refused 3 (lit≤ tt) (lit≤ tt)
 
 -- ---- the count and the stop
 
 -- a run's count is at most its budget
 pub count-at-most : (m : Machine) (mem : List ℕ) (budget : ℕ) → runCall m mem budget .result .count ≤ budget
 count-at-most m mem budget =
-    call-ind (λ e. e .result .count ≤ budget) m mem budget (omega arith) (omega arith) (omega arith)
-    (λ w.
+    call-ind (λ e. e .result .count ≤ budget) m mem budget (λ s l u. omega arith)
+    (λ w x.
     let c = run-ind (inside (m .hfi)) (λ n k l mem e. e .result .count ≤ k + n) (λ k l mem. omega arith) (λ n k l mem q. omega arith) (λ n k l mem. omega arith) (λ n k l mem e i h. omega (arith, h)) budget 0 m mem in
     omega (arith, c))
 
 -- 0 says that a step is completed; no run answers it
 pub never-zero : (m : Machine) (mem : List ℕ) (budget : ℕ) → runCall m mem budget .result .stop ≡ 0 → ⊥
 never-zero m mem budget =
-    call-ind (λ e. e .result .stop ≡ 0 → ⊥) m mem budget (λ e. omega (arith, e)) (λ e. omega (arith, e)) (λ e. omega (arith, e))
-    (λ w.
+    call-ind (λ e. e .result .stop ≡ 0 → ⊥) m mem budget (λ s l u e. omega (arith, e))
+    (λ w x.
     run-ind (inside (m .hfi)) (λ n k l mem e. e .result .stop ≡ 0 → ⊥) (λ k l mem e. omega (arith, e)) (λ n k l mem q. q)
     (λ n k l mem e. omega (arith, e)) (λ n k l mem e i h. h) budget 0 m mem)
 
 -- a completed step gives no address, and 21 is no step's number
 module _ (m : Machine) (mem : List ℕ) where
   proper-parts : ((not (eqb (step m mem .result .stop) 0) || eqb (step m mem .result .address) 0) ≡ true)
+      × (not (leb 1 (step m mem .result .stop) && leb (step m mem .result .stop) 4) ≡ true)
       × ((not (eqb (step m mem .result .stop) 20) && not (eqb (step m mem .result .stop) 21)) ≡ true)
-  proper-parts = and-both _ _ (step-does m mem .stop)
+  proper-parts =
+      let p = and-both (not (eqb (step m mem .result .stop) 0) || eqb (step m mem .result .address) 0) _ (step-does m mem .stop) in
+      let q = and-both (not (leb 1 (step m mem .result .stop) && leb (step m mem .result .stop) 4)) _ (p .1) in
+      (p .0, q .0, q .1)
 
   pub no-address : step m mem .result .stop ≡ 0 → step m mem .result .address ≡ 0
   no-address e =
       let z : eqb (step m mem .result .stop) 0 ≡ true = eq-eqb _ 0 e in
       eqb-true _ 0 (rw z at (proper-parts .0))
 
-  not-spent : step m mem .result .stop ≡ 21 → ⊥
-  not-spent e = clash (ap not (eq-eqb _ 21 e)) (and-both (not (eqb (step m mem .result .stop) 20)) _ (proper-parts .1) .1)
+  pub step-not-refused : 1 ≤ step m mem .result .stop → step m mem .result .stop ≤ 4 → ⊥
+  step-not-refused l u =
+      let both : (leb 1 (step m mem .result .stop) && leb (step m mem .result .stop) 4) ≡ true = rw (le-leb 1 _ l) (le-leb _ 4 u) in
+      clash (ap not both) (proper-parts .1)
 
--- so it says that the budget is used up; a run that began in HFI mode is then still in it
+  not-spent : step m mem .result .stop ≡ 21 → ⊥
+  not-spent e = clash (ap not (eq-eqb _ 21 e)) (and-both (not (eqb (step m mem .result .stop) 20)) _ (proper-parts .2) .1)
+
+-- a run that is made answers none of the numbers by which a call is refused
+pub run-not-refused : (began : Bool) (n k : ℕ) (m : Machine) (mem : List ℕ) → 1 ≤ run began n k m mem .result .stop → run began n k m mem .result .stop ≤ 4 → ⊥
+run-not-refused began =
+    run-ind began (λ n k m mem e. 1 ≤ e .result .stop → e .result .stop ≤ 4 → ⊥) (λ k m mem l u. omega (arith, u)) (λ n k m mem z l u. step-not-refused m mem l u)
+    (λ n k m mem l u. omega (arith, u)) (λ n k m mem e i h. h)
+
+-- 21 says that the budget is used up; a run that began in HFI mode is then still in it
 module _ (m : Machine) (mem : List ℕ) (budget : ℕ) (q : runCall m mem budget .result .stop ≡ 21) where
   pub spent-count : runCall m mem budget .result .count ≡ budget
   spent-count =
-      call-ind (λ e. e .result .stop ≡ 21 → e .result .count ≡ budget) m mem budget (λ e. omega (arith, e)) (λ e. omega (arith, e)) (λ e. omega (arith, e))
-      (λ w e.
+      call-ind (λ e. e .result .stop ≡ 21 → e .result .count ≡ budget) m mem budget (λ s l u e. absurd (omega (arith, e)))
+      (λ w x e.
       run-ind (inside (m .hfi)) (λ n k l s e. e .result .stop ≡ 21 → e .result .count ≡ k + n) (λ k l s e. omega arith)
       (λ n k l s z e. absurd (not-spent l s e)) (λ n k l s e. omega (arith, e)) (λ n k l s e i h f. h f ∙ omega arith) budget 0 m mem e ∙ omega arith)
       q
 
   pub spent-inside : inside (m .hfi) ≡ true → inside (runCall m mem budget .result .machine .hfi) ≡ true
   spent-inside i =
-      call-ind (λ e. e .result .stop ≡ 21 → inside (e .result .machine .hfi) ≡ true) m mem budget (λ e. i) (λ e. i) (λ e. i)
-      (λ w.
+      call-ind (λ e. e .result .stop ≡ 21 → inside (e .result .machine .hfi) ≡ true) m mem budget (λ s l u e. i)
+      (λ w x.
       run-ind (inside (m .hfi)) (λ n k l s e. (inside (m .hfi) ≡ true → inside (l .hfi) ≡ true) → e .result .stop ≡ 21 → inside (e .result .machine .hfi) ≡ true) (λ k l s f e. f i)
       (λ n k l s z f e. absurd (not-spent l s e)) (λ n k l s f e. absurd (omega (arith, e))) (λ n k l s e j h f. h j) budget 0 m mem (λ e. e))
       q
 
   pub spent-well-formed : wellFormed m ≡ true
   spent-well-formed =
-      call-ind (λ e. e .result .stop ≡ 21 → wellFormed m ≡ true) m mem budget (λ e. absurd (omega (arith, e))) (λ e. absurd (omega (arith, e))) (λ e. absurd (omega (arith, e))) (λ w e. w) q
+      call-ind (λ e. e .result .stop ≡ 21 → wellFormed m ≡ true) m mem budget (λ s l u e. absurd (omega (arith, e))) (λ w x e. w) q
 
 -- ---- what a run keeps
 
@@ -158,8 +178,8 @@ module _ (m : Machine) (P : Machine → List ℕ → Type 0)
     (keeps : (l : Machine) (s : List ℕ) → (inside (m .hfi) ≡ true → inside (l .hfi) ≡ true) → P l s → P (step l s .result .machine) (step l s .memory)) where
   run-keeps : (mem : List ℕ) (budget : ℕ) → P m mem → P (runCall m mem budget .result .machine) (runCall m mem budget .memory)
   run-keeps mem budget p =
-      call-ind (λ e. P (e .result .machine) (e .memory)) m mem budget p p p
-      (λ w.
+      call-ind (λ e. P (e .result .machine) (e .memory)) m mem budget (λ s l u. p)
+      (λ w x.
       run-ind (inside (m .hfi)) (λ n k l s e. (inside (m .hfi) ≡ true → inside (l .hfi) ≡ true) → P l s → P (e .result .machine) (e .memory)) (λ k l s i h. h)
       (λ n k l s z i h. keeps l s i h) (λ n k l s i h. keeps l s i h) (λ n k l s e j h i x. h j (keeps l s i x)) budget 0 m mem (λ e. e) p)
 
@@ -176,14 +196,21 @@ run-length m mem budget = run-keeps m (λ l s. length s ≡ length mem) (λ l s 
 pub run-well-formed : (m : Machine) (mem : List ℕ) (budget : ℕ) → wellFormed m ≡ true → wellFormed (runCall m mem budget .result .machine) ≡ true
 run-well-formed m mem budget = run-keeps m (λ l s. wellFormed l ≡ true) (λ l s i w. step-does l s .kept .well w) mem budget
 
+-- what is refused with 4 does not arise inside a run that began without it: every machine that a run comes to passes the question
+pub run-unexposed : (m : Machine) (mem : List ℕ) (budget : ℕ) → exposesCode (m .hfi) ≡ false → exposesCode (runCall m mem budget .result .machine .hfi) ≡ false
+run-unexposed m mem budget = run-keeps m (λ l s. exposesCode (l .hfi) ≡ false) (λ l s i x. step-does l s .kept .code x) mem budget
+
 -- in HFI mode options do not change, in the leaving step neither
 pub run-options : (m : Machine) (mem : List ℕ) (budget : ℕ) → inside (m .hfi) ≡ true → runCall m mem budget .result .machine .hfi .options ≡ m .hfi .options
 run-options m mem budget on =
     run-keeps m (λ l s. l .hfi .options ≡ m .hfi .options) (λ l s i e. step-does l s .kept .options (i on) ∙ e) mem budget refl
 
 -- nor does a locked machine's regions, options, handler or selector
+pub is-locked : (m : Machine) → Locked m → locked (m .hfi) ≡ true
+is-locked m k = rw (eq-eqb _ 1 (k .mode)) (eq-eqb _ _ (k .lock))
+
 pub step-settings : (m : Machine) (mem : List ℕ) → Locked m → settings (step m mem .result .machine) ≡ settings m
-step-settings m mem k = step-does m mem .kept .lock (rw (eq-eqb _ 1 (k .mode)) (eq-eqb _ _ (k .lock)))
+step-settings m mem k = step-does m mem .kept .lock (is-locked m k)
 
 -- a byte that a locked machine may not write is as it was after a step
 step-unwritten : (m : Machine) (mem : List ℕ) (b : ℕ) → Locked m → (Writable (m .hfi .regions) b → ⊥) → getD (step m mem .memory) b 0 ≡ getD mem b 0
@@ -217,6 +244,15 @@ module _ (m : Machine) (mem : List ℕ) (budget : ℕ) (k : Locked m) where
       let c = locked-too m l k (h .0) (i on) in
       (step-settings l s c ∙ h .0, step-unwritten l s b c (λ w. n (rw (ap (λ (t : Settings). t .regions) (h .0)) at w)) ∙ h .1)) mem budget (refl, refl) .1
 
+  -- nor does it change a byte that may be executed: where one could be written too, the run is refused
+  pub locked-executable : (b : ℕ) → Executable (m .hfi .regions) b → getD (runCall m mem budget .memory) b 0 ≡ getD mem b 0
+  unfolding exposesCode
+  locked-executable b x = go (writableCode (m .hfi .regions)) refl
+    where
+      go : (c : Bool) → writableCode (m .hfi .regions) ≡ c → getD (runCall m mem budget .memory) b 0 ≡ getD mem b 0
+      go true e = call-ind (λ r. getD (r .memory) b 0 ≡ getD mem b 0) m mem budget (λ s l u. refl) (λ w y. absurd (clash y (rw (is-locked m k) e)))
+      go false e = locked-unwritten b (not-both (m .hfi .regions) b e x)
+
   -- one that ends in 21 is still locked, well formed and in HFI mode
   pub spent-locked : runCall m mem budget .result .stop ≡ 21
       → Locked (runCall m mem budget .result .machine) × (wellFormed (runCall m mem budget .result .machine) ≡ true)
@@ -227,29 +263,34 @@ module _ (m : Machine) (mem : List ℕ) (budget : ℕ) (k : Locked m) where
 
 -- ---- a run is steps of the step call
 
-repeated : (began : Bool) (n k : ℕ) (m : Machine) (mem : List ℕ) → wellFormed m ≡ true → ltb longest (length mem) ≡ false
+repeated : (began : Bool) (n k : ℕ) (m : Machine) (mem : List ℕ) → wellFormed m ≡ true → exposesCode (m .hfi) ≡ false → ltb longest (length mem) ≡ false
     → run began n k m mem ≡ runBy stepCall began n k m mem
 unfolding runBy stepCall
-repeated began zero k m mem w l = refl
-repeated began (suc n) k m mem w l =
-    rw (l, w)
+repeated began zero k m mem w x l = refl
+repeated began (suc n) k m mem w x l =
+    rw (l, w, x)
     (ap (λ r. cond (eqb (step m mem .result .stop) 0)
     (cond (began && not (inside (step m mem .result .machine .hfi))) (ended 20 (suc k) 0 (step m mem .result .machine) (step m mem .memory)) r)
     (ended (step m mem .result .stop) k (step m mem .result .address) (step m mem .result .machine) (step m mem .memory)))
-    (repeated began n (suc k) (step m mem .result .machine) (step m mem .memory) (step-does m mem .kept .well w) (ap (ltb longest) (step-length m mem) ∙ l)))
+    (repeated began n (suc k) (step m mem .result .machine) (step m mem .memory) (step-does m mem .kept .well w) (step-does m mem .kept .code x)
+    (ap (ltb longest) (step-length m mem) ∙ l)))
 
--- for every machine, memory and budget: questions 1 to 3, then the step call again and again, with 20, 21 and the counts
+-- for every machine, memory and budget: the questions of the call, then the step call again and again, with 20, 21 and the counts; so
+-- asking 1, 3 and 4 once is enough
 pub run-is-step-calls : (m : Machine) (mem : List ℕ) (budget : ℕ)
     → runCall m mem budget
     ≡ cond (ltb longest (length mem)) (ended 1 0 0 m mem)
     (cond (ltb largestBudget budget) (ended 2 0 0 m mem)
-    (cond (wellFormed m) (runBy stepCall (inside (m .hfi)) budget 0 m mem) (ended 3 0 0 m mem)))
+    (cond (wellFormed m) (cond (exposesCode (m .hfi)) (ended 4 0 0 m mem) (runBy stepCall (inside (m .hfi)) budget 0 m mem)) (ended 3 0 0 m mem)))
 unfolding runCall
-run-is-step-calls m mem budget = go (ltb longest (length mem)) (wellFormed m) refl refl
+run-is-step-calls m mem budget = go (ltb longest (length mem)) (ltb largestBudget budget) (wellFormed m) (exposesCode (m .hfi)) refl refl refl
   where
-    go : (a c : Bool) → ltb longest (length mem) ≡ a → wellFormed m ≡ c
-        → cond a (ended 1 0 0 m mem) (cond (ltb largestBudget budget) (ended 2 0 0 m mem) (cond c (run (inside (m .hfi)) budget 0 m mem) (ended 3 0 0 m mem)))
-        ≡ cond a (ended 1 0 0 m mem) (cond (ltb largestBudget budget) (ended 2 0 0 m mem) (cond c (runBy stepCall (inside (m .hfi)) budget 0 m mem) (ended 3 0 0 m mem)))
-    go true c l w = refl
-    go false true l w = ap (λ r. cond (ltb largestBudget budget) (ended 2 0 0 m mem) r) (repeated (inside (m .hfi)) budget 0 m mem w l)
-    go false false l w = refl
+    go : (a b c d : Bool) → ltb longest (length mem) ≡ a → wellFormed m ≡ c → exposesCode (m .hfi) ≡ d
+        → cond a (ended 1 0 0 m mem) (cond b (ended 2 0 0 m mem) (cond c (cond d (ended 4 0 0 m mem) (run (inside (m .hfi)) budget 0 m mem)) (ended 3 0 0 m mem)))
+        ≡ cond a (ended 1 0 0 m mem)
+        (cond b (ended 2 0 0 m mem) (cond c (cond d (ended 4 0 0 m mem) (runBy stepCall (inside (m .hfi)) budget 0 m mem)) (ended 3 0 0 m mem)))
+    go true b c d l w x = refl
+    go false true c d l w x = refl
+    go false false true true l w x = refl
+    go false false true false l w x = repeated (inside (m .hfi)) budget 0 m mem w x l
+    go false false false d l w x = refl

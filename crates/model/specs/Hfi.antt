@@ -10,6 +10,7 @@ use Rattle.instructions.specs.declared.kind.HfiKind.the-variants.{Enter, EnterJ
 use Rattle.model.specs.Machine.{reg, largestOptions, inside, locked, redirectsExits, region, setRegion, withBase, withBound, withPermission, zeroRegions, entered, exited, withHandler, withSelector, withRegions, machine, lastRegion}
 use Rattle.model.specs.Regions.{permissionFits}
 use Rattle.model.specs.WellFormed.{clearHandler}
+use Rattle.model.specs.WritableCode.{exposesCode}
 use Rattle.model.specs.Outcome.{Outcome, completed, assigned, aligned}
 use Rattle.model.specs.declared.Region.{Region}
 use Rattle.model.specs.declared.HfiState.{HfiState}
@@ -49,9 +50,25 @@ operandForbids h SetHandler a = false
 operandForbids h GetHandler a = false
 operandForbids h ResetRegions a = false
 
--- question 8: 14, or 0 where nothing is forbidden
+-- "22, for either enter form that would begin such a state" (02, Job 5): locked HFI mode with writable code
+abbrev pub lockForbids : HfiState → HfiKind → ℕ → Bool
+lockForbids h Enter a = exposesCode (entered h a)
+lockForbids h EnterJump a = exposesCode (entered h a)
+lockForbids h Exit a = false
+lockForbids h SelectRegion a = false
+lockForbids h SetBase a = false
+lockForbids h GetBase a = false
+lockForbids h SetBound a = false
+lockForbids h GetBound a = false
+lockForbids h SetPermission a = false
+lockForbids h GetPermission a = false
+lockForbids h SetHandler a = false
+lockForbids h GetHandler a = false
+lockForbids h ResetRegions a = false
+
+-- question 8: 14, then 22, "asked after 14 and before 15"; or 0 where nothing is forbidden
 unfoldable pub hfiStop : HfiState → HfiKind → ℕ → ℕ
-hfiStop h k a = cond (modeForbids h k) 14 (cond (operandForbids h k a) 14 0)
+hfiStop h k a = cond (modeForbids h k) 14 (cond (operandForbids h k a) 14 (cond (lockForbids h k a) 22 0))
 
 -- "an h-word outside" HFI mode
 unfoldable pub hWordStop : HfiState → ℕ

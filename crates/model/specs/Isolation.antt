@@ -33,6 +33,8 @@ pub record Isolated (m : Machine) (s t : List ℕ) (e f : Ended) : Type 0 where
   pub agreeing : (a : ℕ) → getD s a 0 ≡ getD t a 0 → getD (e .memory) a 0 ≡ getD (f .memory) a 0
   -- "no byte that the recipe may not write has changed", in either run
   pub unwritten : (a : ℕ) → (Writable (m .hfi .regions) a → ⊥) → (getD (e .memory) a 0 ≡ getD s a 0) × (getD (f .memory) a 0 ≡ getD t a 0)
+  -- "a locked run leaves every executable byte as it found it" (02, Job 5), either run
+  pub executable : (a : ℕ) → Executable (m .hfi .regions) a → (getD (e .memory) a 0 ≡ getD s a 0) × (getD (f .memory) a 0 ≡ getD t a 0)
 
 -- "for every budget and every stop"
 abbrev pub Isolation : Type 0

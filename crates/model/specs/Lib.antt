@@ -4,6 +4,7 @@ pub mod WellFormed
 pub mod Bytes
 pub mod Access
 pub mod Reach
+pub mod WritableCode
 pub mod Arithmetic
 pub mod Outcome
 pub mod Hfi

@@ -7,6 +7,7 @@ use lib.Dec.{eqb, ltb}
 use lib.ListN.{length}
 use Rattle.model.specs.Machine.{inside}
 use Rattle.model.specs.WellFormed.{wellFormed}
+use Rattle.model.specs.WritableCode.{exposesCode}
 use Rattle.model.specs.Outcome.{Outcome}
 use Rattle.model.specs.Step.{step, longest}
 use Rattle.model.specs.declared.Machine.{Machine}
@@ -46,9 +47,11 @@ run = runBy step
 abbrev pub largestBudget : ℕ
 largestBudget = 1000000
 
--- questions 1, 2 and "3. Is the machine well formed? No: 3."; then the run. "For 1 to 3 nothing changes and the count is 0."
+-- questions 1, 2, "3. Is the machine well formed? No: 3." and "4, for a step or run given such a machine in locked HFI mode,
+-- asked after 3" (02, Job 5), once, before the first step: it cannot arise later (proofs/Runs.antt); then the run. "For 1 to 3 nothing
+-- changes and the count is 0."; "4 leaves what 3 leaves, count 0"
 unfoldable pub runCall : Machine → List ℕ → ℕ → Ended
 runCall m mem budget =
     cond (ltb longest (length mem)) (ended 1 0 0 m mem)
     (cond (ltb largestBudget budget) (ended 2 0 0 m mem)
-    (cond (wellFormed m) (run (inside (m .hfi)) budget 0 m mem) (ended 3 0 0 m mem)))
+    (cond (wellFormed m) (cond (exposesCode (m .hfi)) (ended 4 0 0 m mem) (run (inside (m .hfi)) budget 0 m mem)) (ended 3 0 0 m mem)))

@@ -17,6 +17,7 @@ use Rattle.instructions.specs.declared.instruction.Decoded.{Decoded}
 use Rattle.instructions.specs.declared.instruction.Decoded.the-variants.{Legal, Illegal}
 use Rattle.model.specs.Machine.{sum, reg, setReg, loadOp, storeOp, fetchOp, redirectsCalls, exited, machine}
 use Rattle.model.specs.WellFormed.{wellFormed}
+use Rattle.model.specs.WritableCode.{exposesCode}
 use Rattle.model.specs.Bytes.{value, written}
 use Rattle.model.specs.Outcome.{Outcome, completed, stopped, assigned, withPc, allowed, aligned, settle}
 use Rattle.model.specs.Access.{Access, fetchAccess, loadAccess, storeAccess, hloadAccess, hstoreAccess, verdict}
@@ -101,11 +102,12 @@ step m mem =
 abbrev pub longest : ℕ
 longest = 16777216
 
--- question 1 and "3. Is the machine well formed? No: 3."; then the step. "For 1 to 3 nothing changes"
+-- question 1, "3. Is the machine well formed? No: 3." and "4, for a step or run given such a machine in locked HFI mode, asked
+-- after 3" (02, Job 5); then the step. "For 1 to 3 nothing changes"; "4 leaves what 3 leaves"
 unfoldable pub stepCall : Machine → List ℕ → Outcome
 stepCall m mem =
     cond (ltb longest (length mem)) (stopped 1 m mem)
-    (cond (wellFormed m) (step m mem) (stopped 3 m mem))
+    (cond (wellFormed m) (cond (exposesCode (m .hfi)) (stopped 4 m mem) (step m mem)) (stopped 3 m mem))
 
 -- "Resuming .. puts a given value in x10 and adds 4 to pc; it asks question 3 only."
 unfoldable pub resumeCall : Machine → ℕ → Stepped

@@ -13,6 +13,7 @@ use Rattle.model.specs.Regions.{explicitRule, matches, firstMatch, implicitGran
 use Rattle.model.specs.Run.{runBy, runCall}
 use Rattle.model.specs.Step.{load, store, jump, branch, perform, executeWord, step}
 use Rattle.model.specs.WellFormed.{stateFits, wellFormed}
+use Rattle.model.specs.WritableCode.{explicitHolds, writableCode, exposesCode}
 use Rattle.text.specs.Number.{spelled, digits}
 use Rattle.text.specs.Ascii.{ascii}
 use Rattle.text.specs.Scan.{firstThat, count}
@@ -32,6 +33,8 @@ rows =
     ∷ (ascii "4,5,100,200,10,3,0,0,0,0,fffffffffffffff0,4,f4241\n", ascii "2,0,4,0,0,0,0,0,0\n")
     -- options 10
     ∷ (ascii "0,10,100,200,10,3,0,0,0,0,fffffffffffffff0,4,a\n", ascii "3,0,0,0,0,0,0,0,0\n")
+    -- the byte at 3 may be written and executed
+    ∷ (ascii "0,5,100,3,1,3,0,0,0,0,fffffffffffffff0,4,a\n", ascii "4,0,0,0,0,0,0,0,0\n")
     -- a fetch past the code region: the fault record, op and address in their places
     ∷ (ascii "10,5,100,200,10,3,0,0,0,0,fffffffffffffff0,4,a\n", ascii "11,0,10,0,0,1,0,3,10\n")
     -- sixteen steps of a jump to itself, printed in hexadecimal
@@ -51,5 +54,5 @@ expected [] = []
 expected (r ∷ rs) = r .1 ∷ expected rs
 
 pub rows-hold : reported rows ≡ expected rows
-unfolding report reportOver registerLines sheetRefusal linesRefusal wordsRefusal readWord rowOf memoryOf blank fileNo permissionsInRange readSetup split allWide firstThat count spelled digits runCall runBy step executeWord perform branch jump store load stateFits wellFormed explicitRule matches firstMatch implicitGrants explicitGrants allowed aligned settle hfiStop hWordStop hfiPerform value written scan firstRefused firstAbsent verdict decodeWord sext trailingZeros
+unfolding report reportOver registerLines sheetRefusal linesRefusal wordsRefusal readWord rowOf memoryOf blank fileNo permissionsInRange readSetup split allWide firstThat count spelled digits runCall runBy step executeWord perform branch jump store load stateFits wellFormed explicitRule matches firstMatch implicitGrants explicitGrants explicitHolds writableCode exposesCode allowed aligned settle hfiStop hWordStop hfiPerform value written scan firstRefused firstAbsent verdict decodeWord sext trailingZeros
 rows-hold = refl

@@ -37,6 +37,9 @@ pub calls-isolated : (m : Machine) (s t : List ℕ) (budget : ℕ) (r q : Ran) (
     -- "no byte that the recipe may not write has changed"
     × ((a : ℕ) → (Writable (m .hfi .regions) a → ⊥) → getD s′ a 0 ≡ getD s a 0)
     × ((a : ℕ) → (Writable (m .hfi .regions) a → ⊥) → getD t′ a 0 ≡ getD t a 0)
+    -- "a locked run leaves every executable byte as it found it" (02, Job 5)
+    × ((a : ℕ) → Executable (m .hfi .regions) a → getD s′ a 0 ≡ getD s a 0)
+    × ((a : ℕ) → Executable (m .hfi .regions) a → getD t′ a 0 ≡ getD t a 0)
 calls-isolated m s t budget r q s′ t′ e f = runs-isolated m s t budget (ranWith r s′) (ranWith q t′) e f
 
 -- a call from a locked machine leaves its regions, options, handler and selector as they were

@@ -9,6 +9,7 @@ use model::LARGEST_BUDGET;
 use model::LONGEST;
 use model::Machine;
 use model::Ran;
+use reach::exposes_code;
 use step::step;
 
 // A run that is refused: nothing has changed.
@@ -76,6 +77,10 @@ pub fn run_call(m: Machine, mem: &mut [u8], budget: u64) -> Ran
     }
     if !well_formed(m) {
         return refused(3, m);
+    }
+    let hfi = m.hfi;
+    if exposes_code(hfi) {
+        return refused(4, m);
     }
     run(m, mem, budget)
 }

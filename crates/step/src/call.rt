@@ -7,27 +7,34 @@ use hart::well_formed::well_formed;
 use model::LONGEST;
 use model::Machine;
 use model::Stepped;
+use reach::exposes_code;
+
+// A call that is refused: nothing has changed.
+fn refused(stop: u64, m: Machine) -> Stepped
+    ensures { λ r. ⌜ r ≡ record { stop = stop; address = 0; machine = m } ⌝ }
+{
+    Stepped {
+        stop: stop,
+        address: 0,
+        machine: m,
+    }
+}
 
 // One step of any machine over any memory.
 pub fn step_call(m: Machine, mem: &mut [u8]) -> Stepped
     ensures { λ r. ⌜ steppedWith r (now (mem .exit)) ≡ stepCall m (now (mem .entry)) ⌝ }
 {
     if LONGEST < mem.len() {
-        return Stepped {
-            stop: 1,
-            address: 0,
-            machine: m,
-        };
+        return refused(1, m);
     }
     if !well_formed(m) {
-        return Stepped {
-            stop: 3,
-            address: 0,
-            machine: m,
-        };
+        return refused(3, m);
+    }
+    let hfi = m.hfi;
+    if exposes_code(hfi) {
+        return refused(4, m);
     }
     let mut x = m.x;
-    let hfi = m.hfi;
     let e = step(&mut x, m.pc, hfi, mem);
     let after = e.hfi;
     let n = Machine {
@@ -47,11 +54,7 @@ pub fn resume_call(m: Machine, v: u64) -> Stepped
     ensures { λ r. ⌜ r ≡ resumeCall m v ⌝ }
 {
     if !well_formed(m) {
-        return Stepped {
-            stop: 3,
-            address: 0,
-            machine: m,
-        };
+        return refused(3, m);
     }
     let mut n = m;
     n.x[10] = v;

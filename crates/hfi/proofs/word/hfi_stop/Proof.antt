@@ -22,14 +22,37 @@ returns-2 c =
       sym (c .before .operand-forbids .ensures) ∙ c .if2 .taken,
     )
 
+lock-forbids-requires : tie.Need-lock-forbids-requires
+lock-forbids-requires c κs = search needs
+
 returns-3 : tie.Need-returns-3
 unfolding hfiStop
 returns-3 c =
+    let o = c .before .before .before in
     rw (
-      sym (c .before .before .before .mode-forbids .ensures) ∙ c .before .before .if1 .left,
-      sym (c .before .operand-forbids .ensures) ∙ c .if2 .left,
+      sym (o .before .before .mode-forbids .ensures) ∙ o .before .if1 .left,
+      sym (o .operand-forbids .ensures) ∙ c .before .before .if2 .left,
+      sym (c .before .lock-forbids .ensures) ∙ c .if3 .taken,
+    )
+
+returns-4 : tie.Need-returns-4
+unfolding hfiStop
+returns-4 c =
+    let o = c .before .before .before in
+    rw (
+      sym (o .before .before .mode-forbids .ensures) ∙ o .before .if1 .left,
+      sym (o .operand-forbids .ensures) ∙ c .before .before .if2 .left,
+      sym (c .before .lock-forbids .ensures) ∙ c .if3 .left,
     )
 
 pub hfi-stop-spec : {M : Type 1} → statement M
 hfi-stop-spec =
-    tie.close (tie.spec mode-forbids-requires returns operand-forbids-requires returns-2 returns-3)
+    tie.close
+    (tie.spec
+    mode-forbids-requires
+    returns
+    operand-forbids-requires
+    returns-2
+    lock-forbids-requires
+    returns-3
+    returns-4)

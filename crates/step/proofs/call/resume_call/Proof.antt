@@ -8,9 +8,12 @@ use Rattle.step.proofs.call.resume_call.Tie as tie
 well-formed-requires : tie.Need-well-formed-requires
 well-formed-requires c κs = search needs
 
+refused-requires : tie.Need-refused-requires
+refused-requires c κs = search needs
+
 returns : tie.Need-returns
 unfolding resumeCall
-returns c = rw (sym (c .before .well-formed .ensures) ∙ not-true _ (c .if1 .taken))
+returns c = c .refused .ensures ∙ simp (sym (c .before .before .well-formed .ensures) ∙ not-true _ (c .before .if1 .taken))
 
 element-write-n : tie.Need-element-write-n
 element-write-n c = search needs
@@ -25,4 +28,10 @@ returns-2 c = rw (sym (c .before .before .well-formed .ensures) ∙ not-false _ 
 pub resume-call-spec : {M : Type 1} → statement M
 resume-call-spec =
     tie.close
-    (tie.spec well-formed-requires returns element-write-n wrapping-add-u64-requires returns-2)
+    (tie.spec
+    well-formed-requires
+    refused-requires
+    returns
+    element-write-n
+    wrapping-add-u64-requires
+    returns-2)

@@ -1,0 +1,137 @@
+-- Document 02, Job 5, as rows of one table that one computed check covers: the test at the edges of regions, and 4 and 22 among the other
+-- questions. A row of a call has the whole machine that it leaves, and the whole memory.
+-- Assumes nothing.
+use mathlib.Core.Path.{_≡_, refl}
+use mathlib.Core.Bool.{true, false}
+use mathlib.Core.List.{List, [], _∷_, _++_}
+use Prim.Native.Nat.{ℕ, _+_, _-_, _^_}
+use lib.Count.{trailingZeros}
+use Rattle.words.specs.Word.{sext}
+use Rattle.instructions.specs.Decode.{decodeWord}
+use Rattle.model.specs.Bytes.{value, written}
+use Rattle.model.specs.Outcome.{allowed, aligned, settle}
+use Rattle.model.specs.WellFormed.{stateFits, wellFormed}
+use Rattle.model.specs.Hfi.{hfiStop, hWordStop, hfiPerform}
+use Rattle.model.specs.Regions.{explicitRule, matches, firstMatch, implicitGrants, explicitGrants}
+use Rattle.model.specs.WritableCode.{explicitHolds, writableCode, exposesCode}
+use Rattle.model.specs.Access.{scan, firstRefused, firstAbsent, verdict}
+use Rattle.model.specs.Step.{perform, executeWord, step, stepCall, resumeCall}
+use Rattle.model.specs.Run.{runBy, runCall}
+use Rattle.model.specs.declared.Region.{Region}
+use Rattle.model.proofs.Rows.{Row, found, stated, x, pc, mode, options, base, bound, permission, occurred, regionOf, bytes}
+use Rattle.model.proofs.Rows.Question.{exposing}
+use Rattle.model.proofs.Rows.Answer.{told}
+use Rattle.model.proofs.Clauses.{enter, enterJump, seven, outside, inside, operands, stepsOver, steps, goes, forbidden, runs, resumes}
+
+-- ---- the test, of regions 1 and 2 against the sixteen bytes from 100 on as region 3, and against others
+
+abbrev none : Region
+none = regionOf 0 0 0
+
+abbrev code : Region
+code = regionOf 0x100 (2 ^ 64 - 0x10) 4
+
+abbrev meets : Region → Region → Region → Row
+meets one two three = (exposing (one ∷ two ∷ three ∷ []), told true)
+
+abbrev parts : Region → Region → Region → Row
+parts one two three = (exposing (one ∷ two ∷ three ∷ []), told false)
+
+unfoldable pub exact : List Row
+exact =
+    -- "through region 1 or region 2 against region 3": all of it, the first byte, the last, one between, and more than it
+    meets (regionOf 0x100 0x10 2) none code
+    ∷ meets (regionOf 0xff 2 3) none code
+    ∷ meets (regionOf 0x10f 9 3) none code
+    ∷ meets (regionOf 0x107 1 3) none code
+    ∷ meets (regionOf 0 0x1000 3) none code
+    ∷ meets none (regionOf 0x100 (2 ^ 64 - 0x10) 2) code
+    ∷ meets none (regionOf 0x10f (2 ^ 64 - 1) 3) code
+    ∷ meets none (regionOf 0x108 (2 ^ 64 - 8) 3) code
+    ∷ meets none (regionOf 0 (2 ^ 64 - 0x1000) 3) code
+    ∷ meets (regionOf 0 0x10000 0xb) none code
+    -- one of the two is enough, and neither is needed
+    ∷ meets (regionOf 0x200 8 3) (regionOf 0x100 (2 ^ 64 - 4) 2) code
+    ∷ meets (regionOf 0x104 4 2) (regionOf 0x200 (2 ^ 64 - 4) 3) code
+    ∷ parts (regionOf 0x200 8 3) (regionOf 0x200 (2 ^ 64 - 4) 3) code
+    -- "The test is exact": one ends where the other begins
+    ∷ parts (regionOf 0xf0 0x10 3) none code
+    ∷ parts (regionOf 0x110 0x10 3) none code
+    ∷ parts none (regionOf 0xf0 (2 ^ 64 - 0x10) 3) code
+    ∷ parts none (regionOf 0x110 (2 ^ 64 - 0x10) 3) code
+    -- "both writable and executable": a permission is missing
+    ∷ parts (regionOf 0x100 0x10 1) none code
+    ∷ parts none (regionOf 0x100 (2 ^ 64 - 0x10) 1) code
+    ∷ parts (regionOf 0x100 0x10 3) (regionOf 0x100 (2 ^ 64 - 0x10) 3) (regionOf 0x100 (2 ^ 64 - 0x10) 0)
+    -- "A region that breaks its rule .. matches nothing"
+    ∷ parts (regionOf 0x100 0 3) none code
+    ∷ parts (regionOf 0x100 0x10 0xb) none code
+    ∷ parts (regionOf 0x100 (2 ^ 32 + 1) 3) none code
+    ∷ parts (regionOf 0xfffffff8 0x10 3) none (regionOf 0xfffffff0 (2 ^ 64 - 0x10) 4)
+    ∷ parts none (regionOf 0 0 3) code
+    ∷ parts none (regionOf 0x108 (2 ^ 64 - 0x10) 3) code
+    ∷ parts none (regionOf 0x100 0xfffffffffffffe10 3) code
+    ∷ parts (regionOf 0 0x1000 3) (regionOf 0 (2 ^ 64 - 0x1000) 3) (regionOf 0x108 (2 ^ 64 - 0x10) 4)
+    ∷ parts (regionOf 0 0x1000 3) (regionOf 0 (2 ^ 64 - 0x1000) 3) (regionOf 0 0 4)
+    -- "below 2^48", far above any memory
+    ∷ meets (regionOf (2 ^ 48 - 1) 1 3) none (regionOf (2 ^ 48 - 1) (2 ^ 64 - 1) 4)
+    ∷ meets (regionOf 0 (2 ^ 48) 0xb) none (regionOf (2 ^ 47) (2 ^ 64 - 2 ^ 20) 4)
+    ∷ meets none (regionOf (2 ^ 47) (2 ^ 64 - 2 ^ 20) 2) (regionOf 0 (2 ^ 64 - 2 ^ 48) 4)
+    ∷ parts (regionOf (2 ^ 48) 1 3) none (regionOf (2 ^ 48) (2 ^ 64 - 1) 4)
+    -- a code region too small for a fetch
+    ∷ meets (regionOf 0x103 1 3) none (regionOf 0x103 (2 ^ 64 - 1) 4)
+    ∷ meets none (regionOf 0x102 (2 ^ 64 - 2) 3) (regionOf 0x103 (2 ^ 64 - 1) 4)
+    ∷ []
+
+-- ---- the calls
+
+-- region 1 then has the first eight of the sixteen bytes at 0 that may be executed
+abbrev writing : List (ℕ × ℕ)
+writing = (base 1, 0) ∷ (bound 1, 8) ∷ []
+
+unfoldable pub asking : List Row
+asking =
+    -- "4, for a step or run given such a machine in locked HFI mode": before its pc, its budget, its memory
+    steps (inside 1 ++ writing) seven 4 []
+    ∷ steps (inside 0xf ++ writing) 0 4 []
+    ∷ steps (inside 1 ++ writing ++ ((pc, 2) ∷ [])) seven 4 []
+    ∷ stepsOver (inside 1 ++ writing) [] 4 0 []
+    ∷ runs (inside 1 ++ writing) (seven ∷ []) 1 4 0 0 []
+    ∷ runs (inside 1 ++ writing) (seven ∷ []) 0 4 0 0 []
+    ∷ runs (inside 1 ++ ((base 2, 0) ∷ (permission 2, 2) ∷ [])) (seven ∷ []) 9 4 0 0 []
+    -- "asked after 3"
+    ∷ runs (inside 1 ++ writing) (seven ∷ []) 1000001 2 0 0 []
+    ∷ runs (inside 17 ++ writing) (seven ∷ []) 9 3 0 0 []
+    ∷ steps (inside 17 ++ writing) seven 3 []
+    -- neither unlocked nor outside HFI mode, nor where no byte is both
+    ∷ goes (inside 0xe ++ writing) seven ((x 7, 7) ∷ [])
+    ∷ goes (outside 1 ++ writing) seven ((x 7, 7) ∷ [])
+    ∷ goes (inside 1) seven ((x 7, 7) ∷ [])
+    ∷ runs (inside 0xe ++ writing) (seven ∷ []) 1 21 1 0 ((pc, 4) ∷ (x 7, 7) ∷ [])
+    ∷ runs (outside 0xf ++ writing) (seven ∷ []) 1 21 1 0 ((pc, 4) ∷ (x 7, 7) ∷ [])
+    -- nor by resuming
+    ∷ resumes (inside 1 ++ writing) 9 0 ((x 10, 9) ∷ (pc, 4) ∷ [])
+    -- "22, for either enter form that would begin such a state": by the operand's lock bit
+    ∷ steps (outside 0 ++ writing ++ operands 1 0) enter 22 []
+    ∷ steps (outside 0 ++ writing ++ operands 0xf 0) enter 22 []
+    ∷ steps (outside 0 ++ writing ++ operands 1 0x100) enterJump 22 []
+    ∷ goes (outside 1 ++ writing ++ operands 0 0) enter ((mode, 1) ∷ (options, 0) ∷ (occurred, 0) ∷ [])
+    ∷ goes (outside 1 ++ writing ++ operands 0xe 0) enter ((mode, 1) ∷ (options, 0xe) ∷ (occurred, 0) ∷ [])
+    ∷ steps (outside 0 ++ writing ++ operands 2 0x100) enterJump 0 ((pc, 0x100) ∷ (mode, 1) ∷ (options, 2) ∷ (occurred, 0) ∷ [])
+    -- "asked after 14 and before 15"
+    ∷ forbidden (outside 0 ++ writing ++ operands 0x11 0) enter
+    ∷ forbidden (outside 0 ++ writing ++ operands 0x11 0x102) enterJump
+    ∷ forbidden (inside 0 ++ writing ++ operands 1 0) enter
+    ∷ forbidden (inside 0 ++ writing ++ operands 1 0x102) enterJump
+    ∷ steps (outside 0 ++ writing ++ operands 1 0x102) enterJump 22 []
+    ∷ steps (outside 0 ++ writing ++ operands 0 0x102) enterJump 15 []
+    -- "22 what 14 leaves": in a run the stopping step isn't counted and changes nothing
+    ∷ runs (outside 0 ++ writing ++ operands 1 0) (seven ∷ enter ∷ []) 9 22 1 0 ((pc, 4) ∷ (x 7, 7) ∷ [])
+    ∷ []
+
+abbrev pub rows : List Row
+rows = exact ++ asking
+
+pub rows-hold : found rows ≡ stated rows
+unfolding exact asking trailingZeros sext decodeWord matches explicitRule firstMatch implicitGrants explicitGrants explicitHolds writableCode exposesCode scan firstRefused firstAbsent verdict value written allowed aligned settle stateFits wellFormed hfiStop hWordStop hfiPerform perform executeWord step stepCall resumeCall runBy runCall
+rows-hold = refl

@@ -1,0 +1,2 @@
+pub mod Implicit
+pub mod Edges
