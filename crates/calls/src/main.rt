@@ -263,7 +263,7 @@ fn show_all(s: &[u8]) {
 }
 
 fn main() {
-    let mut room = [0u8; 524288];
+    let mut room = [0u8; 655360];
     let n = read_file(b"calls", &mut room);
     show_all(&room[..n]);
 }

@@ -30,7 +30,7 @@ use model::LARGEST_OPTIONS;
 use model::LAST_REGION;
 use model::REGIONS;
 use model::Region;
-use reach::exposes_code;
+use writable_code::exposes_code;
 
 // Does the mode forbid the word?
 fn mode_forbids(h: HfiState, k: HfiKind) -> bool
@@ -95,7 +95,7 @@ fn lock_forbids(h: HfiState, k: HfiKind, a: u64) -> bool
     }
 }
 
-// Question 8: its number, or 0.
+// Question 8, and then 22: the number, or 0.
 pub fn hfi_stop(h: HfiState, k: HfiKind, a: u64) -> u64
     ensures { λ r. ⌜ r ≡ hfiStop h k a ⌝ }
 {
@@ -234,7 +234,7 @@ fn perform(
     }
 }
 
-// Question 8, and the rest of the step.
+// Question 8, 22, and the rest of the step.
 pub fn hfi_word(
     x: &mut [u64; 32],
     pc: u64,

@@ -7,7 +7,7 @@ ghost use Rattle.koubospar.specs.Lent.{stopWith, runStopWith};
 use crate::single::single_step;
 use model::Machine;
 
-// What a step or a resumption of a lent machine answers: document 01's number, and the absent address of 12 and 17.
+// What a step or a resumption of a lent machine answers: the documents' number, and the absent address of 12 and 17.
 #[repr(C)]
 pub struct Stop {
     pub stop: u64,

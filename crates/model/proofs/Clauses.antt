@@ -16,7 +16,7 @@ use Rattle.model.specs.Outcome.{stopped, allowed, aligned, settle}
 use Rattle.model.specs.WellFormed.{stateFits, wellFormed}
 use Rattle.model.specs.Hfi.{hfiStop, hWordStop, hfiPerform}
 use Rattle.model.specs.Regions.{explicitRule, matches, firstMatch, implicitGrants, explicitGrants}
-use Rattle.model.specs.WritableCode.{explicitHolds, writableCode, exposesCode}
+use Rattle.model.specs.WritableCode.{explicitCovers, writableCode, exposesCode}
 use Rattle.model.specs.Access.{scan, firstRefused, firstAbsent, verdict}
 use Rattle.model.specs.Step.{load, store, jump, branch, perform, executeWord, step, stepCall, resumeCall}
 use Rattle.model.specs.Run.{ended, runBy, runCall}
@@ -345,18 +345,18 @@ operating =
     ∷ goes (outside 0 ++ operands (2 ^ 64 - 7) 2) 0x0262f33b ((x 6, 1) ∷ [])
     ∷ []
 
--- an h-word of x6 at -5(x21): region 1 has the nine bytes from 3 on, and the offset is 1
+-- an h-word of x6 at -5(x21), locked: region 1 has the nine bytes from 3 on, and the offset is 1; the code stands at 10
 abbrev reaching : List (ℕ × ℕ)
-reaching = inside 0 ++ ((base 1, 3) ∷ (bound 1, 9) ∷ (x 6, 0x0102030405060708) ∷ (x 21, 6) ∷ [])
+reaching = inside 1 ++ ((base 1, 3) ∷ (bound 1, 9) ∷ (base 3, 0x10) ∷ (pc, 0x10) ∷ (x 6, 0x0102030405060708) ∷ (x 21, 6) ∷ [])
 
 abbrev around : ℕ → List ℕ
-around w = bytes (w ∷ 0xf3e2d1c0 ∷ 0x8796a5b4 ∷ [])
+around w = bytes (0 ∷ 0xf3e2d1c0 ∷ 0x8796a5b4 ∷ 0 ∷ w ∷ [])
 
 abbrev loads : ℕ → ℕ → Row
-loads w v = stepsOver reaching (around w) 0 0 ((pc, 4) ∷ (x 6, v) ∷ [])
+loads w v = stepsOver reaching (around w) 0 0 ((pc, 0x14) ∷ (x 6, v) ∷ [])
 
 abbrev stores : ℕ → List (ℕ × ℕ) → Row
-stores w written = writes reaching (around w) ((pc, 4) ∷ []) written
+stores w written = writes reaching (around w) ((pc, 0x14) ∷ []) written
 
 unfoldable pub offsets : List Row
 offsets =
@@ -499,7 +499,7 @@ abbrev pub rows : List Row
 rows = entering ++ leaving ++ locking ++ keeping ++ running-on ++ asking ++ operating ++ offsets ++ absent ++ going-on ++ forming
 
 pub clauses : found rows ≡ stated rows
-unfolding entering leaving locking keeping running-on asking operating offsets absent going-on forming trailingZeros sext lowHalf highHalf quotient remainder decodeWord matches explicitRule firstMatch implicitGrants explicitGrants explicitHolds writableCode exposesCode scan firstRefused firstAbsent verdict value written allowed aligned settle stateFits wellFormed hfiStop hWordStop hfiPerform load store jump branch perform executeWord step stepCall resumeCall runBy runCall
+unfolding entering leaving locking keeping running-on asking operating offsets absent going-on forming trailingZeros sext lowHalf highHalf quotient remainder decodeWord matches explicitRule firstMatch implicitGrants explicitGrants explicitCovers writableCode exposesCode scan firstRefused firstAbsent verdict value written allowed aligned settle stateFits wellFormed hfiStop hWordStop hfiPerform load store jump branch perform executeWord step stepCall resumeCall runBy runCall
 clauses = refl
 
 -- ---- "Is memory no longer than 16,777,216?" of memories that are too long to write down

@@ -149,7 +149,7 @@ isolation m s t budget l a =
       lengths = (run-length m s budget, run-length m t budget);
       agreeing = h .agreeing;
       unwritten = λ b w. (locked-unwritten m s budget l b w, locked-unwritten m t budget l b w);
-      executable = λ b x. (locked-executable m s budget l b x, locked-executable m t budget l b x);
+      unchanged = λ b x. (locked-executable m s budget l b x, locked-executable m t budget l b x);
     }
 
 -- ---- the same from plain facts and in plain terms: each half-sentence of the demand for itself
@@ -183,6 +183,6 @@ runs-isolated m s t budget e f p q mode lock lengths readable executable =
       i .agreeing,
       (λ b w. i .unwritten b w .0),
       (λ b w. i .unwritten b w .1),
-      (λ b x. i .executable b x .0),
-      (λ b x. i .executable b x .1),
+      (λ b x. i .unchanged b x .0),
+      (λ b x. i .unchanged b x .1),
     )

@@ -13,6 +13,6 @@ pub mod Reach
 pub mod WritableCode
 pub mod Witness
 pub mod Runs
-pub mod Refused
+pub mod Exposed
 pub mod Formed
 pub mod Moves

@@ -190,7 +190,7 @@ module _ (m : Machine) where
 
 -- ---- the words of opcode 5b
 
--- question 8 lets a word pass that neither the mode nor its operand forbids, nor the lock that it would begin
+-- question 8 and 22 let a word pass that neither the mode nor its operand forbids, nor the lock that it would begin
 permitted : (h : HfiState) (k : HfiKind) (a : ℕ) → eqb (hfiStop h k a) 0 ≡ true
     → (modeForbids h k ≡ false) × (operandForbids h k a ≡ false) × (lockForbids h k a ≡ false)
 unfolding hfiStop
@@ -203,7 +203,7 @@ permitted h k a e = go (modeForbids h k) (operandForbids h k a) (lockForbids h k
     go false false true p q r f g h e = absurd (h (eqb-true r 0 e))
     go false false false p q r f g h e = (refl, refl, refl)
 
--- and its number is none of the run's own
+-- and the number is none of the run's own, nor of the calls'
 stop-proper : (h : HfiState) (k : HfiKind) (a : ℕ) → proper (hfiStop h k a) 0 ≡ true
 unfolding hfiStop
 stop-proper h k a = go (modeForbids h k) (operandForbids h k a) (lockForbids h k a) _ _ _ refl refl refl

@@ -120,7 +120,7 @@ never-zero m mem budget =
     run-ind (inside (m .hfi)) (λ n k l mem e. e .result .stop ≡ 0 → ⊥) (λ k l mem e. omega (arith, e)) (λ n k l mem q. q)
     (λ n k l mem e. omega (arith, e)) (λ n k l mem e i h. h) budget 0 m mem)
 
--- a completed step gives no address, and 21 is no step's number
+-- a completed step gives no address, and 1 to 4 and 21 are no step's numbers
 module _ (m : Machine) (mem : List ℕ) where
   proper-parts : ((not (eqb (step m mem .result .stop) 0) || eqb (step m mem .result .address) 0) ≡ true)
       × (not (leb 1 (step m mem .result .stop) && leb (step m mem .result .stop) 4) ≡ true)
@@ -167,9 +167,10 @@ module _ (m : Machine) (mem : List ℕ) (budget : ℕ) (q : runCall m mem budget
       (λ n k l s z f e. absurd (not-spent l s e)) (λ n k l s f e. absurd (omega (arith, e))) (λ n k l s e j h f. h j) budget 0 m mem (λ e. e))
       q
 
-  pub spent-well-formed : wellFormed m ≡ true
-  spent-well-formed =
-      call-ind (λ e. e .result .stop ≡ 21 → wellFormed m ≡ true) m mem budget (λ s l u e. absurd (omega (arith, e))) (λ w x e. w) q
+  pub spent-asked : (wellFormed m ≡ true) × (exposesCode (m .hfi) ≡ false)
+  spent-asked =
+      call-ind (λ e. e .result .stop ≡ 21 → (wellFormed m ≡ true) × (exposesCode (m .hfi) ≡ false)) m mem budget (λ s l u e. absurd (omega (arith, e)))
+      (λ w x e. (w, x)) q
 
 -- ---- what a run keeps
 
@@ -196,7 +197,8 @@ run-length m mem budget = run-keeps m (λ l s. length s ≡ length mem) (λ l s 
 pub run-well-formed : (m : Machine) (mem : List ℕ) (budget : ℕ) → wellFormed m ≡ true → wellFormed (runCall m mem budget .result .machine) ≡ true
 run-well-formed m mem budget = run-keeps m (λ l s. wellFormed l ≡ true) (λ l s i w. step-does l s .kept .well w) mem budget
 
--- what is refused with 4 does not arise inside a run that began without it: every machine that a run comes to passes the question
+-- a run that is given a machine that 4 does not refuse leaves one that it does not refuse. That it would refuse none inside the run either
+-- is run-is-step-calls, whose steps ask it each, with run-not-refused
 pub run-unexposed : (m : Machine) (mem : List ℕ) (budget : ℕ) → exposesCode (m .hfi) ≡ false → exposesCode (runCall m mem budget .result .machine .hfi) ≡ false
 run-unexposed m mem budget = run-keeps m (λ l s. exposesCode (l .hfi) ≡ false) (λ l s i x. step-does l s .kept .code x) mem budget
 
@@ -253,13 +255,17 @@ module _ (m : Machine) (mem : List ℕ) (budget : ℕ) (k : Locked m) where
       go true e = call-ind (λ r. getD (r .memory) b 0 ≡ getD mem b 0) m mem budget (λ s l u. refl) (λ w y. absurd (clash y (rw (is-locked m k) e)))
       go false e = locked-unwritten b (not-both (m .hfi .regions) b e x)
 
-  -- one that ends in 21 is still locked, well formed and in HFI mode
+  -- one that ends in 21 is still locked, in HFI mode, well formed and not refused with 4
   pub spent-locked : runCall m mem budget .result .stop ≡ 21
-      → Locked (runCall m mem budget .result .machine) × (wellFormed (runCall m mem budget .result .machine) ≡ true)
-  spent-locked q = (
-    locked-too m _ k locked-keeps (spent-inside m mem budget q on),
-    run-well-formed m mem budget (spent-well-formed m mem budget q),
-  )
+      → Locked (runCall m mem budget .result .machine)
+      × (wellFormed (runCall m mem budget .result .machine) ≡ true)
+      × (exposesCode (runCall m mem budget .result .machine .hfi) ≡ false)
+  spent-locked q =
+      let s = spent-asked m mem budget q in (
+        locked-too m _ k locked-keeps (spent-inside m mem budget q on),
+        run-well-formed m mem budget (s .0),
+        run-unexposed m mem budget (s .1),
+      )
 
 -- ---- a run is steps of the step call
 

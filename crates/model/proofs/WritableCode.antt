@@ -1,4 +1,4 @@
--- The test of WritableCode.antt says yes exactly if a byte below 2^48 is both writable and executable. The law under it is over any list
+-- The test of WritableCode.antt holds exactly if a byte below 2^48 is both writable and executable. The law under it is over any list
 -- of regions and any numbers of each kind: where no edge of any region stands at a byte, that byte is in the same regions as the
 -- one before it, so that the same region decides; a byte that is both is thus led down to an edge that is both.
 -- Assumes nothing.
@@ -8,15 +8,15 @@ use mathlib.Core.List.{List, [], _∷_, _++_}
 use mathlib.Core.Logic.{_⊎_, inl, inr}
 use Prim.Native.Nat.{ℕ, zero, suc, _+_, _-_, _^_, _<_, _≤_}
 use native.Mathlib.Omega.{arith}
-use lib.Dec.{eqb, leb, ltb, lit<, lit≤}
+use lib.Dec.{eqb, leb, ltb, lit<}
 use lib.ListN.{getD}
 use lib.Count.{trailingZeros}
 use borrow.Author.Tests.{leb-true, le-leb, ltb-true, lt-ltb, eqb-true, eqb-false}
 use Rattle.instructions.proofs.Tests.{and-both}
 use Rattle.model.specs.Machine.{noRegion, region}
-use Rattle.model.specs.Regions.{RegionKind, explicit, implicitData, implicitCode, explicitRegions, dataRegions, codeRegions, among, regionKind, write, execute, permits, maskZeros, implicitRule, explicitRule, matches, firstMatch, granting, implicitGrants}
+use Rattle.model.specs.Regions.{RegionKind, explicit, implicitData, implicitCode, explicitRegions, dataRegions, codeRegions, among, regionKind, write, execute, permits, implicitRule, explicitRule, matches, firstMatch, granting, implicitGrants}
 use Rattle.model.specs.Reach.{Writable, Executable}
-use Rattle.model.specs.WritableCode.{WritableCode, holds, explicitHolds, writableAt, executableAt, bothAt, keepsRule, regionEnd, edges, some, writableCode}
+use Rattle.model.specs.WritableCode.{WritableCode, covers, explicitCovers, writableAt, executableAt, bothAt, keepsRule, regionEnd, edges, some, writableCode}
 use Rattle.model.specs.declared.Region.{Region}
 use Rattle.model.proofs.Intervals.{implicit-kept, matches-inside, inside-matches, matches-low, broken-matches-none, explicit-ends}
 use Rattle.model.proofs.Reach.{Each, InExplicit, InImplicit, writable-form, form-writable, executable-form, form-executable, granted-by}
@@ -79,10 +79,10 @@ slide-inside s e a p q =
     let u = ltb-true a e (t .1) in
     rw (le-leb s (suc a) (omega (arith, l)), lt-ltb (suc a) e (omega (arith, u, q))) refl)
 
-slide-holds : (wanted a : ℕ) (r : Region) → NoEdge explicit (suc a) r → holds wanted (suc a) r ≡ holds wanted a r
-slide-holds wanted a r h = go (explicitRule r) refl
+slide-covers : (wanted a : ℕ) (r : Region) → NoEdge explicit (suc a) r → covers wanted (suc a) r ≡ covers wanted a r
+slide-covers wanted a r h = go (explicitRule r) refl
   where
-    go : (b : Bool) → explicitRule r ≡ b → holds wanted (suc a) r ≡ holds wanted a r
+    go : (b : Bool) → explicitRule r ≡ b → covers wanted (suc a) r ≡ covers wanted a r
     go true e = let n = h e in ap (λ t. explicitRule r && (permits wanted r && t)) (slide-inside (r .base) (r .base + r .bound) a (n .0) (n .1))
     go false e = rw e refl
 
@@ -109,21 +109,21 @@ slide-grants : (rs : List Region) (ns : List ℕ) (wanted a : ℕ) → suc a < 2
 unfolding implicitGrants
 slide-grants rs ns wanted a l h = ap (granting rs wanted) (slide-first rs ns a l h)
 
-slide-held : (rs : List Region) (ns : List ℕ) (wanted a : ℕ) → Each (λ n. NoEdge explicit (suc a) (region rs n)) ns
-    → explicitHolds rs ns wanted (suc a) ≡ explicitHolds rs ns wanted a
-unfolding explicitHolds
-slide-held rs [] wanted a h = refl
-slide-held rs (n ∷ ns) wanted a h = ap₂ _||_ (slide-holds wanted a (region rs n) (h .0)) (slide-held rs ns wanted a (h .1))
+slide-covered : (rs : List Region) (ns : List ℕ) (wanted a : ℕ) → Each (λ n. NoEdge explicit (suc a) (region rs n)) ns
+    → explicitCovers rs ns wanted (suc a) ≡ explicitCovers rs ns wanted a
+unfolding explicitCovers
+slide-covered rs [] wanted a h = refl
+slide-covered rs (n ∷ ns) wanted a h = ap₂ _||_ (slide-covers wanted a (region rs n) (h .0)) (slide-covered rs ns wanted a (h .1))
 
 -- ---- the law: explicit regions es, implicit ones ds and cs, and bytes bs among which are all their edges
 
 module _ (rs : List Region) (es ds cs bs : List ℕ) (wanted wants : ℕ)
     (explicits : (b : ℕ) → among b bs ≡ false → Each (λ n. NoEdge explicit b (region rs n)) es)
     (datas : (b : ℕ) → among b bs ≡ false → Each (λ n. NoEdge implicitData b (region rs n)) ds)
-    (codes : (b : ℕ) → among b bs ≡ false → Each (λ n. NoEdge implicitData b (region rs n)) cs)
+    (codes : (b : ℕ) → among b bs ≡ false → Each (λ n. NoEdge implicitCode b (region rs n)) cs)
   where
     abbrev both : ℕ → Bool
-    both a = implicitGrants rs cs wants a && (implicitGrants rs ds wanted a || explicitHolds rs es wanted a)
+    both a = implicitGrants rs cs wants a && (implicitGrants rs ds wanted a || explicitCovers rs es wanted a)
 
     -- no region starts at 0, or goes on from the byte before it: no byte is granted
     none-at-zero : among 0 bs ≡ false → both 0 ≡ true → ⊥
@@ -142,7 +142,7 @@ module _ (rs : List Region) (es ds cs bs : List ℕ) (wanted wants : ℕ)
     slides : (a : ℕ) → suc a < 2 ^ 64 → among (suc a) bs ≡ false → both (suc a) ≡ both a
     slides a l h =
         ap₂ _&&_ (slide-grants rs cs wants a l (codes (suc a) h))
-        (ap₂ _||_ (slide-grants rs ds wanted a l (datas (suc a) h)) (slide-held rs es wanted a (explicits (suc a) h)))
+        (ap₂ _||_ (slide-grants rs ds wanted a l (datas (suc a) h)) (slide-covered rs es wanted a (explicits (suc a) h)))
 
     pub leads-down : (a : ℕ) → a < 2 ^ 64 → both a ≡ true → some both bs ≡ true
     leads-down zero l t = go (among 0 bs) refl
@@ -228,13 +228,13 @@ some-edge p (r ∷ rs) n h = go (keepsRule (regionKind n) r) refl h (some-edge p
 
 -- ---- the test of one byte is the definition
 
--- what holds of each explicit region that has the byte holds where one of those numbered ns has it
-held-by : (rs : List Region) (ns : List ℕ) (p b : ℕ) (X : Type 0) → Each (λ n. InExplicit (region rs n) p b → X) ns → explicitHolds rs ns p b ≡ true → X
-unfolding explicitHolds
-held-by rs [] p b X h t = absurd (false≢true t)
-held-by rs (n ∷ ns) p b X h t = go (either (holds p b (region rs n)) (explicitHolds rs ns p b) t) (held-by rs ns p b X (h .1))
+-- what follows of each explicit region that has the byte follows where one of those numbered ns has it
+covered-by : (rs : List Region) (ns : List ℕ) (p b : ℕ) (X : Type 0) → Each (λ n. InExplicit (region rs n) p b → X) ns → explicitCovers rs ns p b ≡ true → X
+unfolding explicitCovers
+covered-by rs [] p b X h t = absurd (false≢true t)
+covered-by rs (n ∷ ns) p b X h t = go (either (covers p b (region rs n)) (explicitCovers rs ns p b) t) (covered-by rs ns p b X (h .1))
   where
-    go : (holds p b (region rs n) ≡ true) ⊎ (explicitHolds rs ns p b ≡ true) → (explicitHolds rs ns p b ≡ true → X) → X
+    go : (covers p b (region rs n) ≡ true) ⊎ (explicitCovers rs ns p b ≡ true) → (explicitCovers rs ns p b ≡ true → X) → X
     go (inr y) f = f y
     go (inl y) f =
         let r = region rs n in
@@ -243,33 +243,33 @@ held-by rs (n ∷ ns) p b X h t = go (either (holds p b (region rs n)) (explicit
         let k = and-both (leb (r .base) b) (ltb b (r .base + r .bound)) (j .1) in
         h .0 (record { rule = i .0; permitted = j .0; start = leb-true _ _ (k .0); end = ltb-true _ _ (k .1) })
 
-by-held : (rs : List Region) (ns : List ℕ) (n p b : ℕ) → among n ns ≡ true → InExplicit (region rs n) p b → explicitHolds rs ns p b ≡ true
-unfolding explicitHolds
-by-held rs [] n p b h i = absurd (false≢true h)
-by-held rs (k ∷ ns) n p b h i = go (eqb n k) refl h (λ q. by-held rs ns n p b q i)
+by-covered : (rs : List Region) (ns : List ℕ) (n p b : ℕ) → among n ns ≡ true → InExplicit (region rs n) p b → explicitCovers rs ns p b ≡ true
+unfolding explicitCovers
+by-covered rs [] n p b h i = absurd (false≢true h)
+by-covered rs (k ∷ ns) n p b h i = go (eqb n k) refl h (λ q. by-covered rs ns n p b q i)
   where
-    go : (c : Bool) → eqb n k ≡ c → cond c true (among n ns) ≡ true → (among n ns ≡ true → explicitHolds rs ns p b ≡ true)
-        → (holds p b (region rs k) || explicitHolds rs ns p b) ≡ true
-    go false e q f = or-second (holds p b (region rs k)) _ (f q)
+    go : (c : Bool) → eqb n k ≡ c → cond c true (among n ns) ≡ true → (among n ns ≡ true → explicitCovers rs ns p b ≡ true)
+        → (covers p b (region rs k) || explicitCovers rs ns p b) ≡ true
+    go false e q f = or-second (covers p b (region rs k)) _ (f q)
     go true e q f =
-        or-first (holds p b (region rs k)) _
-        (ap (λ j. holds p b (region rs j)) (sym (eqb-true n k e)) ∙ rw (i .rule, i .permitted, le-leb _ _ (i .start)) (lt-ltb _ _ (i .end)))
+        or-first (covers p b (region rs k)) _
+        (ap (λ j. covers p b (region rs j)) (sym (eqb-true n k e)) ∙ rw (i .rule, i .permitted, le-leb _ _ (i .start)) (lt-ltb _ _ (i .end)))
 
 module _ (rs : List Region) (b : ℕ) where
-  written : Writable rs b → writableAt rs b ≡ true
-  written w = go (writable-form rs b w)
+  writable-tested : Writable rs b → writableAt rs b ≡ true
+  writable-tested w = go (writable-form rs b w)
     where
       go : InImplicit rs dataRegions write b ⊎ InExplicit (region rs 1) write b → writableAt rs b ≡ true
       go (inl i) = or-first (implicitGrants rs dataRegions write b) _ (i .granted)
-      go (inr i) = or-second (implicitGrants rs dataRegions write b) _ (by-held rs explicitRegions 1 write b refl i)
+      go (inr i) = or-second (implicitGrants rs dataRegions write b) _ (by-covered rs explicitRegions 1 write b refl i)
 
-  may-write : b < 2 ^ 64 → writableAt rs b ≡ true → Writable rs b
-  may-write l t = form-writable rs b (go (either (implicitGrants rs dataRegions write b) _ t))
+  tested-writable : b < 2 ^ 64 → writableAt rs b ≡ true → Writable rs b
+  tested-writable l t = form-writable rs b (go (either (implicitGrants rs dataRegions write b) _ t))
     where
-      go : (implicitGrants rs dataRegions write b ≡ true) ⊎ (explicitHolds rs explicitRegions write b ≡ true)
+      go : (implicitGrants rs dataRegions write b ≡ true) ⊎ (explicitCovers rs explicitRegions write b ≡ true)
           → InImplicit rs dataRegions write b ⊎ InExplicit (region rs 1) write b
       go (inl g) = inl (record { granted = g; address = l })
-      go (inr g) = inr (held-by rs explicitRegions write b _ ((λ i. i), tt) g)
+      go (inr g) = inr (covered-by rs explicitRegions write b _ ((λ i. i), tt) g)
 
   -- what a code region grants lies below 2^48
   granted-low : InImplicit rs codeRegions execute b → b < 2 ^ 48
@@ -279,30 +279,30 @@ module _ (rs : List Region) (b : ℕ) where
 
 -- ---- the theorem, both ways
 
-pub finds : (rs : List Region) → WritableCode rs → writableCode rs ≡ true
+pub code-tested : (rs : List Region) → WritableCode rs → writableCode rs ≡ true
 unfolding writableCode
-finds rs w =
+code-tested rs w =
     leads-down rs explicitRegions dataRegions codeRegions (edges 1 rs) write execute
     (λ b h. no-edges rs explicit explicitRegions b ((lit< tt, refl), tt) h)
     (λ b h. no-edges rs implicitData dataRegions b ((lit< tt, refl), tt) h)
     (λ b h. no-edges rs implicitCode codeRegions b ((lit< tt, refl), tt) h)
-    (w .at) (omega (arith, w .low)) (rw (executable-form rs (w .at) (w .executable) .granted) (written rs (w .at) (w .writable)))
+    (w .at) (omega (arith, w .low)) (rw (executable-form rs (w .at) (w .executable) .granted) (writable-tested rs (w .at) (w .writable)))
 
-pub found : (rs : List Region) → writableCode rs ≡ true → WritableCode rs
+pub tested-code : (rs : List Region) → writableCode rs ≡ true → WritableCode rs
 unfolding writableCode
-found rs t =
+tested-code rs t =
     let e = some-edge (bothAt rs) rs 1 t in
     let p = and-both (executableAt rs (e .at)) (writableAt rs (e .at)) (e .passes) in
     let i : InImplicit rs codeRegions execute (e .at) = record { granted = p .0; address = omega (arith, e .low) } in
     record {
       at = e .at;
       low = granted-low rs (e .at) i;
-      writable = may-write rs (e .at) (i .address) (p .1);
+      writable = tested-writable rs (e .at) (i .address) (p .1);
       executable = form-executable rs (e .at) i;
     }
 
--- so, where the test says no, a byte that may be executed may not be written
+-- so, where the test fails, a byte that may be executed may not be writable-tested
 pub not-both : (rs : List Region) (b : ℕ) → writableCode rs ≡ false → Executable rs b → Writable rs b → ⊥
 not-both rs b n x w =
     false≢true
-    (sym n ∙ finds rs (record { at = b; low = granted-low rs b (executable-form rs b x); writable = w; executable = x }))
+    (sym n ∙ code-tested rs (record { at = b; low = granted-low rs b (executable-form rs b x); writable = w; executable = x }))

@@ -13,12 +13,12 @@ use Rattle.model.specs.Outcome.{allowed, aligned, settle}
 use Rattle.model.specs.WellFormed.{stateFits, wellFormed}
 use Rattle.model.specs.Hfi.{hfiStop, hWordStop, hfiPerform}
 use Rattle.model.specs.Regions.{explicitRule, matches, firstMatch, implicitGrants, explicitGrants}
-use Rattle.model.specs.WritableCode.{explicitHolds, writableCode, exposesCode}
+use Rattle.model.specs.WritableCode.{explicitCovers, writableCode, exposesCode}
 use Rattle.model.specs.Access.{scan, firstRefused, firstAbsent, verdict}
 use Rattle.model.specs.Step.{perform, executeWord, step, stepCall, resumeCall}
 use Rattle.model.specs.Run.{runBy, runCall}
 use Rattle.model.specs.declared.Region.{Region}
-use Rattle.model.proofs.Rows.{Row, found, stated, x, pc, mode, options, base, bound, permission, occurred, regionOf, bytes}
+use Rattle.model.proofs.Rows.{Row, found, stated, x, pc, mode, options, base, bound, permission, occurred, regionOf}
 use Rattle.model.proofs.Rows.Question.{exposing}
 use Rattle.model.proofs.Rows.Answer.{told}
 use Rattle.model.proofs.Clauses.{enter, enterJump, seven, outside, inside, operands, stepsOver, steps, goes, forbidden, runs, resumes}
@@ -133,5 +133,5 @@ abbrev pub rows : List Row
 rows = exact ++ asking
 
 pub rows-hold : found rows ≡ stated rows
-unfolding exact asking trailingZeros sext decodeWord matches explicitRule firstMatch implicitGrants explicitGrants explicitHolds writableCode exposesCode scan firstRefused firstAbsent verdict value written allowed aligned settle stateFits wellFormed hfiStop hWordStop hfiPerform perform executeWord step stepCall resumeCall runBy runCall
+unfolding exact asking trailingZeros sext decodeWord matches explicitRule firstMatch implicitGrants explicitGrants explicitCovers writableCode exposesCode scan firstRefused firstAbsent verdict value written allowed aligned settle stateFits wellFormed hfiStop hWordStop hfiPerform perform executeWord step stepCall resumeCall runBy runCall
 rows-hold = refl

@@ -1,4 +1,4 @@
--- The words of opcode 5b: what question 8 forbids, and what each does. Document 01, the list after the table, and question 8.
+-- The words of opcode 5b: what question 8 forbids, and 22 (02, Job 5); and what each does. Document 01, the list after the table, and question 8.
 -- Region, HfiState and Machine are declared in src/lib.rt, HfiKind in instructions/src/kind.rt, Outcome in
 -- Outcome.antt. Assumes nothing.
 use mathlib.Core.Bool.{Bool, false, cond, not, _&&_, _||_}
@@ -66,7 +66,7 @@ lockForbids h SetHandler a = false
 lockForbids h GetHandler a = false
 lockForbids h ResetRegions a = false
 
--- question 8: 14, then 22, "asked after 14 and before 15"; or 0 where nothing is forbidden
+-- question 8, and then 22, "asked after 14 and before 15" (02, Job 5): the number, or 0 where nothing is forbidden
 unfoldable pub hfiStop : HfiState → HfiKind → ℕ → ℕ
 hfiStop h k a = cond (modeForbids h k) 14 (cond (operandForbids h k a) 14 (cond (lockForbids h k a) 22 0))
 

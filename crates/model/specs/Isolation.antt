@@ -1,5 +1,5 @@
 -- Demand 3, as one claim about whole runs: the run call that demand 2 defines, refused runs and the leaving step included.
--- Quotations here are of the demand, and of document 01, "What demand 3 compares".
+-- Quotations here are of the demand, of document 01, "What demand 3 compares", and, where 02 is said, of document 02.
 -- Machine is declared in src/lib.rt, Ended in Run.antt. Assumes nothing.
 use mathlib.Core.Path.{_≡_}
 use mathlib.Core.List.{List}
@@ -33,8 +33,8 @@ pub record Isolated (m : Machine) (s t : List ℕ) (e f : Ended) : Type 0 where
   pub agreeing : (a : ℕ) → getD s a 0 ≡ getD t a 0 → getD (e .memory) a 0 ≡ getD (f .memory) a 0
   -- "no byte that the recipe may not write has changed", in either run
   pub unwritten : (a : ℕ) → (Writable (m .hfi .regions) a → ⊥) → (getD (e .memory) a 0 ≡ getD s a 0) × (getD (f .memory) a 0 ≡ getD t a 0)
-  -- "a locked run leaves every executable byte as it found it" (02, Job 5), either run
-  pub executable : (a : ℕ) → Executable (m .hfi .regions) a → (getD (e .memory) a 0 ≡ getD s a 0) × (getD (f .memory) a 0 ≡ getD t a 0)
+  -- "a locked run leaves every executable byte as it found it" (02, Job 5), in either run
+  pub unchanged : (a : ℕ) → Executable (m .hfi .regions) a → (getD (e .memory) a 0 ≡ getD s a 0) × (getD (f .memory) a 0 ≡ getD t a 0)
 
 -- "for every budget and every stop"
 abbrev pub Isolation : Type 0

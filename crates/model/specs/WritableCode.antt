@@ -1,5 +1,6 @@
--- Document 02, Job 5: "With the lock bit set and HFI mode on, no byte may be both writable and executable". What is asked, in the
--- words of Reach.antt; and a test that computes it, which says yes exactly if such a byte exists (proofs/WritableCode.antt).
+-- Document 02, Job 5: "With the lock bit set and HFI mode on, no byte may be both writable and executable, through region 1 or region 2
+-- against region 3." (The field calls the rule W^X.) What is asked, in the words of Reach.antt; and a test that computes it, which holds
+-- exactly if such a byte exists (proofs/WritableCode.antt).
 -- Region and HfiState are declared in src/lib.rt. Assumes nothing.
 use mathlib.Core.Bool.{Bool, false, cond, _&&_, _||_}
 use mathlib.Core.List.{List, [], _∷_, _++_}
@@ -11,7 +12,7 @@ use Rattle.model.specs.Reach.{Writable, Executable}
 use Rattle.model.specs.declared.Region.{Region}
 use Rattle.model.specs.declared.HfiState.{HfiState}
 
--- "such a byte address exists below 2^48", whether or not the memory has that byte
+-- "The test is exact: it says no only when such a byte address exists below 2^48.", whether or not the memory has that byte
 pub record WritableCode (rs : List Region) : Type 0 where
   pub at : ℕ
   pub low : at < 2 ^ 48
@@ -21,16 +22,16 @@ pub record WritableCode (rs : List Region) : Type 0 where
 -- ---- the test of one byte
 
 -- the byte at a lies in an explicit region that keeps its rule and has the permission
-abbrev pub holds : ℕ → ℕ → Region → Bool
-holds wanted a r = explicitRule r && (permits wanted r && (leb (r .base) a && ltb a (r .base + r .bound)))
+abbrev pub covers : ℕ → ℕ → Region → Bool
+covers wanted a r = explicitRule r && (permits wanted r && (leb (r .base) a && ltb a (r .base + r .bound)))
 
--- in one of those numbered ns
-unfoldable pub explicitHolds : List Region → List ℕ → ℕ → ℕ → Bool
-explicitHolds rs [] wanted a = false
-explicitHolds rs (n ∷ ns) wanted a = holds wanted a (region rs n) || explicitHolds rs ns wanted a
+-- and in one of those numbered ns
+unfoldable pub explicitCovers : List Region → List ℕ → ℕ → ℕ → Bool
+explicitCovers rs [] wanted a = false
+explicitCovers rs (n ∷ ns) wanted a = covers wanted a (region rs n) || explicitCovers rs ns wanted a
 
 abbrev pub writableAt : List Region → ℕ → Bool
-writableAt rs a = implicitGrants rs dataRegions write a || explicitHolds rs explicitRegions write a
+writableAt rs a = implicitGrants rs dataRegions write a || explicitCovers rs explicitRegions write a
 
 abbrev pub executableAt : List Region → ℕ → Bool
 executableAt rs a = implicitGrants rs codeRegions execute a
@@ -65,6 +66,7 @@ abbrev pub some : (ℕ → Bool) → List ℕ → Bool
 some p [] = false
 some p (a ∷ rest) = p a || some p rest
 
+-- the document's no is true here
 unfoldable pub writableCode : List Region → Bool
 writableCode rs = some (bothAt rs) (edges 1 rs)
 

@@ -79,7 +79,7 @@ pub enum Verdict {
     Absent(u64),
 }
 
-// The answer of a step: document 01's number (0 for a completed step), the absent address of 12 and 17, and the machine.
+// The answer of a step: the documents' number (0 for a completed step), the absent address of 12 and 17, and the machine.
 pub struct Stepped {
     pub stop: u64,
     pub address: u64,

@@ -13,7 +13,7 @@ use Rattle.model.specs.Regions.{explicitRule, matches, firstMatch, implicitGran
 use Rattle.model.specs.Run.{runBy, runCall}
 use Rattle.model.specs.Step.{load, store, jump, branch, perform, executeWord, step}
 use Rattle.model.specs.WellFormed.{stateFits, wellFormed}
-use Rattle.model.specs.WritableCode.{explicitHolds, writableCode, exposesCode}
+use Rattle.model.specs.WritableCode.{explicitCovers, writableCode, exposesCode}
 use Rattle.text.specs.Number.{spelled, digits}
 use Rattle.text.specs.Ascii.{ascii}
 use Rattle.text.specs.Scan.{firstThat, count}
@@ -54,5 +54,5 @@ expected [] = []
 expected (r ∷ rs) = r .1 ∷ expected rs
 
 pub rows-hold : reported rows ≡ expected rows
-unfolding report reportOver registerLines sheetRefusal linesRefusal wordsRefusal readWord rowOf memoryOf blank fileNo permissionsInRange readSetup split allWide firstThat count spelled digits runCall runBy step executeWord perform branch jump store load stateFits wellFormed explicitRule matches firstMatch implicitGrants explicitGrants explicitHolds writableCode exposesCode allowed aligned settle hfiStop hWordStop hfiPerform value written scan firstRefused firstAbsent verdict decodeWord sext trailingZeros
+unfolding report reportOver registerLines sheetRefusal linesRefusal wordsRefusal readWord rowOf memoryOf blank fileNo permissionsInRange readSetup split allWide firstThat count spelled digits runCall runBy step executeWord perform branch jump store load stateFits wellFormed explicitRule matches firstMatch implicitGrants explicitGrants explicitCovers writableCode exposesCode allowed aligned settle hfiStop hWordStop hfiPerform value written scan firstRefused firstAbsent verdict decodeWord sext trailingZeros
 rows-hold = refl

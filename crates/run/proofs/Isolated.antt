@@ -14,7 +14,7 @@ use Rattle.model.specs.declared.Machine.{Machine}
 use Rattle.model.specs.declared.Ran.{Ran}
 use Rattle.model.proofs.Moves.{settings}
 use Rattle.model.proofs.Isolation.{runs-isolated}
-use Rattle.model.proofs.Runs.{count-at-most, locked-keeps}
+use Rattle.model.proofs.Runs.{count-at-most, locked-keeps, locked-executable}
 
 -- what `run_call` promises of a call on m and the memory s: the answer r, and the memory s′ after it
 abbrev pub Called : Machine → List ℕ → ℕ → Ran → List ℕ → Type 0
@@ -41,6 +41,11 @@ pub calls-isolated : (m : Machine) (s t : List ℕ) (budget : ℕ) (r q : Ran) (
     × ((a : ℕ) → Executable (m .hfi .regions) a → getD s′ a 0 ≡ getD s a 0)
     × ((a : ℕ) → Executable (m .hfi .regions) a → getD t′ a 0 ≡ getD t a 0)
 calls-isolated m s t budget r q s′ t′ e f = runs-isolated m s t budget (ranWith r s′) (ranWith q t′) e f
+
+-- "From then on a locked run leaves every executable byte as it found it" (02, Job 5), of one call
+pub call-executable : (m : Machine) (s : List ℕ) (budget : ℕ) (r : Ran) (s′ : List ℕ) → Called m s budget r s′ → Locked m
+    → (a : ℕ) → Executable (m .hfi .regions) a → getD s′ a 0 ≡ getD s a 0
+call-executable m s budget r s′ e l a x = ap (λ (o : Ended). getD (o .memory) a 0) e ∙ locked-executable m s budget l a x
 
 -- a call from a locked machine leaves its regions, options, handler and selector as they were
 pub call-keeps : (m : Machine) (s : List ℕ) (budget : ℕ) (r : Ran) (s′ : List ℕ) → Called m s budget r s′ → Locked m

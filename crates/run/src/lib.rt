@@ -1,4 +1,4 @@
-// A run: steps of one machine until one of document 01's questions stops it.
+// A run: steps of one machine until one of the documents' questions stops it.
 ghost use mathlib.Core.Path.{_≡_};
 ghost use Rattle.model.specs.Machine.{inside as isInside, machine};
 ghost use Rattle.model.specs.Run.{run as runOf, ranWith, runCall};
@@ -9,8 +9,8 @@ use model::LARGEST_BUDGET;
 use model::LONGEST;
 use model::Machine;
 use model::Ran;
-use reach::exposes_code;
 use step::step;
+use writable_code::exposes_code;
 
 // A run that is refused: nothing has changed.
 fn refused(stop: u64, m: Machine) -> Ran
@@ -78,6 +78,7 @@ pub fn run_call(m: Machine, mem: &mut [u8], budget: u64) -> Ran
     if !well_formed(m) {
         return refused(3, m);
     }
+    // Once is enough: no step brings it about (`run-is-step-calls` in model/proofs/Runs.antt).
     let hfi = m.hfi;
     if exposes_code(hfi) {
         return refused(4, m);

@@ -7,7 +7,7 @@ use hart::well_formed::well_formed;
 use model::LONGEST;
 use model::Machine;
 use model::Stepped;
-use reach::exposes_code;
+use writable_code::exposes_code;
 
 // A call that is refused: nothing has changed.
 fn refused(stop: u64, m: Machine) -> Stepped
