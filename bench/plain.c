@@ -1,5 +1,5 @@
-/* A plain switch interpreter of the machine of document 01, with Jobs 1 and 2
-   of document 02: RV64I and RV64M with HFI checks on every fetch, load and
+/* A plain switch interpreter of the machine of document 01, with Jobs 1, 2 and
+   5 of document 02: RV64I and RV64M with HFI checks on every fetch, load and
    store. It is the measure of speed; nothing is decoded ahead or remembered
    from one step to the next. */
 #include "machine.h"
@@ -80,6 +80,25 @@ static inline int explicit_grant(struct machine *m, uint64_t value, int64_t imme
             i++;
     m->fault = (struct fault){1, 1, op, *a + i};
     return 0;
+}
+
+/* Is a byte both writable, through region 1 or 2, and executable? A good region
+   is one stretch, and its last byte is below 2^48. Asked once a call and by an
+   enter that locks, so it need not be part of the loop of steps. */
+static __attribute__((noinline)) int code_is_writable(const struct machine *m)
+{
+    const struct region *one = &m->regions[0], *two = &m->regions[1], *code = &m->regions[2];
+    if (!(code->permission & EXECUTE) || !implicit_rule(code))
+        return 0;
+    uint64_t first = code->base, last = code->base + ~code->bound;
+    if ((one->permission & WRITE) && explicit_rule(one) && one->base <= last && one->base + one->bound - 1 >= first)
+        return 1;
+    return (two->permission & WRITE) && implicit_rule(two) && two->base <= last && two->base + ~two->bound >= first;
+}
+
+static inline int locked_code_is_writable(const struct machine *m)
+{
+    return m->mode == 1 && (m->options & 1) && code_is_writable(m);
 }
 
 /* Are all bytes in memory? If not, the first absent address goes to *absent. */
@@ -372,6 +391,8 @@ static inline uint64_t one_step(struct machine *m, uint8_t *memory, size_t lengt
         case 1:
             if (inside || operand > 15)
                 STOP(14);
+            if ((operand & 1) && code_is_writable(m))
+                STOP(22);
             if (funct7 == 1) {
                 if (x[rs2] & 3)
                     STOP(15);
@@ -442,6 +463,8 @@ void plain_step(struct machine *m, uint8_t *memory, size_t length, uint64_t *ans
         answer[0] = 1;
     else if (!well_formed(m))
         answer[0] = 3;
+    else if (locked_code_is_writable(m))
+        answer[0] = 4;
     else
         answer[0] = one_step(m, memory, length, &answer[1]);
 }
@@ -455,6 +478,8 @@ void plain_run(struct machine *m, uint8_t *memory, size_t length, uint64_t budge
         stop = 2;
     else if (!well_formed(m))
         stop = 3;
+    else if (locked_code_is_writable(m))
+        stop = 4;
     if (!stop) {
         uint64_t began = m->mode;
         for (;;) {

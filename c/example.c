@@ -1,5 +1,6 @@
 /* example: two guest programs in a sandbox, as a controller runs them. Each result is printed as the sheet program
- * prints it. The second program makes a system call; the controller answers it and goes on. */
+ * prints it. The second program makes a system call; the controller answers it and goes on. A third sandbox grants a
+ * byte of its code for writing too, and its run is refused. */
 #include "koubospar.h"
 
 #include <inttypes.h>
@@ -84,5 +85,10 @@ int main(void)
         r = koubospar_run(&m, memory, sizeof memory, 10);
         print(r, &m);
     }
+
+    m = sandbox(0xfffffffffffffff0);
+    m.hfi.regions[0].base = 0xf; /* the last byte of the code: c/writable.sheet */
+    r = koubospar_run(&m, memory, sizeof memory, 10);
+    print(r, &m); /* KOUBOSPAR_WRITABLE_CODE */
     return 0;
 }

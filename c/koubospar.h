@@ -70,8 +70,8 @@ struct koubospar_machine {
 /* ---- stack and cost -------------------------------------------------------------------------------------------- */
 
 /* The bytes of stack that a call takes, what it is called with included: measured by painting, over every stop and every
- * kind of word, and rounded up. `c/try` measures them again and fails where a call takes more. Measured were 2,384 for a
- * step, 2,016 for a run, 16 for a resumption, 67,840 for a sheet, 336 and 384 for decoding and encoding, 432 for the
+ * kind of word, and rounded up. `c/try` measures them again and fails where a call takes more. Measured were 2,808 for a
+ * step, 2,440 for a run, 16 for a resumption, 68,264 for a sheet, 336 and 384 for decoding and encoding, 432 for the
  * probe and 552 for a place. No call's stack grows with the memory, the budget or the sheet. */
 #define KOUBOSPAR_STACK_STEP 3072
 #define KOUBOSPAR_STACK_RUN 2560
@@ -82,17 +82,20 @@ struct koubospar_machine {
 #define KOUBOSPAR_STACK_PROBE 512
 #define KOUBOSPAR_STACK_PLACE 768
 
-/* A step call is a run of one step: it costs 543 instructions more than a step inside a run, which costs 135 to 246 on
- * the programs of bench/ (bench/README.md). Make runs, and steps only where one must look in between. */
+/* A step call is a run of one step: of a locked machine it costs 853 instructions more than a step inside a run, which
+ * costs 128 to 248 on the programs of bench/ (bench/README.md). Make runs, and steps only where one must look in between. */
 
 /* ---- the calls on a machine ----------------------------------------------------------------------------------- */
 
-/* The number that ended a call. Of those that a call can answer, the first whose question is answered no. */
+/* The number that ended a call. Of those that a call can answer, the first whose question is answered no. 4 is asked
+ * after 3, of the regions alone: a byte below 2^48 counts whether or not memory has it, and a region that breaks its rule
+ * does not. It is asked once a call; no step of a run can bring about what it refuses. */
 enum {
     KOUBOSPAR_COMPLETED = 0,          /* a completed step, or a resumption */
     KOUBOSPAR_MEMORY_TOO_LONG = 1,    /* memory is longer than 16,777,216 bytes */
     KOUBOSPAR_BUDGET_TOO_LARGE = 2,   /* the budget is above 1,000,000 */
     KOUBOSPAR_ILL_FORMED = 3,         /* the machine is not well formed */
+    KOUBOSPAR_WRITABLE_CODE = 4,      /* in HFI mode with regions locked, a byte is both writable and executable */
     KOUBOSPAR_PC_MISALIGNED = 10,     /* pc is no multiple of 4 */
     KOUBOSPAR_FETCH_REFUSED = 11,     /* in HFI mode, a byte of the word is not executable */
     KOUBOSPAR_FETCH_ABSENT = 12,      /* a byte of the word is not in memory */
@@ -104,7 +107,8 @@ enum {
     KOUBOSPAR_SYSTEM_CALL = 18,       /* an ECALL that is not redirected */
     KOUBOSPAR_BREAKPOINT = 19,        /* an EBREAK */
     KOUBOSPAR_LEFT = 20,              /* a run that began in HFI mode has left it */
-    KOUBOSPAR_BUDGET_SPENT = 21       /* the budget has no step left */
+    KOUBOSPAR_BUDGET_SPENT = 21,      /* the budget has no step left */
+    KOUBOSPAR_LOCK_WRITABLE_CODE = 22 /* an enter would begin what 4 refuses; asked after 14 and before 15 */
 };
 
 struct koubospar_stop {
@@ -114,19 +118,20 @@ struct koubospar_stop {
 
 struct koubospar_run_stop {
     uint64_t stop;
-    uint64_t count; /* completed steps; 20 counts the step that left, 10 to 19 do not count theirs */
+    uint64_t count; /* completed steps; 20 counts the step that left; 10 to 19 and 22 do not count theirs */
     uint64_t address;
 };
 
-/* One step: 0, or 1, 3, 10 to 19. After 0 machine and memory are what the instruction makes of them. Every other number
- * leaves both as they were, but for 11 and 16, which write the machine's fault record. */
+/* One step: 0, or 1, 3, 4, 10 to 19, 22. After 0 machine and memory are what the instruction makes of them. Every other
+ * number leaves both as they were, but for 11 and 16, which write the machine's fault record. */
 struct koubospar_stop koubospar_step(struct koubospar_machine *machine, uint8_t *memory, size_t length);
 
-/* A run of at most `budget` steps: 1 to 3, or 10 to 21. 1 to 3 leave all as it was, with count 0. Otherwise machine and
+/* A run of at most `budget` steps: 1 to 4, or 10 to 22. 1 to 4 leave all as it was, with count 0. Otherwise machine and
  * memory are as after `count` completed steps, and after 11 and 16 the fault record is written besides. */
 struct koubospar_run_stop koubospar_run(struct koubospar_machine *machine, uint8_t *memory, size_t length, uint64_t budget);
 
-/* Meant for 18: puts `value` in x10 and adds 4 to pc, and answers 0; or 3, which leaves the machine as it was. */
+/* Meant for 18: puts `value` in x10 and adds 4 to pc, and answers 0; or 3, which leaves the machine as it was. It asks
+ * nothing else, 4 neither. */
 struct koubospar_stop koubospar_resume(struct koubospar_machine *machine, uint64_t value);
 
 /* ---- words and instructions ----------------------------------------------------------------------------------- */

@@ -159,16 +159,16 @@ static void codec(void)
     IS(d.instruction.group, 0);
 }
 
-/* each stop's name against document 01's number, and each group's against what the library says of a word of it */
+/* each stop's name against the documents' number, and each group's against what the library says of a word of it */
 static void names(void)
 {
     static const int stops[][2] = {
-        {KOUBOSPAR_COMPLETED, 0},           {KOUBOSPAR_MEMORY_TOO_LONG, 1}, {KOUBOSPAR_BUDGET_TOO_LARGE, 2},
-        {KOUBOSPAR_ILL_FORMED, 3},          {KOUBOSPAR_PC_MISALIGNED, 10},  {KOUBOSPAR_FETCH_REFUSED, 11},
-        {KOUBOSPAR_FETCH_ABSENT, 12},       {KOUBOSPAR_ILLEGAL_WORD, 13},   {KOUBOSPAR_HFI_FORBIDS, 14},
-        {KOUBOSPAR_TARGET_MISALIGNED, 15},  {KOUBOSPAR_DATA_REFUSED, 16},   {KOUBOSPAR_DATA_ABSENT, 17},
-        {KOUBOSPAR_SYSTEM_CALL, 18},        {KOUBOSPAR_BREAKPOINT, 19},     {KOUBOSPAR_LEFT, 20},
-        {KOUBOSPAR_BUDGET_SPENT, 21},
+        {KOUBOSPAR_COMPLETED, 0},       {KOUBOSPAR_MEMORY_TOO_LONG, 1},     {KOUBOSPAR_BUDGET_TOO_LARGE, 2},
+        {KOUBOSPAR_ILL_FORMED, 3},      {KOUBOSPAR_WRITABLE_CODE, 4},       {KOUBOSPAR_PC_MISALIGNED, 10},
+        {KOUBOSPAR_FETCH_REFUSED, 11},  {KOUBOSPAR_FETCH_ABSENT, 12},       {KOUBOSPAR_ILLEGAL_WORD, 13},
+        {KOUBOSPAR_HFI_FORBIDS, 14},    {KOUBOSPAR_TARGET_MISALIGNED, 15},  {KOUBOSPAR_DATA_REFUSED, 16},
+        {KOUBOSPAR_DATA_ABSENT, 17},    {KOUBOSPAR_SYSTEM_CALL, 18},        {KOUBOSPAR_BREAKPOINT, 19},
+        {KOUBOSPAR_LEFT, 20},           {KOUBOSPAR_BUDGET_SPENT, 21},       {KOUBOSPAR_LOCK_WRITABLE_CODE, 22},
     };
     for (size_t i = 0; i < sizeof stops / sizeof stops[0]; i++)
         is("a stop by its name", (uint64_t)stops[i][0], (uint64_t)stops[i][1]);

@@ -2,8 +2,8 @@
 """Writes the sheets of crates/sheets/data and the page sheets.md beside this file.
 
 Each sheet stands below with the first line of its output, worked out by hand
-from document 01, as document 02 has changed it; some of RV64M, some budgets and
-two long ones with all their registers too. `oracle sheets FOLDER` then
+from document 01, as document 02 has changed it; some of RV64M, some budgets, two
+long ones and most of Job 5 with all their registers too. `oracle sheets FOLDER` then
 prints what the oracle makes of them, and `--check FILE` holds that against the
 lines here. `--store ORACLE` writes data/index and stdout, the answers being the
 oracle's, if its first lines are those here.
@@ -82,6 +82,7 @@ def mask(k):
 
 NONE = (0, 0, 0)
 CODE = (0, mask(12), 4)          # fetches from 0 to fff
+SHORT = (0, mask(8), 4)          # fetches from 0 to ff, for locked sheets that write at 200 (Job 5)
 DATA = (0x1000, mask(12), 3)     # ordinary data 1000 to 1fff
 SMALL = (0x2000, 0x40, 3)        # h-words 2000 to 203f
 
@@ -299,7 +300,7 @@ sheet("permission-three-read", program(NOP, r3=(0, mask(12), 5)), "3,0,0,0,0,0,0
 sheet("permission-three-write", program(NOP, r3=(0, mask(12), 6)), "3,0,0,0,0,0,0,0,0", "region 3 has no write bit", PB)
 sheet("permission-three-large", program(NOP, r3=(0, mask(12), 0xc)), "3,0,0,0,0,0,0,0,0", "region 3 has no large bit", PB)
 sheet("permission-ff", program(NOP, r3=(0, mask(12), 0xff)), "3,0,0,0,0,0,0,0,0", "ff passes 34 and not 3", PB)
-sheet("permission-one-all-it-has", program(ECALL, r1=(0, 0x10000, 0xb)), "18,0,0,0,0,0,0,0,0", "bits 0, 1, 3 are region 1's", PB)
+sheet("permission-one-all-it-has", program(ECALL, r1=(0x10000, 0x10000, 0xb)), "18,0,0,0,0,0,0,0,0", "bits 0, 1, 3 are region 1's", PB)
 sheet("three-before-twenty-one", program(NOP, options=0x10, budget=0), "3,0,0,0,0,0,0,0,0", "3 before 21 with budget 0",
       "Before each step of a run: does the budget have a step left?")
 sheet("three-before-ten", program(NOP, options=0x10, pc=2), "3,0,2,0,0,0,0,0,0", "3 before 10", Q3)
@@ -575,9 +576,9 @@ sheet("data-sixteen-bytes-beyond", program(load(LBU, 10, 0, 16), r2=(0, mask(4),
 sheet("data-one-byte", program(P1000, load(LBU, 10, 5, 1), ECALL, r2=(0x1001, mask(0), 1)), "18,2,8,0,0,0,0,0,0", "k = 0: the byte", "k ... is 0 to 48")
 sheet("data-one-byte-before", program(P1000, load(LBU, 10, 5, 0), r2=(0x1001, mask(0), 1)), "16,1,4,0,0,1,0,1,1000", "k = 0: the byte before", "k ... is 0 to 48")
 sheet("data-one-byte-half", program(P1000, load(LH, 10, 5, 1), r2=(0x1001, mask(0), 1)), "16,1,4,0,0,1,0,1,1002", "k = 0: two bytes", "k ... is 0 to 48")
-sheet("data-widest-last-byte", program(addi(5, 0, -1), srli(5, 5, 16), load(LB, 10, 5, 0), r2=(0, mask(48), 3)), "17,2,8,0,0,0,0,0,0",
+sheet("data-widest-last-byte", program(addi(5, 0, -1), srli(5, 5, 16), load(LB, 10, 5, 0), r2=(0, mask(48), 1)), "17,2,8,0,0,0,0,0,0",
       "k = 48: the last byte below 2^48 is granted and absent", "base + 2^k is at most 2^48")
-sheet("data-widest-beyond", program(addi(5, 0, 1), slli(5, 5, 48), load(LB, 10, 5, 0), r2=(0, mask(48), 3)), "16,2,8,0,0,1,0,1,1000000000000",
+sheet("data-widest-beyond", program(addi(5, 0, 1), slli(5, 5, 48), load(LB, 10, 5, 0), r2=(0, mask(48), 1)), "16,2,8,0,0,1,0,1,1000000000000",
       "k = 48: 2^48 is not granted", "base + 2^k is at most 2^48")
 sheet("data-too-wide", program(load(LB, 10, 0, 0), r2=(0, mask(49), 3)), "16,0,0,0,0,1,0,1,0", "k = 49", "k ... is 0 to 48")
 sheet("data-mask-top-bit-alone", program(load(LB, 10, 0, 0), r2=(0, 1 << 63, 3)), "16,0,0,0,0,1,0,1,0", "k = 63", "k ... is 0 to 48")
@@ -592,25 +593,25 @@ section("Stop 16: explicit data")
 HW = "byte i passes when region 1 keeps its rule, has the read or write permission wanted, and offset + i is at least 0 and below the bound"
 G = (0x200, 0x10, 3)
 for name, f3, size in [("byte", 0, 1), ("half", 1, 2), ("word", 2, 4), ("double", 3, 8)]:
-    sheet("h-load-%s-last" % name, program(hload(f3, 10, 0, 16 - size), ECALL, r1=G), "18,1,4,0,0,0,0,0,0", "the last %s of 16 bytes" % name, HW)
-    sheet("h-load-%s-beyond" % name, program(hload(f3, 10, 0, 17 - size), r1=G), "16,0,0,0,0,1,1,1,210", "one byte further", HW)
-    sheet("h-store-%s-last" % name, program(hstore(f3, 0, 0, 16 - size), ECALL, r1=G), "18,1,4,0,0,0,0,0,0", "the last %s of 16 bytes" % name, HW)
-    sheet("h-store-%s-beyond" % name, program(hstore(f3, 0, 0, 17 - size), r1=G), "16,0,0,0,0,1,1,2,210", "one byte further (case G for 8)", HW)
-sheet("h-store-minus-one", program(hstore(SD, 0, 0, -1), r1=G), "16,0,0,0,0,1,1,2,1ff", "case H: offset -1", "H There, offset -1 faults at `1ff`.")
-sheet("h-load-minus-one", program(hload(LB, 10, 0, -1), r1=G), "16,0,0,0,0,1,1,1,1ff", "offset -1 in a load", HW)
-sheet("h-load-minus-2048", program(hload(LB, 10, 0, -2048), r1=(0x800, 0x10, 3)), "16,0,0,0,0,1,1,1,0", "the lowest offset", HW)
-sheet("h-load-minus-one-of-base-0", program(hload(LB, 10, 0, -1), r1=(0, 0x10, 3)), "16,0,0,0,0,1,1,1,ffffffffffffffff",
+    sheet("h-load-%s-last" % name, program(hload(f3, 10, 0, 16 - size), ECALL, r1=G, r3=SHORT), "18,1,4,0,0,0,0,0,0", "the last %s of 16 bytes" % name, HW)
+    sheet("h-load-%s-beyond" % name, program(hload(f3, 10, 0, 17 - size), r1=G, r3=SHORT), "16,0,0,0,0,1,1,1,210", "one byte further", HW)
+    sheet("h-store-%s-last" % name, program(hstore(f3, 0, 0, 16 - size), ECALL, r1=G, r3=SHORT), "18,1,4,0,0,0,0,0,0", "the last %s of 16 bytes" % name, HW)
+    sheet("h-store-%s-beyond" % name, program(hstore(f3, 0, 0, 17 - size), r1=G, r3=SHORT), "16,0,0,0,0,1,1,2,210", "one byte further (case G for 8)", HW)
+sheet("h-store-minus-one", program(hstore(SD, 0, 0, -1), r1=G, r3=SHORT), "16,0,0,0,0,1,1,2,1ff", "case H: offset -1", "H There, offset -1 faults at `1ff`.")
+sheet("h-load-minus-one", program(hload(LB, 10, 0, -1), r1=G, r3=SHORT), "16,0,0,0,0,1,1,1,1ff", "offset -1 in a load", HW)
+sheet("h-load-minus-2048", program(hload(LB, 10, 0, -2048), r1=(0x800, 0x10, 3), r3=SHORT), "16,0,0,0,0,1,1,1,0", "the lowest offset", HW)
+sheet("h-load-minus-one-of-base-0", program(hload(LB, 10, 0, -1), r1=(0, 0x10, 1)), "16,0,0,0,0,1,1,1,ffffffffffffffff",
       "base 0, offset -1: the address wraps", "The address is base + offset + i, modulo 2^64.")
 sheet("h-load-offset-2047", program(hload(LD, 10, 0, 2047), ECALL, r1=(0x1000, 0x1000, 1)), "18,1,4,0,0,0,0,0,0",
       "an hld at 2,047 in a bound of 4,096", "So an hld at 2,047 in a region of bound 4,096 also reaches offsets 2,048 to 2,054.")
 sheet("h-load-offset-2047-bound-2054", program(hload(LD, 10, 0, 2047), r1=(0x1000, 2054, 1)), "16,0,0,0,0,1,1,1,1806", "its last byte is outside a bound of 2,054", HW)
-sheet("h-load-not-readable", program(hload(LD, 10, 0, 0), r1=(0x200, 0x10, 2)), "16,0,0,0,0,1,1,1,200", "no read permission", HW)
+sheet("h-load-not-readable", program(hload(LD, 10, 0, 0), r1=(0x200, 0x10, 2), r3=SHORT), "16,0,0,0,0,1,1,1,200", "no read permission", HW)
 sheet("h-store-not-writable", program(hstore(SD, 10, 0, 4), r1=(0x200, 0x10, 1)), "16,0,0,0,0,1,1,2,204", "no write permission", HW)
-sheet("h-load-region-zero", program(hload(LB, 10, 0, 5), r2=(0, mask(12), 3)), "16,0,0,0,0,1,1,1,5", "an unset region 1; region 2 is not asked",
+sheet("h-load-region-zero", program(hload(LB, 10, 0, 5), r2=(0, mask(12), 1)), "16,0,0,0,0,1,1,1,5", "an unset region 1; region 2 is not asked",
       "Asking the implicit region about an h-load.")
 sheet("h-load-bound-zero", program(hload(LB, 10, 0, 0), r1=(0x200, 0, 3)), "16,0,0,0,0,1,1,1,200", "bound 0", "bound is 1 to 2^32")
-sheet("h-load-bound-one", program(hload(LBU, 10, 0, 0), hload(LBU, 10, 0, 1), r1=(0x200, 1, 3)), "16,1,4,0,0,1,1,1,201", "bound 1", "bound is 1 to 2^32")
-sheet("h-load-bound-2-to-32", program(hload(LBU, 10, 0, 0), ECALL, r1=(0, 1 << 32, 3)), "18,1,4,0,0,0,0,0,0", "bound 2^32 at base 0", "bound is 1 to 2^32")
+sheet("h-load-bound-one", program(hload(LBU, 10, 0, 0), hload(LBU, 10, 0, 1), r1=(0x200, 1, 3), r3=SHORT), "16,1,4,0,0,1,1,1,201", "bound 1", "bound is 1 to 2^32")
+sheet("h-load-bound-2-to-32", program(hload(LBU, 10, 0, 0), ECALL, r1=(0, 1 << 32, 1)), "18,1,4,0,0,0,0,0,0", "bound 2^32 at base 0", "bound is 1 to 2^32")
 sheet("h-load-bound-2-to-32-base-1", program(hload(LBU, 10, 0, 0), r1=(1, 1 << 32, 3)), "16,0,0,0,0,1,1,1,1", "bound 2^32 at base 1",
       "first and last byte share the same multiple of 2^32")
 sheet("h-load-bound-too-large", program(hload(LBU, 10, 0, 0), r1=(0, (1 << 32) + 1, 3)), "16,0,0,0,0,1,1,1,0", "bound 2^32 + 1", "bound is 1 to 2^32")
@@ -625,7 +626,7 @@ sheet("h-load-small-past-top", program(hload(LBU, 10, 0, 0), r1=(1 << 48, 1, 3))
 sheet("h-load-base-all-ones", program(hload(LBU, 10, 0, 1), r1=(ONES, 1, 3)), "16,0,0,0,0,1,1,1,0", "base 2^64 - 1: no wrap in the rule, wrap in the address",
       "The address is base + offset + i, modulo 2^64.")
 LG = "Explicit large: base and bound are multiples of 65,536, bound is not 0, base + bound is at most 2^48."
-sheet("h-load-large", program(hload(LD, 10, 0, 2047), ECALL, r1=(0, 0x10000, 0xb)), "18,1,4,0,0,0,0,0,0", "a large region at 0", LG)
+sheet("h-load-large", program(hload(LD, 10, 0, 2047), ECALL, r1=(0, 0x10000, 9)), "18,1,4,0,0,0,0,0,0", "a large region at 0", LG)
 sheet("h-load-large-bound-good", program(hload(LB, 10, 0, 0), r1=(0x10000, 0x10000, 0xb)), "17,0,0,0,0,0,0,0,0", "case J: good; the byte is absent",
       "J Large base `10000`: bound `10000` is good, `10001` is not.")
 sheet("h-load-large-bound-odd", program(hload(LB, 10, 0, 0), r1=(0x10000, 0x10001, 0xb)), "16,0,0,0,0,1,1,1,10000", "case J: not good",
@@ -657,9 +658,11 @@ def below_power(n): return [addi(7, 0, -1), srli(7, 7, 64 - n)]
 
 
 def both(name, words, f3, imm, r1, first, shows, sentence):
-    """An h-load of x10 and an h-store of x7, by x7; op is 1 or 2 where the first line says OP."""
-    sheet("h-load-" + name, program(*words, hload(f3, 10, 7, imm), ECALL, r1=r1), first.replace("OP", "1"), shows, sentence)
-    sheet("h-store-" + name, program(*words, hstore(f3, 7, 7, imm), ECALL, r1=r1), first.replace("OP", "2"), shows + ", a store", sentence)
+    """An h-load of x10 and an h-store of x7, by x7; op is 1 or 2 where the first line says OP. With 16 bytes at 200 code is
+    short; with a region that has code, regions are not locked (Job 5)."""
+    how = {"r3": SHORT} if r1 == G else {"options": 0} if r1[0] == 0 else {}
+    sheet("h-load-" + name, program(*words, hload(f3, 10, 7, imm), ECALL, r1=r1, **how), first.replace("OP", "1"), shows, sentence)
+    sheet("h-store-" + name, program(*words, hstore(f3, 7, 7, imm), ECALL, r1=r1, **how), first.replace("OP", "2"), shows + ", a store", sentence)
 
 
 sheet("h-load-rs1-adds", program(addi(7, 0, 0x700), hload(LBU, 10, 7, 0x200), ECALL, r1=(0x2000, 0x1000, 1), more="2900,000000a5\n"),
@@ -682,13 +685,13 @@ sheet("h-store-rs1-walk", program(lui(5, 1), hstore(SD, 7, 7, 0), addi(7, 7, 8),
       "16,601,10,0,0,1,1,2,3000", "512 doublewords stored, then one too many", PATH)
 sheet("h-load-rs1-large-last-double", program(lui(7, 0x10), hload(LD, 10, 7, -8), ECALL, r1=(0, 0x10000, 9), more="fff8,89abcdef\nfffc,81234567\n"),
       "18,2,8,0,0,0,0,0,0", "the last double of a large region", PASS)
-sheet("h-store-rs1-large-last-double", program(lui(7, 0x10), addi(6, 0, -1), hstore(SD, 6, 7, -8), hload(LD, 10, 7, -8), ECALL, r1=(0, 0x10000, 0xb)),
+sheet("h-store-rs1-large-last-double", program(lui(7, 0x10), addi(6, 0, -1), hstore(SD, 6, 7, -8), hload(LD, 10, 7, -8), ECALL, options=0, r1=(0, 0x10000, 0xb)),
       "18,4,10,0,0,0,0,0,0", "the same stored, read back", PASS)
 both("rs1-large-beyond", [lui(7, 0x10)], 3, -7, (0, 0x10000, 0xb), "16,1,4,0,0,1,1,OP,10000", "one byte further", PASS)
 # large values
-sheet("h-load-rs1-all-ones", program(addi(7, 0, -1), hload(LBU, 10, 7, 0), ECALL, r1=G), "16,1,4,0,0,1,1,1,1ff",
+sheet("h-load-rs1-all-ones", program(addi(7, 0, -1), hload(LBU, 10, 7, 0), ECALL, r1=G, r3=SHORT), "16,1,4,0,0,1,1,1,1ff",
       "rs1 holds 2^64 - 1: refused at base + 2^64 - 1", SUM)
-sheet("h-store-rs1-all-ones", program(addi(7, 0, -1), hstore(SB, 7, 7, 0), ECALL, r1=G), "16,1,4,0,0,1,1,2,1ff", "the same in a store", SUM)
+sheet("h-store-rs1-all-ones", program(addi(7, 0, -1), hstore(SB, 7, 7, 0), ECALL, r1=G, r3=SHORT), "16,1,4,0,0,1,1,2,1ff", "the same in a store", SUM)
 both("rs1-all-ones-plus-1", [addi(7, 0, -1)], 0, 1, G, "16,1,4,0,0,1,1,OP,200", "2^64 is no offset of 0; the address is base", SUM)
 both("sum-past-2-to-64", [addi(7, 0, -16)], 3, 20, G, "16,1,4,0,0,1,1,OP,204", "2^64 - 16 and 20", SUM)
 both("double-over-2-to-64", [addi(7, 0, -4)], 3, 0, G, "16,1,4,0,0,1,1,OP,1fc", "offset 2^64 - 4: its last four bytes are not 0 to 3", SUM)
@@ -702,23 +705,23 @@ both("rs1-2-to-32", power(32), 0, 0, (0, 1 << 32, 3), "16,2,8,0,0,1,1,OP,1000000
 both("rs1-2-to-32-less-1", below_power(32), 0, 0, (0, 1 << 32, 3), "17,2,8,0,0,0,0,0,0", "the last byte of the largest small region", PASS)
 # immediates below 0
 both("rs1-3-minus-5", [addi(7, 0, 3)], 3, -5, G, "16,1,4,0,0,1,1,OP,1fe", "offset -2: the first byte is refused, though later ones are inside", PASS)
-sheet("h-load-rs1-5-minus-5", program(addi(7, 0, 5), hload(LHU, 10, 7, -5), ECALL, r1=G, more="200,0000a55a\n"), "18,2,8,0,0,0,0,0,0", "offset 0", SUM)
-sheet("h-store-rs1-5-minus-5", program(addi(7, 0, 5), hstore(SW, 7, 7, -5), hload(LD, 10, 0, 0), ECALL, r1=G), "18,3,c,0,0,0,0,0,0",
+sheet("h-load-rs1-5-minus-5", program(addi(7, 0, 5), hload(LHU, 10, 7, -5), ECALL, r1=G, r3=SHORT, more="200,0000a55a\n"), "18,2,8,0,0,0,0,0,0", "offset 0", SUM)
+sheet("h-store-rs1-5-minus-5", program(addi(7, 0, 5), hstore(SW, 7, 7, -5), hload(LD, 10, 0, 0), ECALL, r1=G, r3=SHORT), "18,3,c,0,0,0,0,0,0",
       "offset 0, read back by x0", SUM)
-sheet("h-load-rs1-2048-minus-2048", program(addi(7, 0, 2047), addi(7, 7, 1), hload(LBU, 10, 7, -2048), ECALL, r1=G, more="200,0000a55a\n"),
+sheet("h-load-rs1-2048-minus-2048", program(addi(7, 0, 2047), addi(7, 7, 1), hload(LBU, 10, 7, -2048), ECALL, r1=G, r3=SHORT, more="200,0000a55a\n"),
       "18,3,c,0,0,0,0,0,0", "offset 0 by the lowest immediate", SUM)
-sheet("h-store-rs1-2048-minus-2048", program(addi(7, 0, 2047), addi(7, 7, 1), hstore(SD, 7, 7, -2048), hload(LD, 10, 0, 0), ECALL, r1=G),
+sheet("h-store-rs1-2048-minus-2048", program(addi(7, 0, 2047), addi(7, 7, 1), hstore(SD, 7, 7, -2048), hload(LD, 10, 0, 0), ECALL, r1=G, r3=SHORT),
       "18,4,10,0,0,0,0,0,0", "the same stored, read back by x0", SUM)
 both("rs1-2047-minus-2048", [addi(7, 0, 2047)], 3, -2048, G, "16,1,4,0,0,1,1,OP,1ff", "offset -1 by the lowest immediate", PASS)
 # registers
-sheet("h-load-rd-is-rs1", program(addi(7, 0, 8), hload(LD, 7, 7, 0), ECALL, r1=G, more="208,00001234\n"), "18,2,8,0,0,0,0,0,0",
+sheet("h-load-rd-is-rs1", program(addi(7, 0, 8), hload(LD, 7, 7, 0), ECALL, r1=G, r3=SHORT, more="208,00001234\n"), "18,2,8,0,0,0,0,0,0",
       "rd is rs1: the offset is of the old value", SUM)
-sheet("h-load-rd-is-rs1-twice", program(addi(7, 0, 8), hload(LBU, 7, 7, 0), hload(LBU, 7, 7, 0), ECALL, r1=G, more="208,0000000c\n20c,0000005a\n"),
+sheet("h-load-rd-is-rs1-twice", program(addi(7, 0, 8), hload(LBU, 7, 7, 0), hload(LBU, 7, 7, 0), ECALL, r1=G, r3=SHORT, more="208,0000000c\n20c,0000005a\n"),
       "18,3,c,0,0,0,0,0,0", "what was loaded is the next offset", SUM)
-sheet("h-load-rd-is-rs1-refused", program(addi(7, 0, 16), hload(LD, 7, 7, 0), r1=G), "16,1,4,0,0,1,1,1,210", "rd is rs1 and keeps its value", PASS)
-sheet("h-store-rs2-is-rs1", program(addi(7, 0, 8), hstore(SD, 7, 7, 0), hload(LD, 10, 0, 8), ECALL, r1=G), "18,3,c,0,0,0,0,0,0",
+sheet("h-load-rd-is-rs1-refused", program(addi(7, 0, 16), hload(LD, 7, 7, 0), r1=G, r3=SHORT), "16,1,4,0,0,1,1,1,210", "rd is rs1 and keeps its value", PASS)
+sheet("h-store-rs2-is-rs1", program(addi(7, 0, 8), hstore(SD, 7, 7, 0), hload(LD, 10, 0, 8), ECALL, r1=G, r3=SHORT), "18,3,c,0,0,0,0,0,0",
       "the offset is what is stored", SUM)
-sheet("h-load-rs1-x0", program(addi(0, 0, -1), hload(LBU, 10, 0, 0), ECALL, r1=G, more="200,0000a55a\n"), "18,2,8,0,0,0,0,0,0",
+sheet("h-load-rs1-x0", program(addi(0, 0, -1), hload(LBU, 10, 0, 0), ECALL, r1=G, r3=SHORT, more="200,0000a55a\n"), "18,2,8,0,0,0,0,0,0",
       "x0 is 0 after a write", "02, Job 1: Words with rs1 = x0 act as before.")
 # rule, permission, memory
 sheet("h-load-rs1-not-readable", program(addi(7, 0, 0x700), hload(LBU, 10, 7, 0x200), r1=(0x2000, 0x1000, 2)), "16,1,4,0,0,1,1,1,2900", "no read permission", KEPT)
@@ -732,9 +735,9 @@ both("rs1-sixteen-first", [lui(7, 1)], 3, -1, (0xf000, 0x1004, 3), "16,1,4,0,0,1
 section("Stop 17: granted and absent")
 Q11 = "11. Are they in memory? No: **17**."
 sheet("load-past-memory", program(lui(5, 0x10), load(LB, 10, 5, 0), r2=(0x10000, mask(16), 3)), "17,1,4,0,0,0,0,0,0", "the first byte past memory", Q11)
-sheet("load-over-memory-end", program(lui(5, 0x10), load(LD, 10, 5, -4), r2=(0, mask(17), 3)), "17,1,4,0,0,0,0,0,0", "its last four bytes are absent", Q11)
-sheet("load-last-double", program(lui(5, 0x10), load(LD, 10, 5, -8), ECALL, r2=(0, mask(17), 3)), "18,2,8,0,0,0,0,0,0", "the last eight bytes", Q11)
-sheet("store-over-memory-end", program(lui(5, 0x10), store(SW, 5, 5, -1), r2=(0, mask(17), 3)), "17,1,4,0,0,0,0,0,0", "nothing of it is stored", Q11)
+sheet("load-over-memory-end", program(lui(5, 0x10), load(LD, 10, 5, -4), r2=(0, mask(17), 1)), "17,1,4,0,0,0,0,0,0", "its last four bytes are absent", Q11)
+sheet("load-last-double", program(lui(5, 0x10), load(LD, 10, 5, -8), ECALL, r2=(0, mask(17), 1)), "18,2,8,0,0,0,0,0,0", "the last eight bytes", Q11)
+sheet("store-over-memory-end", program(lui(5, 0x10), store(SW, 5, 5, -1), options=0, r2=(0, mask(17), 3)), "17,1,4,0,0,0,0,0,0", "nothing of it is stored", Q11)
 sheet("h-load-over-memory-end", program(hload(LW, 10, 0, 6), r1=(0xfff8, 0x10, 3)), "17,0,0,0,0,0,0,0,0", "an h-load over the end", Q11)
 sheet("h-store-past-memory", program(hstore(SB, 0, 0, 8), r1=(0xfff8, 0x10, 3)), "17,0,0,0,0,0,0,0,0", "an h-store past the end", Q11)
 sheet("load-into-x0-absent", program(lui(5, 0x10), load(LB, 0, 5, 0), r2=(0x10000, mask(16), 3)), "17,1,4,0,0,0,0,0,0", "a load into x0 asks too", Q11)
@@ -813,7 +816,7 @@ sheet("group-h-load-rs1", program(
     "the seven by an rs1 of 4,096", PATH)
 sheet("group-h-store-rs1", program(
     lui(7, 1), addi(6, 0, -2), hstore(SD, 6, 7, 0), hstore(SB, 0, 7, 1), hstore(SH, 0, 7, 3), hstore(SW, 0, 7, 8), hload(LD, 10, 7, 0),
-    hload(LD, 11, 7, 5), ECALL, r1=(0, 0x1010, 3)), "18,8,20,0,0,0,0,0,0", "the four by an rs1 of 4,096, read back", PATH)
+    hload(LD, 11, 7, 5), ECALL, r1=(0x100, 0x1010, 3), r3=SHORT), "18,8,20,0,0,0,0,0,0", "the four by an rs1 of 4,096, read back", PATH)
 sheet("group-h-store-case-b", program(addi(10, 0, 0x5a), 0x00a001ab, P1000, load(LBU, 11, 5, 3), ECALL, r1=(0x1000, 16, 2), r2=(0x1000, mask(4), 1)),
       "18,4,10,0,0,0,0,0,0", "case B: hsb x10 at 3, seen by an ordinary load", "B `00a001ab` is hsb x10 at 3.")
 sheet("group-fence", program(0x0ff0000f, 0x8330000f, 0x0100000f, 0xffff8f8f, 0x0000000f, ECALL), "18,5,14,0,0,0,0,0,0",
@@ -826,8 +829,9 @@ sheet("registers-none", program(addi(5, 0, 1), addi(5, 0, 0), ECALL), "18,2,8,0,
 sheet("registers-negative", program(addi(31, 0, -1), addi(1, 0, -2048), ECALL), "18,2,8,0,0,0,0,0,0", "values of 16 digits", "All else is hexadecimal without leading zeros.")
 sheet("pc-sum-wraps", program(lui(5, 0), jalr(1, 5, -4)), "11,2,fffffffffffffffc,0,0,1,0,3,fffffffffffffffc", "0 - 4 wraps",
       "Sums of addresses and registers are taken modulo 2^64.")
-sheet("code-changes-itself", program(lui(5, 0x500), I(0x13, 0, 5, 5, 0x513), store(SW, 5, 0, 16), NOP, EBREAK, ECALL, r2=(0, mask(12), 3)),
-      "18,5,14,0,0,0,0,0,0", "a stored word is run (locked, readable and writable code)", "Is the word legal?")
+CHANGES = [lui(5, 0x500), I(0x13, 0, 5, 5, 0x513), store(SW, 5, 0, 16), NOP, EBREAK, ECALL]
+sheet("code-changes-itself", program(*CHANGES, options=0, r2=(0, mask(12), 3)),
+      "18,5,14,0,0,0,0,0,0", "a stored word is run (unlocked, readable and writable code)", "Is the word legal?")
 
 
 # ---------------------------------------------------------------- RV64M
@@ -1075,6 +1079,153 @@ sheet("long-31-after-9999-blank", "\n" * 9999 + "g\n", "sheet,31,10000", "in lin
 sheet("long-31-after-65534-blank", "\n" * 65534 + "g\n", "sheet,31,65535", "the largest line number that is ever printed", Q31L)
 
 
+# ---------------------------------------------------------------- writable code
+section("Writable code (document 02, Job 5)")
+NO_BYTE = "02, Job 5: no byte may be both writable and executable, through region 1 or region 2 against region 3"
+EXACT = "02, Job 5: The test is exact: it says no only when such a byte address exists below 2^48."
+LOCK = "02, Job 5: With the lock bit set and HFI mode on"
+ASKED = "02, Job 5: 4, for a step or run given such a machine in locked HFI mode, asked after 3"
+LEAVES = "02, Job 5: 4 leaves what 3 leaves, count 0"
+AS_FOUND = "02, Job 5: From then on a locked run leaves every executable byte as it found it"
+A30 = EXACT + " (Reading A30: the bytes of a code region of 1 to 3 bytes are executable.)"
+A53 = EXACT + " (Reading A53: also past memory's end.)"
+UPPER = (0x1000, mask(12), 4)    # fetches from 1000 to 1fff
+LAST = (1 << 48) - 1
+
+
+def four(name, shows, sentence, pc=0, words=(NOP, ECALL), **how):
+    """4, nothing counted, pc as given, all registers 0."""
+    registers[name] = {}
+    sheet(name, program(*words, pc=pc, **how), "4,0,%x,0,0,0,0,0,0" % pc, shows, sentence)
+
+
+def goes_on(name, shows, sentence, at=0, **how):
+    """One step, then the ECALL."""
+    sheet(name, program(NOP, ECALL, pc=at, at=at, **how), "18,1,%x,0,0,0,0,0,0" % (at + 4), shows, sentence)
+
+
+# region 1 against code 0 to fff, or 1000 to 1fff
+four("four-region-one-is-code", "region 1 is code", NO_BYTE, r1=(0, 0x1000, 3))
+four("four-region-one-inside", "16 bytes of region 1 in code", NO_BYTE, r1=(0x200, 0x10, 3))
+four("four-region-one-write-only", "the same without read", NO_BYTE, r1=(0x200, 0x10, 2))
+four("four-region-one-first-byte", "region 1 is code's first byte", EXACT, r1=(0, 1, 3))
+four("four-region-one-last-byte", "region 1 is code's last byte", EXACT, r1=(0xfff, 1, 3))
+four("four-region-one-over-the-end", "only fff is in both", EXACT, r1=(0xfff, 0x40, 3))
+four("four-region-one-over-the-start", "only 1000 is in both", EXACT, pc=0x1000, r1=(0xfc1, 0x40, 3), r3=UPPER)
+four("four-region-one-around", "region 1 has all of code and more", NO_BYTE, pc=0x1000, r1=(0, 0x3000, 3), r3=UPPER)
+four("four-region-one-2-to-32", "a small region 1 of 2^32 bytes", NO_BYTE, r1=(0, 1 << 32, 2))
+four("four-region-one-large", "a large region 1", NO_BYTE, r1=(0, 0x10000, 0xb))
+four("four-region-one-large-whole", "a large region 1 of 2^48 bytes", NO_BYTE, r1=(0, 1 << 48, 0xa))
+four("four-region-one-large-inside", "a large region 1 in code of 2^48 bytes", NO_BYTE, r1=(0x7fff0000, 0x10000, 0xb), r3=(0, mask(48), 4))
+four("four-region-one-large-over-32", "a large region 1 over 2^32, code from there on", A53, r1=(0xffff0000, 0x20000, 0xb), r3=(1 << 32, mask(16), 4))
+# region 2
+four("four-region-two-is-code", "region 2 is code", NO_BYTE, r2=(0, mask(12), 3))
+four("four-region-two-write-only", "the same without read", NO_BYTE, r2=(0, mask(12), 2))
+four("four-region-two-inside", "16 bytes of region 2 in code", NO_BYTE, r2=(0x200, mask(4), 3))
+four("four-region-two-first-byte", "region 2 is code's first byte", EXACT, r2=(0, mask(0), 2))
+four("four-region-two-last-byte", "region 2 is code's last byte", EXACT, r2=(0xfff, mask(0), 2))
+four("four-region-two-around", "region 2 has all of code and more", NO_BYTE, pc=0x1000, r2=(0, mask(14), 3), r3=UPPER)
+four("four-region-two-widest", "region 2 of 2^48 bytes", NO_BYTE, r2=(0, mask(48), 3))
+# both
+four("four-both-regions", "both regions in code", NO_BYTE, r1=(0x200, 0x10, 3), r2=(0x200, mask(4), 3))
+four("four-region-one-alone", "region 1 in code, region 2 beside it", NO_BYTE, r1=(0x200, 0x10, 3), r2=DATA)
+four("four-region-two-alone", "region 2 in code, region 1 beside it", NO_BYTE, r1=SMALL, r2=(0x200, mask(4), 3))
+four("four-region-one-read-two-write", "region 1 has code without write, region 2 with it", NO_BYTE, r1=(0, 0x1000, 1), r2=(0, mask(0), 2))
+# past memory, up to 2^48, few bytes
+four("four-region-one-past-memory", "code to 1ffff; region 1 at 10000", A53, r1=(0x10000, 1, 3), r3=(0, mask(17), 4))
+four("four-region-two-past-memory", "code to 1ffff; region 2 from 10000 on", A53, r2=(0x10000, mask(16), 3), r3=(0, mask(17), 4))
+four("four-all-past-memory", "code at 100000, region 2 there", A53, r2=(0x100000, mask(8), 3), r3=(0x100000, mask(8), 4))
+four("four-region-one-last-of-all", "the last byte below 2^48", EXACT, r1=(LAST, 1, 2), r3=(0, mask(48), 4))
+four("four-region-two-last-of-all", "the last byte below 2^48, code to there", EXACT, pc=0xfffffffff000, r2=(LAST, mask(0), 2), r3=(0xfffffffff000, mask(12), 4))
+four("four-one-byte-of-code", "code of one byte", A30, r2=(0, mask(0), 3), r3=(0, mask(0), 4))
+four("four-two-bytes-of-code", "the second of two bytes of code", A30, pc=4, r1=(5, 1, 3), r3=(4, mask(1), 4))
+four("four-two-bytes-elsewhere", "code of two bytes that pc is not at", A30, r2=(0x1002, mask(1), 3), r3=(0x1002, mask(1), 4))
+# options
+for options in range(3, 16, 2):
+    four("four-options-%x" % options, "options %x: bit 0 locks" % options, LOCK, options=options, handler=0x100, r2=(0, mask(12), 3))
+for options in (0, 4, 8, 12):
+    goes_on("writable-code-options-%x" % options, "options %x: not locked, nothing is asked" % options, LOCK, options=options, handler=0x100,
+            r2=(0, mask(12), 3))
+# order
+four("four-before-ten", "pc 2: 4 before 10", ASKED, pc=2, r2=(0, mask(12), 3))
+four("four-before-eleven", "pc past code: 4 before 11", ASKED, pc=0x2000, r2=(0, mask(12), 3))
+four("four-before-twelve", "pc past memory: 4 before 12", ASKED, pc=0x10000, r2=(0, mask(12), 3), r3=(0, mask(17), 4))
+four("four-before-thirteen", "an illegal word: 4 before 13", ASKED, words=(0,), r2=(0, mask(12), 3))
+four("four-before-fourteen", "enter in HFI mode: 4 before 14", ASKED, words=(hfi(0),), r2=(0, mask(12), 3))
+four("four-before-fifteen", "a jump to 2: 4 before 15", ASKED, words=(J(0, 2),), r2=(0, mask(12), 3))
+four("four-before-sixteen", "a refused load: 4 before 16", ASKED, words=(load(LB, 10, 0, -1),), r2=(0, mask(12), 3))
+four("four-before-eighteen", "ECALL: 4 before 18", ASKED, words=(ECALL,), r2=(0, mask(12), 3))
+four("four-before-twenty", "exit: 4 before 20", ASKED, words=(EXIT,), r2=(0, mask(12), 3))
+four("four-before-twenty-one", "budget 0: 4 before 21", ASKED, budget=0, r2=(0, mask(12), 3))
+four("four-empty-budget", "an empty budget", ASKED, words=(LOOP,), r2=(0, mask(12), 3))
+four("four-budget-f4240", "1,000,000 steps", ASKED, words=(LOOP,), budget=1000000, r2=(0, mask(12), 3))
+sheet("two-before-four", program(NOP, budget=1000001, r2=(0, mask(12), 3)), "2,0,0,0,0,0,0,0,0", "2 before 4", ASKED)
+sheet("three-before-four-options", program(NOP, options=0x11, r2=(0, mask(12), 3)), "3,0,0,0,0,0,0,0,0", "options 17: 3 before 4", ASKED)
+sheet("three-before-four-handler", program(NOP, handler=1, r2=(0, mask(12), 3)), "3,0,0,0,0,0,0,0,0", "handler bit 0: 3 before 4", ASKED)
+sheet("three-before-four-permission", program(NOP, r2=(0, mask(12), 7)), "3,0,0,0,0,0,0,0,0", "region 2 with execute: 3 before 4", ASKED)
+sheet("order-34-four", setup(r2=(0, mask(12), 3)) + "2,13\n", "sheet,34,2", "a sheet that is refused is not run", "The first no is printed")
+four("four-nothing-stored", "a program that would store into its code", LEAVES, words=CHANGES, r2=(0, mask(12), 3))
+# beside code
+TOUCH = EXACT + " Regions that touch have none."
+goes_on("code-then-region-one", "region 1 begins where code ends", TOUCH, r1=(0x1000, 0x40, 3))
+goes_on("code-then-region-one-to-32", "region 1 from there to 2^32", TOUCH, r1=(0x1000, (1 << 32) - 0x1000, 3))
+goes_on("code-then-region-one-large", "a large region 1 from the end of code to 2^48", TOUCH, r1=(0x10000, (1 << 48) - 0x10000, 0xb), r3=(0, mask(16), 4))
+goes_on("region-one-then-code", "region 1 ends where code begins", TOUCH, at=0x1000, r1=(0xfc0, 0x40, 3), r3=UPPER)
+goes_on("code-then-region-two", "region 2 begins where code ends", TOUCH, r2=DATA)
+goes_on("region-two-then-code", "region 2 ends where code begins", TOUCH, at=0x1000, r2=(0, mask(12), 3), r3=UPPER)
+goes_on("region-two-byte-before-code", "region 2 is the byte before code", TOUCH, at=0x1000, r2=(0xfff, mask(0), 3), r3=UPPER)
+goes_on("code-between-regions", "region 2 before code, region 1 after it", TOUCH, at=0x1000, r1=(0x2000, 0x40, 3), r2=(0, mask(12), 3), r3=UPPER)
+goes_on("regions-shared-beside-code", "regions 1 and 2 have the same bytes, beside code", NO_BYTE, r1=(0x1000, 0x1000, 3), r2=DATA)
+BESIDE = dict(pc=0x1000, at=0x1000, r1=(0x2000, 0x40, 3), r2=(0, mask(12), 3), r3=UPPER)
+registers["stores-beside-code"] = {5: 0x1000}
+sheet("stores-beside-code", program(lui(5, 1), store(SB, 5, 5, -1), hstore(SB, 5, 0, 0), ECALL, **BESIDE), "18,3,100c,0,0,0,0,0,0",
+      "stores to the bytes before and after code", AS_FOUND)
+sheet("store-over-into-code", program(lui(5, 1), store(SH, 5, 5, -1), **BESIDE), "16,1,1004,0,0,1,0,2,1000", "fff is granted, 1000 is code", AS_FOUND)
+sheet("h-store-over-into-code", program(hstore(SD, 0, 0, 0x39), pc=0x1000, at=0x1000, r1=(0xfc0, 0x40, 3), r3=UPPER), "16,0,1000,0,0,1,1,2,1000",
+      "ff9 to fff are granted, 1000 is code", AS_FOUND)
+# permissions
+registers["code-readable"] = {10: NOP, 11: NOP}
+sheet("code-readable", program(NOP, load(LWU, 10, 0, 0), hload(LWU, 11, 0, 0), ECALL, r1=(0, 0x1000, 1), r2=(0, mask(12), 1)),
+      "18,3,c,0,0,0,0,0,0", "code may be read through both regions", NO_BYTE)
+goes_on("code-in-regions-without-any", "regions 1 and 2 have code and grant nothing", NO_BYTE, r1=(0, 0x10000, 8), r2=(0, mask(12), 0))
+sheet("writable-not-executable", program(NOP, r1=(0, 0x1000, 3), r2=(0, mask(12), 3), r3=(0, mask(12), 0)), "11,0,0,0,0,1,3,3,0",
+      "region 3 without execute: no byte is executable", NO_BYTE)
+# broken regions
+KEEPS = "02, Job 5, with 01: A region that breaks its rule keeps its values and matches nothing"
+for name, region, shows in [
+    ("bound-0", (0x200, 0, 3), "bound 0"), ("past-2-to-32", (0, (1 << 32) + 1, 3), "bound 2^32 + 1"),
+    ("over-2-to-32", (0x200, (1 << 32) - 0x1ff, 3), "over 2^32"), ("bound-of-ones", (0, ONES, 3), "a bound of ones"),
+    ("over-2-to-64", (ONES - 7, 0x10, 3), "its bytes would wrap to 0"), ("large-bound-odd", (0, 0x10001, 0xb), "large, bound 10001"),
+    ("large-bound-0", (0, 0, 0xb), "large, bound 0"), ("large-base-odd", (0x800, 0x10000, 0xb), "large, base 800"),
+    ("large-past-2-to-48", (0, (1 << 48) + 0x10000, 0xb), "large, past 2^48"),
+]:
+    goes_on("broken-one-" + name, "region 1 in code breaks its rule: " + shows, KEEPS, r1=region)
+for name, region, shows in [
+    ("mask-0", (0, 0, 3), "mask 0"), ("base-8", (8, mask(4), 3), "base 8"), ("2-to-49", (0, mask(49), 3), "2^49 bytes"),
+    ("hole", (0, mask(12) ^ 1 << 40, 3), "a hole in the mask"), ("no-top-bit", (0, mask(12) >> 1 & mask(12), 3), "no top bit in the mask"),
+]:
+    goes_on("broken-two-" + name, "region 2 in code breaks its rule: " + shows, KEEPS, r2=region)
+goes_on("broken-one-over-2-to-48", "region 1 is the last byte below 2^48 and the next", KEEPS, r1=(LAST, 2, 3), r3=(0, mask(48), 4))
+goes_on("broken-one-at-2-to-48", "region 1 at 2^48", KEEPS, r1=(1 << 48, 1, 3), r3=(0, mask(48), 4))
+goes_on("broken-two-at-2-to-48", "region 2 at 2^48", KEEPS, r2=(1 << 48, mask(8), 3), r3=(0, mask(48), 4))
+for name, region, shows in [("unset", NONE, "unset"), ("base-8", (8, mask(4), 4), "base 8"), ("2-to-49", (0, mask(49), 4), "2^49 bytes")]:
+    sheet("broken-three-" + name, program(NOP, r1=(0, 0x1000, 3), r2=(0, mask(12), 3), r3=region), "11,0,0,0,0,1,0,3,0",
+          "region 3 breaks its rule, its bytes are writable: " + shows, KEEPS)
+# what a guest does to its code
+four("code-changes-itself-locked", "code-changes-itself, locked: 18 before Job 5", AS_FOUND, words=CHANGES, r2=(0, mask(12), 3))
+H_CHANGES = [addi(6, 0, ECALL), hstore(SW, 6, 0, 8), EBREAK]
+registers["code-changes-itself-hsw"] = {6: ECALL}
+sheet("code-changes-itself-hsw", program(*H_CHANGES, options=0, r1=(0, 0x100, 3)), "18,2,8,0,0,0,0,0,0", "unlocked, by region 1: an EBREAK becomes an ECALL", LOCK)
+four("code-changes-itself-hsw-locked", "the same, locked", AS_FOUND, words=H_CHANGES, r1=(0, 0x100, 3))
+registers["unlocked-code-made-writable"] = {5: 2, 6: ECALL}
+sheet("unlocked-code-made-writable", program(addi(5, 0, 2), hfi(SELECT, 0, 5), hfi(SETBASE, 0, 0), addi(6, 0, ECALL), store(SW, 6, 0, 0x14), EBREAK,
+      options=0, r2=DATA), "18,5,14,0,0,0,0,0,0", "unlocked, region 2 moved over code, which is then stored into", LOCK)
+sheet("locked-code-not-made-writable", program(addi(5, 0, 2), hfi(SELECT, 0, 5), r2=DATA), "14,1,4,0,0,0,0,0,0",
+      "locked, region 2 cannot be moved", AS_FOUND)
+sheet("unlocked-enter-locked", program(addi(5, 0, 1), hfi(0, 0, 5), options=0, r2=(0, mask(12), 3)), "14,1,4,0,0,0,0,0,0",
+      "enter in HFI mode is 14 before 22; outside it no sheet goes on", "02, Job 5: 22 ... asked after 14")
+
+
 def write():
     names = [r[0] for r in rows]
     assert len(set(names)) == len(names), [n for n in names if names.count(n) > 1]
@@ -1086,7 +1237,7 @@ def write():
     out = ["# Stored sheets", "",
            "One file a sheet. The first lines were worked out by hand from document 01, or from",
            "document 02 where a row says `02` (they stand in `oracle/authoring/make_sheets.py`, which",
-           "writes this page, and so do the registers of most RV64M sheets, of some budgets and of two long ones), and then confirmed by the oracle. The sheets stand in `crates/sheets/data`; `crates/sheets/stdout` has",
+           "writes this page, and so do the registers of most RV64M sheets, of some budgets, of two long ones and of most of Job 5), and then confirmed by the oracle. The sheets stand in `crates/sheets/data`; `crates/sheets/stdout` has",
            "for each a line with its name and then the whole output.", ""]
     starts = dict(sections)
     for i, (name, _, first, shows, sentence) in enumerate(rows):

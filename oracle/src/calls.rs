@@ -9,6 +9,7 @@ use crate::instruction::{encode, m_kind, Instruction, M_WORDS};
 use crate::m_words::PAIRS;
 use crate::machine::{Machine, Region};
 use crate::supply::Supply;
+use crate::writable_code::{aimed_call, aims, WAYS};
 
 /// The bytes that a call has room for; the first `length` of them are lent.
 pub const ROOM: usize = 65_536;
@@ -168,6 +169,10 @@ fn outside(word: u32) -> World {
 
 fn inside(word: u32) -> World {
     outside(word).with(|m| m.mode = 1)
+}
+
+fn locked(word: u32) -> World {
+    inside(word).with(|m| m.options = 1)
 }
 
 const NOP: u32 = 0x13;
@@ -1159,6 +1164,142 @@ impl List {
         self.run("outside, stores its next word", changes, 50, (19, 1), |m| m.pc = 0x44).stores(0x44, 4, EBREAK as u64);
     }
 
+    /// Document 02, Job 5: "4, for a step or run given such a machine in locked HFI mode ... 22, for either enter form that
+    /// would begin such a state ... 4 leaves what 3 leaves, count 0, and 22 what 14 leaves."
+    fn code_refused(&mut self) {
+        for (name, regions) in writable_code() {
+            let world = |base: World| base.with(|m| (m.regions, m.x[5], m.x[6]) = (regions, 1, 0x80));
+            self.step(&format!("locked, {name}"), world(locked(NOP)), 4, unchanged);
+            self.run(&format!("locked, {name}"), world(locked(NOP)), 5, (4, 0), unchanged);
+            self.step(&format!("enter locked, {name}"), world(outside(hfi(ENTER))), 22, unchanged);
+            self.step(&format!("enter locked with jump, {name}"), world(outside(hfi(ENTER_JUMP))), 22, unchanged);
+        }
+    }
+
+    /// "it says no only when such a byte address exists": regions beside code, without the permission, or broken.
+    fn code_not_refused(&mut self) {
+        for (name, regions, refusing) in code_apart() {
+            let world = |base: World| base.with(|m| (m.regions, m.x[5]) = (regions, 1));
+            // The fetch at 40 passes, or is refused by that region.
+            match refusing {
+                None => self.step(&format!("locked, {name}"), world(locked(NOP)), 0, |m| m.pc = 0x44),
+                Some(region) => self.step(&format!("locked, {name}"), world(locked(NOP)), 11, |m| m.fault = fault(region, 3, 0x40)),
+            };
+            self.step(&format!("enter locked, {name}"), world(outside(hfi(ENTER))), 0, |m| {
+                (m.mode, m.options, m.pc, m.fault.occurred) = (1, 1, 0x44, 0);
+            });
+        }
+    }
+
+    /// 4 "asked after 3", before the budget and all that a step asks; not unlocked, not outside, not by resume.
+    fn code_asked(&mut self) {
+        let world = |base: World| base.with(|m| m.regions[1] = Region { base: 0, bound: mask(8), permission: 3 });
+        for options in 0..16 {
+            let (stop, pc) = if options % 2 == 1 { (4, 0x40) } else { (0, 0x44) };
+            let name = format!("writable code, options {options}");
+            self.step(&format!("{name}, inside"), world(inside(NOP)).with(|m| m.options = options), stop, |m| m.pc = pc);
+            self.step(&format!("{name}, outside"), world(outside(NOP)).with(|m| m.options = options), 0, |m| m.pc = 0x44);
+            self.resume(&name, world(inside(ECALL)).with(|m| m.options = options), 9, 0, |m| (m.pc, m.x[10]) = (0x44, 9));
+        }
+        for budget in [0, 1, 1_000_000] {
+            self.run(&format!("writable code, budget {budget:x}"), world(locked(NOP)), budget, (4, 0), unchanged);
+        }
+        self.run("writable code, budget f4241", world(locked(NOP)), 1_000_001, (2, 0), unchanged);
+        for (name, spoil) in broken() {
+            let mut world = world(locked(NOP));
+            spoil(&mut world.machine);
+            self.run(&format!("writable code, {name}"), world, 0, (3, 0), unchanged);
+        }
+        self.step("writable code, options 11", world(locked(NOP)).with(|m| m.options = 17), 3, unchanged);
+        for pc in [0x41, 0x100, 0x400, 0x800, ALL - 3] {
+            self.step(&format!("writable code, pc {pc:x}"), world(locked(NOP)).with(|m| m.pc = pc), 4, unchanged);
+        }
+        self.step("writable code, no memory", world(locked(NOP)).length(0), 4, unchanged);
+        let words = [0, hfi(ENTER), hfi(RESET), 0x0020_006f, load(0, 7, 0, -1), store(3, 7, 0, 0x40), hstore(3, 7, 0), ECALL, EBREAK, hfi(EXIT)];
+        for word in words {
+            self.run(&format!("writable code, word {word:x}"), world(locked(word)), 5, (4, 0), unchanged);
+        }
+    }
+
+    /// 22 "asked after 14 and before 15": by the operand, whatever the options are.
+    fn enters_asked(&mut self) {
+        let world = |base: World, value: u64, target: u64| {
+            base.with(|m| (m.regions[0], m.x[5], m.x[6]) = (Region { base: 0x80, bound: 1, permission: 2 }, value, target))
+        };
+        for (word, form) in [(hfi(ENTER), "enter"), (hfi(ENTER_JUMP), "enter with jump")] {
+            let jump = word == hfi(ENTER_JUMP);
+            for value in 0..16 {
+                let entered = |m: &mut Machine| (m.mode, m.options, m.pc, m.fault.occurred) = (1, value, if jump { 0x80 } else { 0x44 }, 0);
+                let name = format!("{form}, writable code, operand {value}");
+                if value % 2 == 1 {
+                    self.step(&name, world(outside(word), value, 0x80), 22, unchanged);
+                } else {
+                    self.step(&name, world(outside(word), value, 0x80), 0, entered);
+                }
+                let stop = if value % 2 == 1 { 22 } else { 15 };
+                if jump {
+                    self.step(&format!("{name}, to 82"), world(outside(word), value, 0x82), stop, unchanged);
+                }
+            }
+            for value in [17, 31, (1 << 32) + 1, ALL] {
+                self.step(&format!("{form}, writable code, options operand {value:x}"), world(outside(word), value, 0x82), 14, unchanged);
+            }
+            for (options, stop) in [(0, 14), (14, 14), (1, 4), (15, 4)] {
+                let name = format!("{form}, writable code, inside, options {options}");
+                self.step(&name, world(inside(word), 1, 0x82).with(|m| m.options = options), stop, unchanged);
+            }
+            let lock_bit = world(outside(word), 1, 0x80).with(|m| m.options = 15);
+            self.step(&format!("{form}, writable code, options 15 from before"), lock_bit, 22, unchanged);
+            self.step(&format!("{form}, writable code, pc 42"), world(outside(word), 1, 0x80).with(|m| m.pc = 0x42), 10, unchanged);
+            self.step(&format!("{form}, writable code, rd 1"), world(outside(word | 1 << 7), 1, 0x80), 13, unchanged);
+            self.run(&format!("{form}, writable code, budget 0"), world(outside(word), 1, 0x80), 0, (21, 0), unchanged);
+            self.run(&format!("{form}, writable code"), world(outside(word), 1, 0x80), 5, (22, 0), unchanged);
+        }
+        self.step("enter, writable code, operand of x0", world(outside(hfi_fields(ENTER, 0, 0, 0)), 1, 0), 0, |m| {
+            (m.mode, m.options, m.pc, m.fault.occurred) = (1, 0, 0x44, 0);
+        });
+    }
+
+    /// Runs that come to writable code, and what is left of them.
+    fn code_in_runs(&mut self) {
+        let whole = Region { base: 0, bound: mask(8), permission: 3 };
+        // Unlocked, a guest stores its next word, by region 2 and by region 1.
+        let stores = |word: u32| inside(word).with(|m| (m.options, m.x[7], m.x[9]) = (0, EBREAK as u64, 0)).put(0x44, NOP);
+        let two = stores(store(2, 7, 0, 0x44)).with(|m| m.regions[1] = whole);
+        self.run("unlocked, stores its next word", two.clone(), 50, (19, 1), |m| m.pc = 0x44).stores(0x44, 4, EBREAK as u64);
+        self.run("locked, would store its next word", two.with(|m| m.options = 1), 50, (4, 0), unchanged);
+        let one = stores(hstore(2, 7, 4)).with(|m| m.regions[0] = Region { base: 0x40, bound: 8, permission: 3 });
+        self.run("unlocked, stores its next word by hsw", one.clone(), 50, (19, 1), |m| m.pc = 0x44).stores(0x44, 4, EBREAK as u64);
+        self.run("locked, would store its next word by hsw", one.with(|m| m.options = 1), 50, (4, 0), unchanged);
+        // Enters unlocked, stores, exits, and would enter locked.
+        let begin = outside(hfi_fields(ENTER, 0, 0, 0)).with(|m| (m.regions[1], m.x[5]) = (whole, 1));
+        let twice = begin.put(0x44, store(0, 7, 0, 0xff)).put(0x48, hfi(EXIT)).put(0x4c, hfi(ENTER));
+        self.run("outside, enters, stores into code, exits, would enter locked", twice, 50, (22, 3), |m| {
+            (m.options, m.reason, m.exit_pc, m.pc, m.fault.occurred) = (0, 1, 0x48, 0x4c, 0);
+        })
+        .stores(0xff, 1, 7);
+        // Sets region 2 over code: base, then permission, and enters.
+        let sets = |permission: u64| {
+            let base = outside(hfi_fields(SET_BASE, 0, 0, 0)).put(0x44, hfi_fields(SET_PERMISSION, 0, 6, 0)).put(0x48, hfi(ENTER)).put(0x4c, ECALL);
+            base.with(|m| (m.selector, m.x[5], m.x[6]) = (2, 3, permission))
+        };
+        let set = |permission: u64| move |m: &mut Machine| (m.regions[1].base, m.regions[1].permission, m.pc) = (0, permission, 0x48);
+        self.run("outside, makes code writable, would enter locked", sets(3), 50, (22, 2), set(3));
+        self.run("outside, makes code readable, enters locked, is redirected", sets(1), 50, (12, 4), |m| {
+            set(1)(m);
+            (m.options, m.reason, m.exit_pc, m.pc, m.fault.occurred) = (3, 2, 0x4c, 0x2460, 0);
+        })
+        .told
+        .address = 0x2460;
+        let reset = outside(hfi(RESET)).with(|m| (m.regions[1], m.x[5]) = (whole, 1)).put(0x44, hfi(ENTER));
+        self.run("outside, resets regions, enters locked", reset, 50, (11, 2), |m| {
+            (m.regions, m.mode, m.options, m.pc, m.fault) = (Default::default(), 1, 1, 0x48, fault(0, 3, 0x48));
+        });
+        // Unlocked, a guest widens region 2 over its code and goes on; 4 is for the next call.
+        let widens = inside(hfi_fields(SET_BASE, 0, 0, 0)).with(|m| (m.options, m.selector) = (0, 2)).put(0x44, store(0, 7, 0, 0xff));
+        self.run("unlocked, makes its code writable, stores there", widens, 2, (21, 2), |m| (m.regions[1].base, m.pc) = (0, 0x48)).stores(0xff, 1, 7);
+    }
+
     /// "a run that began in HFI mode ends there with 20"
     fn runs_inside(&mut self) {
         let exit = || inside(addi(10, 0, 5)).with(|m| m.options = 0).put(0x44, hfi(EXIT)).put(0x48, ECALL);
@@ -1189,6 +1330,111 @@ fn region_word(m: &mut Machine, funct7: u32) {
 
 fn fault(region: u64, op: u64, address: u64) -> crate::Fault {
     crate::Fault { occurred: 1, region, op, address }
+}
+
+/// Regions 1, 2 and 3 with a byte that is both writable and executable. Memory ends at 800.
+fn writable_code() -> Vec<(&'static str, [Region; 3])> {
+    const TOP: u64 = 1 << 48;
+    let (none, code) = (Region::default(), region(0, mask(8), 4));
+    let one = |base: u64, bound: u64, permission: u64| [region(base, bound, permission), none, code];
+    let two = |base: u64, k: u32, permission: u64| [none, region(base, mask(k), permission), code];
+    vec![
+        ("region 1 is code", one(0, 0x100, 3)),
+        ("region 1 is code, write only", one(0, 0x100, 2)),
+        ("region 1 has code's first byte", one(0, 1, 3)),
+        ("region 1 has code's last byte", one(0xff, 1, 3)),
+        ("region 1 begins with code's last byte", one(0xff, 0x100, 3)),
+        ("region 1 ends with code's first byte", [region(0xc1, 0x40, 3), none, region(0x100, mask(8), 4)]),
+        ("region 1 inside code", one(0x41, 2, 3)),
+        ("region 1 of 2^32 bytes", one(0, 1 << 32, 3)),
+        ("large region 1", one(0, 0x10000, 0xb)),
+        ("large region 1 of 2^48 bytes, write only", one(0, TOP, 0xa)),
+        ("large region 1 over 2^32, code there", [region(0xffff_0000, 0x20000, 0xb), none, region(1 << 32, mask(16), 4)]),
+        ("region 2 is code", two(0, 8, 3)),
+        ("region 2 is code, write only", two(0, 8, 2)),
+        ("region 2 is code's first byte", two(0, 0, 3)),
+        ("region 2 is code's last byte", two(0xff, 0, 3)),
+        ("region 2 inside code", two(0x80, 4, 3)),
+        ("region 2 around code", two(0, 9, 3)),
+        ("region 2 of 2^48 bytes", two(0, 48, 3)),
+        ("both regions in code", [region(0x40, 4, 3), region(0x40, mask(2), 3), code]),
+        ("region 2 in code, region 1 apart", [region(0x200, 0x40, 3), region(0x40, mask(2), 3), code]),
+        ("region 1 in code, region 2 apart", [region(0x40, 4, 3), region(0x400, mask(8), 3), code]),
+        ("region 1 in code past memory", [region(0x800, 1, 3), none, region(0, mask(12), 4)]),
+        ("region 2 in code past memory", [none, region(0x10000, mask(16), 3), region(0, mask(17), 4)]),
+        ("region 1 is the last byte below 2^48", [region(TOP - 1, 1, 3), none, region(0, mask(48), 4)]),
+        ("region 2 is the last byte below 2^48", [none, region(TOP - 1, mask(0), 2), region(TOP - 0x100, mask(8), 4)]),
+        ("region 1 in code of two bytes", [region(0x41, 1, 3), none, region(0x40, mask(1), 4)]),
+        ("region 2 is code of one byte", [none, region(0x40, mask(0), 3), region(0x40, mask(0), 4)]),
+    ]
+}
+
+/// The same without such a byte, and the fault region if a fetch at 40 is refused.
+fn code_apart() -> Vec<(&'static str, [Region; 3], Option<u64>)> {
+    let runs = [code_beside(), code_in_broken_regions()].concat();
+    let whole = [region(0, 0x10000, 0xb), region(0, mask(12), 3)];
+    let stops = [
+        ("writable bytes, region 3 without execute", region(0, mask(8), 0), 3),
+        ("writable bytes, region 3 unset", Region::default(), 0),
+        ("writable bytes, region 3 with base 48", region(0x48, mask(4), 4), 0),
+        ("writable bytes, region 3 of 2^49 bytes", region(0, mask(49), 4), 0),
+        ("writable bytes, a hole in region 3's mask", region(0, mask(8) ^ 1 << 40, 4), 0),
+    ];
+    let runs = runs.into_iter().map(|(name, regions)| (name, regions, None));
+    let stops = stops.into_iter().map(|(name, code, refusing)| (name, [whole[0], whole[1], code], Some(refusing)));
+    runs.chain(stops).collect()
+}
+
+fn code_beside() -> Vec<(&'static str, [Region; 3])> {
+    const TOP: u64 = 1 << 48;
+    let (none, code, upper) = (Region::default(), region(0, mask(8), 4), region(0x40, mask(6), 4));
+    let one = |base: u64, bound: u64, permission: u64| [region(base, bound, permission), none, code];
+    let two = |base: u64, mask: u64, permission: u64| [none, region(base, mask, permission), code];
+    vec![
+        ("region 1 begins where code ends", one(0x100, 0x40, 3)),
+        ("region 1 from there to 2^32", one(0x100, (1 << 32) - 0x100, 3)),
+        ("region 1 ends where code begins", [region(0, 0x40, 3), none, upper]),
+        ("large region 1 begins where code ends", [region(0x10000, TOP - 0x10000, 0xb), none, region(0, mask(16), 4)]),
+        ("region 2 begins where code ends", two(0x100, mask(8), 3)),
+        ("region 2 ends where code begins", [none, region(0, mask(6), 3), upper]),
+        ("regions 1 and 2 are one, beside code", [region(0x400, 0x100, 3), region(0x400, mask(8), 3), code]),
+        ("region 1 is code, without write", one(0, 0x100, 1)),
+        ("large region 1 has code, without write", one(0, 0x10000, 9)),
+        ("large region 1 has code, without any", one(0, 0x10000, 8)),
+        ("region 2 is code, without write", two(0, mask(8), 1)),
+        ("region 2 is code, without any", two(0, mask(8), 0)),
+    ]
+}
+
+fn code_in_broken_regions() -> Vec<(&'static str, [Region; 3])> {
+    const TOP: u64 = 1 << 48;
+    let (none, code, most) = (Region::default(), region(0, mask(8), 4), region(0, mask(48), 4));
+    let one = |base: u64, bound: u64, permission: u64| [region(base, bound, permission), none, code];
+    let two = |base: u64, mask: u64, permission: u64| [none, region(base, mask, permission), code];
+    vec![
+        ("region 1 in code, bound 0", one(0x40, 0, 3)),
+        ("region 1 in code, bound 2^32 and 1", one(0, (1 << 32) + 1, 3)),
+        ("region 1 in code, over 2^32", one(0x40, (1 << 32) - 0x3f, 3)),
+        ("region 1 in code, bound of ones", one(0, ALL, 3)),
+        ("region 1 in code, to 2^64", one(0x40, ALL - 0x3f, 3)),
+        ("region 1 over 2^64 to code", one(ALL - 0xf, 0x60, 3)),
+        ("large region 1 in code, bound 0", one(0, 0, 0xb)),
+        ("large region 1 in code, bound 10001", one(0, 0x10001, 0xb)),
+        ("large region 1 in code, base 40", one(0x40, 0x10000, 0xb)),
+        ("large region 1 in code, past 2^48", [region(0x10000, TOP, 0xb), none, region(0, mask(17), 4)]),
+        ("region 1 in code, past 2^48", [region(TOP - 1, 2, 3), none, most]),
+        ("region 1 at 2^48", [region(TOP, 1, 3), none, most]),
+        ("region 2 at 2^48", [none, region(TOP, mask(8), 3), most]),
+        ("region 2 in code, base 48", two(0x48, mask(4), 3)),
+        ("region 2 in code, mask 0", two(0, 0, 3)),
+        ("region 2 in code, 2^49 bytes", two(0, mask(49), 3)),
+        ("region 2 in code, a hole in its mask", two(0, mask(8) ^ 1 << 40, 3)),
+        ("region 2 in code, no top bit in its mask", two(0, mask(8) >> 1 & mask(8), 3)),
+    ]
+}
+
+fn region(base: u64, bound: u64, permission: u64) -> Region {
+    Region { base, bound, permission }
 }
 
 type Change = (String, Box<dyn Fn(&mut Machine)>);
@@ -1299,18 +1545,25 @@ pub fn directed() -> Vec<Directed> {
     list.m_asked();
     list.m_neighbours();
     list.m_runs();
+    list.code_refused();
+    list.code_not_refused();
+    list.code_asked();
+    list.enters_asked();
+    list.code_in_runs();
     // A call that two subjects share stands once, under the first.
     let mut seen = std::collections::HashSet::new();
     list.all.retain(|row| seen.insert(row.call.unnamed()));
     list.all
 }
 
-/// Random calls: those of the base, then those with RV64M words.
+/// Random calls: those of the base, then those with RV64M words, then those of
+/// Job 5. Of the first two some are refused by Job 5.
 pub fn random() -> Vec<Call> {
-    let (mut base, mut supply) = (Supply::of_base(20), Supply::new(21));
+    let (mut base, mut rv64m, mut supply) = (Supply::of_base(20), Supply::of_rv64m(21), Supply::new(22));
     let first = (0..RANDOM).map(|n| random_call(&mut base, n));
-    let second = (0..RANDOM_M).map(|n| random_m_call(&mut supply, n));
-    first.chain(second).enumerate().map(|(n, (request, machine, lent))| random_named(n, request, machine, &lent)).collect()
+    let second = (0..RANDOM_M).map(|n| random_m_call(&mut rv64m, n));
+    let third = (0..RANDOM_CODE).map(|n| random_code_call(&mut supply, n));
+    first.chain(second).chain(third).enumerate().map(|(n, (request, machine, lent))| random_named(n, request, machine, &lent)).collect()
 }
 
 /// Runs that cross the mode, steps of one word, short runs and resumptions of
@@ -1364,6 +1617,17 @@ fn random_m_call(supply: &mut Supply, n: usize) -> (Request, Machine, Vec<u8>) {
     }
 }
 
+/// Regions aimed at code, in each of the ways, and runs that cross the mode.
+fn random_code_call(supply: &mut Supply, n: usize) -> (Request, Machine, Vec<u8>) {
+    if n % 4 == 3 {
+        let (machine, memory) = supply.crossing_world(7);
+        return (Request::Run(supply.below(60)), machine, memory);
+    }
+    let all = aims();
+    let call = aimed_call(supply, all[n * 7 % all.len()], n % WAYS.len());
+    (call.request, call.machine, call.bytes)
+}
+
 fn random_named(n: usize, request: Request, machine: Machine, lent: &[u8]) -> Call {
     let length = lent.len();
     let mut bytes = vec![0; ROOM];
@@ -1391,6 +1655,7 @@ pub fn stored() -> (String, String) {
     (data, printed)
 }
 
-/// How many of the stored calls are random, of the base and with RV64M words.
+/// How many of the stored calls are random: of the base, with RV64M words, of Job 5.
 const RANDOM: usize = 160;
 const RANDOM_M: usize = 80;
+const RANDOM_CODE: usize = 80;

@@ -6,10 +6,12 @@ use crate::instruction::{decode, encode, name, HfiKind, Instruction, LOAD_TABLE,
 use crate::m_words::{self, M_CLASSES, PAIRS};
 use crate::machine::Machine;
 use crate::numbers::{bit, power};
-use crate::reach::writable;
+use crate::overlap::locked_code_is_writable;
+use crate::reach::{executable, writable};
 use crate::region::{keeps_rule, Place};
 use crate::step::{data_access, load_size, step_asked, store_size};
 use crate::supply::{sheet_of, written_out, Supply, AIMS};
+use crate::writable_code::{self, CLASSES, WAYS};
 
 /// What an engine under test offers. `None` means that it lacks the call.
 pub trait Engine {
@@ -121,6 +123,9 @@ pub struct Counts {
     pub h_words: BTreeMap<&'static str, [u64; H_WORDS]>,
     /// RV64M words by what their operands are (`M_CLASSES`) and by word.
     pub m_words: m_words::Met,
+    /// Aimed regions by what they are (`writable_code::CLASSES`), and the stops of the ways in which they were put.
+    pub code_classes: writable_code::Met,
+    pub code_stops: BTreeMap<u64, u64>,
     /// What happened in the runs that cross the mode, by kind.
     pub crossings: BTreeMap<&'static str, u64>,
     pub resume_stops: BTreeMap<u64, u64>,
@@ -142,6 +147,8 @@ pub struct Counts {
     pub isolation_differing: u64,
     /// Isolation pairs whose run left another memory than it began with.
     pub isolation_stored: u64,
+    /// Isolation pairs that ended in HFI mode, where 4 was asked again.
+    pub isolation_inside: u64,
     pub compared: u64,
     /// How many comparisons differed; the first 20 are told.
     pub differing: u64,
@@ -158,6 +165,8 @@ impl Counts {
         }
         all(&mut self.step_stops, other.step_stops);
         all(&mut self.run_stops, other.run_stops);
+        all(&mut self.code_stops, other.code_stops);
+        all(&mut self.code_classes, other.code_classes);
         all(&mut self.crossings, other.crossings);
         all(&mut self.resume_stops, other.resume_stops);
         all(&mut self.sheet_lines, other.sheet_lines);
@@ -191,6 +200,7 @@ impl Counts {
         self.isolation_steps += other.isolation_steps;
         self.isolation_differing += other.isolation_differing;
         self.isolation_stored += other.isolation_stored;
+        self.isolation_inside += other.isolation_inside;
         self.compared += other.compared;
         self.differing += other.differing;
         self.differences.extend(other.differences);
@@ -382,7 +392,7 @@ pub fn compare_step(
     let (mut m, mut bytes) = (*machine, memory.clone());
     let a = left.step(machine, memory).expect("the measure steps");
     *counts.step_stops.entry(a.0).or_default() += 1;
-    if let (Some(instruction), true) = (word.and_then(decode), ![1, 3, 10, 11, 12].contains(&a.0)) {
+    if let (Some(instruction), true) = (word.and_then(decode), ![1, 3, 4, 10, 11, 12].contains(&a.0)) {
         count_word(&before, &instruction, a.0, counts);
     }
     if let Some(b) = right.step(&mut m, &mut bytes) {
@@ -671,6 +681,10 @@ struct Crossings {
 fn follow(machine: &Machine, memory: &[u8], budget: u64, counts: &mut Counts) -> Crossings {
     let (mut m, mut bytes) = (*machine, memory.to_vec());
     let mut seen = Crossings { began_inside: m.mode == 1, stop: 21, ..Crossings::default() };
+    if locked_code_is_writable(machine) {
+        seen.stop = 4;
+        return seen;
+    }
     for _ in 0..budget {
         let (before, word) = (m.mode, word_at(&bytes, m.pc));
         let stop = step_asked(&mut m, &mut bytes).0;
@@ -707,7 +721,11 @@ fn follow(machine: &Machine, memory: &[u8], budget: u64, counts: &mut Counts) ->
 pub fn count_crossings(machine: &Machine, memory: &[u8], budget: u64, counts: &mut Counts) {
     let seen = follow(machine, memory, budget, counts);
     let kinds = if seen.began_inside {
-        vec![("runs begun inside", true), ("runs begun inside that ended with 20", seen.stop == 20)]
+        vec![
+            ("runs begun inside", true),
+            ("runs begun inside that ended with 4", seen.stop == 4),
+            ("runs begun inside that ended with 20", seen.stop == 20),
+        ]
     } else {
         vec![
             ("runs begun outside", true),
@@ -716,6 +734,8 @@ pub fn count_crossings(machine: &Machine, memory: &[u8], budget: u64, counts: &m
             ("runs begun outside whose last step left", seen.left > 0 && seen.since == 0 && seen.stop == 21),
             ("runs begun outside that ended with 18 inside", seen.stop == 18 && seen.ended_inside),
             ("runs begun outside that ended with 11 or 16", seen.stop == 11 || seen.stop == 16),
+            ("runs begun outside that ended with 22", seen.stop == 22),
+            ("runs begun outside that entered and ended with 22", seen.stop == 22 && seen.entered > 0),
         ]
     };
     for (kind, _) in kinds.into_iter().filter(|(_, holds)| *holds) {
@@ -726,7 +746,7 @@ pub fn count_crossings(machine: &Machine, memory: &[u8], budget: u64, counts: &m
 /// Demand 3 on one engine: from one machine in locked HFI mode and two
 /// memories that agree on readable and executable bytes, the same stop, count,
 /// address and final machine; bytes that agreed still agree; bytes that are
-/// not writable are unchanged.
+/// not writable are unchanged, and so are executable ones in either run.
 pub fn isolation(
     engine: &dyn Engine,
     machine: &Machine,
@@ -754,15 +774,43 @@ pub fn isolation(
             show(&n)
         ));
     }
-    for address in 0..one.len() {
-        if one[address] == two[address] && a[address] != b[address] {
-            counts.difference(format!("isolation: byte {address:x} agreed and differs\n  before {}", show(machine)));
-            return;
-        }
-        if (one[address] != a[address] || two[address] != b[address]) && !writable(machine, address as u64) {
-            counts.difference(format!("isolation: byte {address:x} is not writable and changed\n  before {}", show(machine)));
-            return;
-        }
+    if let Some(text) = (0..one.len()).find_map(|at| byte_fault(machine, at, (one[at], two[at]), (a[at], b[at]))) {
+        counts.difference(format!("isolation: {text}\n  before {}", show(machine)));
+    }
+    stays_unrefused(engine, machine, first, &m, &mut a, counts);
+}
+
+/// What is wrong with a byte of both memories, by what it was in each and what it is.
+fn byte_fault(machine: &Machine, address: usize, before: (u8, u8), after: (u8, u8)) -> Option<String> {
+    let changed = before != after;
+    if before.0 == before.1 && after.0 != after.1 {
+        return Some(format!("byte {address:x} agreed and differs"));
+    }
+    if changed && !writable(machine, address as u64) {
+        return Some(format!("byte {address:x} is not writable and changed"));
+    }
+    if changed && executable(machine, address as u64) {
+        return Some(format!("byte {address:x} is executable and changed"));
+    }
+    None
+}
+
+/// A run that was not refused with 4 leaves a machine that is not either, if it is still in locked HFI mode.
+fn stays_unrefused(
+    engine: &dyn Engine,
+    before: &Machine,
+    (stop, _, _): (u64, u64, u64),
+    after: &Machine,
+    memory: &mut [u8],
+    counts: &mut Counts,
+) {
+    if [1, 2, 3, 4].contains(&stop) || after.mode == 0 {
+        return;
+    }
+    counts.isolation_inside += 1;
+    let again = engine.run(&mut after.clone(), memory, 0);
+    if again != Some((21, 0, 0)) {
+        counts.difference(format!("isolation: a run left {again:?}\n  before {}\n  after {}", show(before), show(after)));
     }
 }
 
@@ -781,6 +829,7 @@ pub fn rounds(left: &dyn Engine, right: &dyn Engine, seed: u64, number: u64, cou
         }
         h_words(left, right, &mut supply, round as usize, counts);
         m_word_pairs(left, right, &mut supply, round as usize, counts);
+        writable_code::compare(left, right, &mut supply, counts);
         for _ in 0..4 {
             steady_run(left, right, &mut supply, counts);
             crossing_run(left, right, &mut supply, counts);
@@ -901,9 +950,7 @@ fn isolation_pair(engine: &dyn Engine, supply: &mut Supply, turn: u64, length: u
     let (machine, one) = if turn < 2 {
         (supply.locked_machine(length), supply.memory(length))
     } else {
-        let (mut machine, memory) = supply.steady_world();
-        machine.options |= 1;
-        (machine, memory)
+        supply.locked_world()
     };
     let two = supply.twin(&machine, &one);
     let budget = supply.budget();
@@ -911,7 +958,8 @@ fn isolation_pair(engine: &dyn Engine, supply: &mut Supply, turn: u64, length: u
 }
 
 /// Lengths about the limit, which random rounds do not reach: four machines
-/// each, as they come, at pc 0 outside HFI mode, and about the memory's end.
+/// each, as they come, at pc 0 outside HFI mode, and about the memory's end;
+/// and one whose locked code is writable.
 pub fn long_memories(left: &dyn Engine, right: &dyn Engine, seed: u64, counts: &mut Counts) {
     let mut supply = Supply::new(seed);
     for length in [16_777_215usize, 16_777_216, 16_777_217] {
@@ -930,6 +978,9 @@ pub fn long_memories(left: &dyn Engine, right: &dyn Engine, seed: u64, counts: &
                 compare_step(left, right, &mut machine.clone(), &mut memory, counts);
             }
         }
+        let (mut machine, _) = supply.aimed_regions_world(writable_code::aims()[0]);
+        compare_run(left, right, &machine, &memory, 10, counts);
+        compare_step(left, right, &mut machine, &mut memory, counts);
     }
 }
 
@@ -964,10 +1015,7 @@ pub fn print_counts(counts: &Counts) {
         let met = counts.empty_lasting.get(range).copied().unwrap_or_default();
         println!("  {range}: {}", met.map(|count| count.to_string()).join(" "));
     }
-    println!(
-        "isolation stops {:?}, steps {}, pairs with different memories {}, pairs in which a run changed its memory {}",
-        counts.isolation_stops, counts.isolation_steps, counts.isolation_differing, counts.isolation_stored
-    );
+    print_isolation(counts);
     println!("instructions (completed, stopped):");
     for (name, (completed, stopped)) in &counts.instructions {
         println!("  {name} {completed} {stopped}");
@@ -978,11 +1026,24 @@ pub fn print_counts(counts: &Counts) {
     }
 }
 
+fn print_isolation(counts: &Counts) {
+    println!(
+        "isolation stops {:?}, steps {}, pairs with different memories {}, pairs in which a run changed its memory {}, \
+         pairs that ended in HFI mode and were asked again {}",
+        counts.isolation_stops, counts.isolation_steps, counts.isolation_differing, counts.isolation_stored, counts.isolation_inside
+    );
+}
+
 fn print_classes(counts: &Counts) {
     println!("h-words in HFI mode, region 1 grants: {}", H_NAMES.join(" "));
     for (class, _, _) in H_CLASSES {
         let met = counts.h_words.get(class).copied().unwrap_or_default();
         println!("  {class}: {}", met.map(|count| count.to_string()).join(" "));
+    }
+    println!("regions aimed at code, each as {}: stops {:?}", WAYS.map(|way| way.0).join("; "), counts.code_stops);
+    for (class, refused, _) in CLASSES {
+        let met = counts.code_classes.get(class).copied().unwrap_or_default();
+        println!("  {class}, {}: {met}", if refused { "refused" } else { "not refused" });
     }
     println!("RV64M words by operands: {}", m_words::names().join(" "));
     for (class, _, _) in M_CLASSES {

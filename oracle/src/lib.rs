@@ -1,5 +1,5 @@
 //! A second implementation of the machine of document 01 as document 02 has
-//! changed it (Jobs 1 to 4), written from those and from the RISC-V unprivileged
+//! changed it (Jobs 1 to 5), written from those and from the RISC-V unprivileged
 //! specification alone. It is meant to be read side by side with them, so it
 //! prefers the plain form: whole numbers in u128 and i128, one byte at a time,
 //! one question after the other.
@@ -10,6 +10,7 @@ pub mod instruction;
 pub mod m_words;
 pub mod machine;
 pub mod numbers;
+pub mod overlap;
 #[cfg(feature = "proved")]
 pub mod proved;
 pub mod reach;
@@ -19,6 +20,7 @@ pub mod sheet;
 pub mod step;
 pub mod supply;
 pub mod vectors;
+pub mod writable_code;
 
 pub use instruction::{decode, encode, Instruction};
 pub use machine::{Fault, Machine, Region};

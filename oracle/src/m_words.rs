@@ -122,6 +122,7 @@ impl Supply {
         machine.mode = self.below(2);
         machine.pc = self.below(memory.len() as u64 / 4) * 4;
         machine.regions[2] = Region { base: 0, bound: ALL << 16, permission: 4 };
+        self.unrefused(&mut machine);
         let kind = m_kind(n);
         let (a, b) = self.pair(aim, width(kind));
         let (a, mut b) = (self.dirtied(a, width(kind)), self.dirtied(b, width(kind)));

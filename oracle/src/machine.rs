@@ -67,6 +67,11 @@ pub fn region_kind(number: usize) -> RegionKind {
     }
 }
 
+/// The numbers of the regions of a kind, rising.
+pub fn numbers_of_kind(kind: RegionKind) -> Vec<usize> {
+    (1..=REGIONS).filter(|number| region_kind(*number) == kind).collect()
+}
+
 /// The permission bits that a region of a kind has.
 pub fn kind_has_bit(kind: RegionKind, place: u32) -> bool {
     match kind {

@@ -45,7 +45,11 @@ pub fn large_rule(region: &Region) -> bool {
 
 /// Does region `number` keep the rule of its kind?
 pub fn keeps_rule(number: usize, region: &Region) -> bool {
-    match region_kind(number) {
+    rule_of_kind(region_kind(number), region)
+}
+
+pub fn rule_of_kind(kind: RegionKind, region: &Region) -> bool {
+    match kind {
         RegionKind::Explicit => {
             if bit(region.permission, LARGE) {
                 large_rule(region)

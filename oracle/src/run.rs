@@ -2,6 +2,7 @@
 
 use crate::machine::{well_formed, Machine};
 use crate::numbers::add;
+use crate::overlap::locked_code_is_writable;
 use crate::step::{step_asked, MEMORY_LIMIT};
 
 pub const BUDGET_LIMIT: u64 = 1_000_000;
@@ -20,6 +21,12 @@ pub fn run(machine: &mut Machine, memory: &mut [u8], budget: u64) -> (u64, u64, 
     // 3. Is the machine well formed?
     if !well_formed(machine) {
         return (3, 0, 0);
+    }
+    // Job 5: in locked HFI mode, is no byte both writable and executable? It
+    // stays so in the run: such a guest cannot change its regions, and an enter
+    // asks again.
+    if locked_code_is_writable(machine) {
+        return (4, 0, 0);
     }
     let began_inside = machine.mode == 1;
     let mut count = 0;

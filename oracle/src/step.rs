@@ -5,9 +5,11 @@ use crate::instruction::{
     SystemKind, UpperKind,
 };
 use crate::machine::{
-    permission_fits, well_formed, Fault, Machine, Region, OPTION_REDIRECT_CALLS, OPTION_REDIRECT_EXITS, REGIONS,
+    permission_fits, well_formed, Fault, Machine, Region, OPTION_LOCK, OPTION_REDIRECT_CALLS, OPTION_REDIRECT_EXITS,
+    REGIONS,
 };
 use crate::numbers::{add, bit, power, signed, word_extended, wrap};
+use crate::overlap::{code_is_writable, locked_code_is_writable};
 use crate::region::{address, first_absent, first_refused, Access, Op, Place};
 
 pub const MEMORY_LIMIT: usize = 16_777_216;
@@ -15,8 +17,8 @@ pub const MEMORY_LIMIT: usize = 16_777_216;
 /// Length of an instruction word.
 const LENGTH: u64 = 4;
 
-/// A step as a call: questions 1 and 3, then the step itself. Answers the
-/// stop and the address given with it.
+/// A step as a call: questions 1, 3 and Job 5's, then the step itself. Answers
+/// the stop and the address given with it.
 pub fn step(machine: &mut Machine, memory: &mut [u8]) -> (u64, u64) {
     // 1. Is memory no longer than 16,777,216?
     if memory.len() > MEMORY_LIMIT {
@@ -26,10 +28,14 @@ pub fn step(machine: &mut Machine, memory: &mut [u8]) -> (u64, u64) {
     if !well_formed(machine) {
         return (3, 0);
     }
+    // Job 5: in locked HFI mode, is no byte both writable and executable?
+    if locked_code_is_writable(machine) {
+        return (4, 0);
+    }
     step_asked(machine, memory)
 }
 
-/// Questions 4 to 13 and the effect.
+/// Questions 4 to 13, with Job 5's after 8, and the effect.
 pub fn step_asked(machine: &mut Machine, memory: &mut [u8]) -> (u64, u64) {
     // 4. Is pc a multiple of 4?
     if machine.pc % 4 != 0 {
@@ -54,6 +60,10 @@ pub fn step_asked(machine: &mut Machine, memory: &mut [u8]) -> (u64, u64) {
     // 8. Does HFI allow it?
     if hfi_forbids(machine, &instruction) {
         return (14, 0);
+    }
+    // Job 5: would an enter begin locked HFI mode with such a byte?
+    if enters_locked(machine, &instruction) && code_is_writable(machine) {
+        return (22, 0);
     }
     // 9. Is the target of a taken branch, a jump or an enter with jump a
     // multiple of 4?
@@ -83,6 +93,14 @@ pub fn step_asked(machine: &mut Machine, memory: &mut [u8]) -> (u64, u64) {
     }
     perform(machine, memory, &instruction);
     (0, 0)
+}
+
+/// Either enter form whose operand has the lock bit.
+pub fn enters_locked(machine: &Machine, instruction: &Instruction) -> bool {
+    match *instruction {
+        Instruction::Hfi { kind: HfiKind::Enter | HfiKind::EnterJump, rs1, .. } => bit(machine.get(rs1), OPTION_LOCK),
+        _ => false,
+    }
 }
 
 fn calls_redirected(machine: &Machine) -> bool {

@@ -4,7 +4,9 @@ use crate::instruction::{
     decode, encode, BranchKind, HfiKind, ImmediateKind, Instruction, LoadKind, RegisterKind, ShiftKind, SystemKind, UpperKind, BASE_ROWS, BRANCH_TABLE,
     HFI_TABLE, IMMEDIATE_TABLE, LOAD_TABLE, REGISTER_TABLE, SHIFT_TABLE, STORE_TABLE,
 };
-use crate::machine::{Fault, Machine, Region};
+use crate::machine::{region_kind, Fault, Machine, Region, RegionKind, REGIONS, WRITE};
+use crate::numbers::bit;
+use crate::overlap::{code_is_writable, executable_intervals, extent, locked_code_is_writable, Interval};
 use crate::reach::{executable, readable};
 use crate::sheet::SHEET_LIMIT;
 use crate::step::{load_size, store_size};
@@ -78,21 +80,31 @@ const OFFSETS: [u64; 3] = [17, 18, 29];
 /// Another, which counts the rounds of a loop.
 const ROUNDS: u64 = 20;
 
+/// Where the ordinary data of a locked sheet begins; an ADDI reaches its end.
+const SHEET_DATA: u64 = 0x400;
+
 /// A small generator of random numbers; the same seed gives the same numbers.
 pub struct Supply {
     state: u64,
     /// How many rows of `REGISTER_TABLE` it draws from.
     rows: usize,
+    /// Does it mostly keep writable bytes and code apart where they are locked?
+    parts: bool,
 }
 
 impl Supply {
     pub fn new(seed: u64) -> Supply {
-        Supply { state: seed, rows: REGISTER_TABLE.len() }
+        Supply { state: seed, rows: REGISTER_TABLE.len(), parts: true }
     }
 
     /// As before Job 2, so that what was stored then stays as it was.
     pub fn of_base(seed: u64) -> Supply {
-        Supply { state: seed, rows: BASE_ROWS }
+        Supply { state: seed, rows: BASE_ROWS, parts: false }
+    }
+
+    /// As before Job 5, likewise.
+    pub fn of_rv64m(seed: u64) -> Supply {
+        Supply { state: seed, rows: REGISTER_TABLE.len(), parts: false }
     }
 
     pub fn next(&mut self) -> u64 {
@@ -272,22 +284,38 @@ impl Supply {
 
     /// A machine in HFI mode and a memory in which runs go on for a while:
     /// code in the lower half, ordinary data in a block of the upper half,
-    /// explicit data anywhere. Locked three times in four.
+    /// explicit data anywhere, but mostly not writable in the lower half where
+    /// it is locked. Locked three times in four.
     pub fn steady_world(&mut self) -> (Machine, Vec<u8>) {
+        self.steady_world_with(0)
+    }
+
+    /// The same, always locked.
+    pub fn locked_world(&mut self) -> (Machine, Vec<u8>) {
+        self.steady_world_with(1)
+    }
+
+    /// The same with these options and others.
+    fn steady_world_with(&mut self, options: u64) -> (Machine, Vec<u8>) {
         let k = self.pick(&[7, 8, 9, 10, 11, 11, 12, 12]); // half of 128 to 4,096 bytes each
-        let (mut machine, mut memory) = self.steady_world_of(k);
+        let (mut machine, mut memory) = self.steady_world_of(k, options);
         self.give_offsets(&mut machine, &mut memory);
         (machine, memory)
     }
 
     /// Puts offsets inside region 1 into registers that a run leaves alone,
     /// and lets most h-words of the lower half use them, so that runs go on;
-    /// a longer memory often has a region past what an immediate reaches.
-    pub fn give_offsets(&mut self, machine: &mut Machine, memory: &mut [u8]) {
+    /// a longer memory often has a region past what an immediate reaches, and
+    /// where that must not have code, more bytes for it.
+    pub fn give_offsets(&mut self, machine: &mut Machine, memory: &mut Vec<u8>) {
         let half = memory.len() as u64 / 2;
-        if half > 2_000 && self.once_in(2) {
+        if half > 2_000 && !self.once_in(5) {
             let permission = self.pick(&[3, 3, 3, 3, 1, 2]);
             machine.regions[0] = Region { base: self.below(64), bound: half + self.below(half), permission };
+            if locked_code_is_writable(machine) && !self.once_in(8) {
+                machine.regions[0].base += half;
+                memory.extend((0..half).map(|_| self.next() as u8));
+            }
         }
         let region = machine.regions[0];
         let end = region.bound.min((memory.len() as u64).saturating_sub(region.base)); // of what is in memory
@@ -295,7 +323,7 @@ impl Supply {
         machine.x[OFFSETS[0] as usize] = self.below(last).max(24);
         machine.x[OFFSETS[1] as usize] = (last - self.below(last.min(128))).max(24);
         machine.x[OFFSETS[2] as usize] = self.edge();
-        for at in (0..memory.len() / 8).map(|n| 4 * n) {
+        for at in (0..half as usize / 4).map(|n| 4 * n) {
             let word = u32::from_le_bytes(memory[at..at + 4].try_into().unwrap());
             let (register, immediate) = match self.below(48) {
                 0 => continue,
@@ -438,6 +466,7 @@ impl Supply {
         let (value, offset, region) = self.aimed_offset(aim, size, wanted);
         machine.regions[0] = region;
         machine.set(rs1, value);
+        self.unrefused(&mut machine);
         let word = match n {
             0..=6 => Instruction::HLoad { kind: LOAD_TABLE[n].0, rd: other, rs1, offset },
             _ => Instruction::HStore { kind: STORE_TABLE[n - 7].0, rs1, rs2: other, offset },
@@ -447,16 +476,28 @@ impl Supply {
         machine
     }
 
+    /// A machine that 4 would refuse has the word at its pc for code, or where
+    /// that is writable too, no lock.
+    pub fn unrefused(&self, machine: &mut Machine) {
+        if self.parts && locked_code_is_writable(machine) {
+            machine.regions[2] = Region { base: machine.pc, bound: ALL << 2, permission: 4 };
+        }
+        if self.parts && locked_code_is_writable(machine) {
+            machine.options -= 1;
+        }
+    }
+
     /// The same through any region, good or broken, with or without the
     /// permission.
     pub fn h_word_of_any_region(&mut self, memory: &mut [u8]) -> Machine {
         let (aim, n) = (self.pick(&AIMS), self.below(11) as usize);
         let mut machine = self.aimed_h_word(aim, n, memory);
         machine.regions[0] = self.explicit_region(memory.len());
+        self.part_if_locked(&mut machine);
         machine
     }
 
-    fn steady_world_of(&mut self, k: u64) -> (Machine, Vec<u8>) {
+    fn steady_world_of(&mut self, k: u64, options: u64) -> (Machine, Vec<u8>) {
         let half = 1usize << k;
         let length = 2 * half - if self.once_in(8) { self.below(16) as usize } else { 0 };
         let mut memory: Vec<u8> = (0..length).map(|_| self.next() as u8).collect();
@@ -471,7 +512,7 @@ impl Supply {
         }
         let mut machine = self.well_formed_machine(length);
         machine.mode = 1;
-        machine.options = self.below(16) | if self.once_in(2) { 1 } else { 0 };
+        machine.options = self.below(16) | if self.once_in(2) { 1 } else { 0 } | options;
         machine.regions[2] = Region { base: 0, bound: ALL << k, permission: 4 };
         let inner = k - self.below(2);
         let base = half as u64 + if inner < k && self.once_in(2) { 1 << inner } else { 0 };
@@ -482,6 +523,9 @@ impl Supply {
             let start = if self.once_in(2) { half as u64 } else { 0 };
             let base = start + self.below(half as u64);
             machine.regions[0] = Region { base, bound: 8 + self.below(half as u64), permission };
+        }
+        if self.parts && locked_code_is_writable(&machine) && !self.once_in(12) {
+            self.part_above(&mut machine, half as u64);
         }
         for pointer in [1, 2, 8] {
             machine.x[pointer] = base + self.below(1 << inner);
@@ -501,7 +545,11 @@ impl Supply {
     /// where the inner part of a block begins, x27 a region's number, x28 a
     /// handler. Twice 2^k bytes, now and then a few fewer.
     pub fn crossing_world(&mut self, k: u64) -> (Machine, Vec<u8>) {
-        let (mut machine, mut memory) = self.steady_world_of(k);
+        let (mut machine, mut memory) = self.steady_world_of(k, 0);
+        // An enter that locks gets 22 where code is writable.
+        if self.parts && code_is_writable(&machine) && self.once_in(2) {
+            self.part_above(&mut machine, 1 << k);
+        }
         let blocks = (1u64 << k) / 64;
         for place in 0..16 * blocks {
             let instruction = match place % 16 {
@@ -613,9 +661,54 @@ impl Supply {
             machine.x[6] = self.below(64) * 4 + if self.once_in(2) { self.below(4) } else { 0 };
             machine.options &= self.pick(&[14, 14, 14, 15]);
         }
+        self.part_if_locked(&mut machine);
         let at = machine.pc as usize;
         memory[at..at + 4].copy_from_slice(&word.to_le_bytes());
         machine
+    }
+
+    /// Takes most machines that 4 would refuse to others: unlocked ones, or
+    /// such that nothing writable is code.
+    fn part_if_locked(&mut self, machine: &mut Machine) {
+        if !self.parts || !locked_code_is_writable(machine) || self.once_in(8) {
+            return;
+        }
+        if self.once_in(2) {
+            machine.options -= 1;
+        } else {
+            self.part(machine);
+        }
+    }
+
+    /// Moves each writable region that has code to one side of it, or takes the
+    /// write permission away.
+    pub fn part(&mut self, machine: &mut Machine) {
+        let code = executable_intervals(machine);
+        let meets = |own: Interval| code.iter().find(|other| own.meet(**other).is_some()).copied();
+        for number in 1..=REGIONS {
+            let (kind, region) = (region_kind(number), machine.regions[number - 1]);
+            let Some(own) = extent(kind, &region) else { continue };
+            if kind == RegionKind::ImplicitCode || !bit(region.permission, WRITE) {
+                continue;
+            }
+            let Some(other) = meets(own) else { continue };
+            let base = self.pick(&[other.end, other.start.saturating_sub(own.end - own.start)]) as u64;
+            let moved = Region { base, ..region };
+            let apart = extent(kind, &moved).is_some_and(|own| meets(own).is_none());
+            let barred = Region { permission: region.permission & !(1 << WRITE), ..region };
+            machine.regions[number - 1] = if apart && !self.once_in(3) { moved } else { barred };
+        }
+    }
+
+    /// Code being the first `half` bytes: region 1 goes as far above, or is
+    /// parted otherwise.
+    fn part_above(&mut self, machine: &mut Machine, half: u64) {
+        if machine.regions[0].base < half {
+            machine.regions[0].base += half;
+        }
+        if code_is_writable(machine) {
+            self.part(machine);
+        }
     }
 
     /// A machine with any numbers in its fields, well formed more often than
@@ -747,6 +840,7 @@ impl Supply {
         machine.regions[2] = self.implicit_region(length, permission);
         machine.mode = if self.once_in(4) { 0 } else { 1 };
         machine.options = self.below(16);
+        self.part_if_locked(&mut machine);
         machine.reason = self.below(3);
         machine.exit_pc = self.edge();
         machine.handler = self.edge() & 0x3fff_ffff_ffff_fffc;
@@ -869,6 +963,9 @@ impl Supply {
             let mut machine = self.machine(length);
             machine.mode = 1;
             machine.options |= 1;
+            if !self.once_in(16) {
+                self.part(&mut machine);
+            }
             if crate::machine::well_formed(&machine) {
                 return machine;
             }
@@ -897,11 +994,10 @@ impl Supply {
         }
     }
 
-    /// A valid sheet.
-    pub fn valid_sheet(&mut self) -> Vec<u8> {
-        let span = self.pick(&[64usize, 256, 256, 4096]);
+    /// The machine that a valid sheet of up to `span` bytes of words sets up.
+    fn sheet_machine(&mut self, span: usize, steady: bool) -> Machine {
         let mut machine = self.machine(span);
-        let steady = !self.once_in(4);
+        machine.mode = 1;
         if !self.once_in(16) {
             machine.regions[2] = Region { base: 0, bound: ALL << 12, permission: 4 };
             machine.pc = if steady { 0 } else { self.below(span as u64 / 8) * 4 };
@@ -914,7 +1010,27 @@ impl Supply {
                 machine.regions[1] = Region { base: 0, bound: ALL << k, permission: self.pick(&[1, 3, 3]) };
             }
         }
+        if !locked_code_is_writable(&machine) || self.once_in(8) {
+            return machine;
+        }
+        if steady && span < SHEET_DATA as usize {
+            // Code below 400, ordinary data 400 to 7ff, the explicit region above.
+            machine.regions[2] = Region { base: 0, bound: ALL << 10, permission: 4 };
+            machine.regions[1] = Region { base: SHEET_DATA, bound: ALL << 10, permission: 3 };
+            machine.regions[0].base += 2 * SHEET_DATA;
+        } else {
+            self.part(&mut machine);
+        }
+        machine
+    }
+
+    /// A valid sheet.
+    pub fn valid_sheet(&mut self) -> Vec<u8> {
+        let span = self.pick(&[64usize, 256, 256, 4096]);
+        let steady = !self.once_in(4);
+        let mut machine = self.sheet_machine(span, steady);
         machine.options &= 0xff;
+        let (first, room) = if machine.regions[1].base == SHEET_DATA { (SHEET_DATA + 48, SHEET_DATA - 96) } else { (48, 1900) };
         let mut fields = vec![machine.pc, machine.options, machine.handler];
         for region in &machine.regions {
             fields.extend([region.base, region.bound, region.permission & 0xff]);
@@ -940,7 +1056,7 @@ impl Supply {
         let lines = if self.once_in(8) { self.below(span as u64 / 4) } else { span as u64 / 4 };
         for line in 0..lines {
             let word = if steady && line < 4 {
-                let (rd, value) = ([1, 2, 8, 3][line as usize], if line == 3 { 0 } else { 48 + self.below(1900) as i64 });
+                let (rd, value) = ([1, 2, 8, 3][line as usize], if line == 3 { 0 } else { (first + self.below(room)) as i64 });
                 encode(&Instruction::Immediate { kind: ImmediateKind::Addi, rd, rs1: 0, value }).expect("in range")
             } else if steady && line == 4 {
                 encode(&Instruction::Upper { kind: UpperKind::Lui, rd: OFFSETS[0], field: 1 }).expect("in range")

@@ -116,7 +116,10 @@ fn holds_of_the_oracle() {
     let mut counts = Counts::default();
     rounds(&Oracle, &Oracle, 77, 40, &mut counts);
     assert!(counts.differences.is_empty(), "{:?}", counts.differences);
-    assert!(counts.isolation_steps > 1000 && counts.isolation_differing > 50);
+    assert!(counts.isolation_steps > 1000 && counts.isolation_differing > 50 && counts.isolation_inside > 50);
+    // Runs that store, few that are refused with 4.
+    let refused = counts.isolation_stops[&4];
+    assert!(counts.isolation_stored > 50 && refused > 0 && refused * 10 < 8 * 40, "{:?}", counts.isolation_stops);
 }
 
 /// The fewest rounds that ask for it meet every class of h-words, whatever the seed.
@@ -183,8 +186,7 @@ fn caught(effect: fn(&mut Machine, &mut [u8])) -> bool {
     let mut counts = Counts::default();
     let mut supply = Supply::new(9);
     for _ in 0..50 {
-        let (mut machine, one) = supply.steady_world();
-        machine.options |= 1;
+        let (machine, one) = supply.locked_world();
         let two = supply.twin(&machine, &one);
         isolation(&Leaky(effect), &machine, &one, &two, 100, &mut counts);
     }
@@ -198,4 +200,67 @@ fn leaks_are_caught() {
     assert!(caught(|machine, memory| machine.fault.address = memory.iter().map(|b| *b as u64).sum()));
     assert!(caught(|_, memory| memory[0] ^= 1));
     assert!(caught(|_, memory| memory[1] = memory[memory.len() - 1]));
+}
+
+/// The oracle, which does not ask 4: a locked run is made as an unlocked one.
+struct Unasked;
+
+impl Engine for Unasked {
+    fn title(&self) -> String {
+        "unasked".to_string()
+    }
+    fn decode_encode(&self, _word: u32) -> Option<(u64, u32)> {
+        None
+    }
+    fn step(&self, _machine: &mut Machine, _memory: &mut [u8]) -> Option<(u64, u64)> {
+        None
+    }
+    fn run(&self, machine: &mut Machine, memory: &mut [u8], budget: u64) -> Option<(u64, u64, u64)> {
+        machine.options -= 1;
+        let answer = oracle::run(machine, memory, budget);
+        machine.options += 1;
+        Some(answer)
+    }
+    fn resume(&self, _machine: &mut Machine, _value: u64) -> Option<u64> {
+        None
+    }
+    fn respond(&self, _sheet: &[u8]) -> Option<Vec<u8>> {
+        None
+    }
+}
+
+/// A guest that stores into its own code is told by the executable bytes alone: they are writable, and the two memories
+/// agree on them before and after.
+#[test]
+fn stored_code_is_caught() {
+    let world = |permission: u64, word: u32| {
+        let mut machine = Machine { mode: 1, options: 1, ..Machine::default() };
+        machine.regions[0] = oracle::Region { base: 0, bound: 16, permission };
+        machine.regions[2] = oracle::Region { base: 0, bound: !15, permission: 4 };
+        let mut bytes = vec![0; 64];
+        bytes[..4].copy_from_slice(&word.to_le_bytes());
+        (machine, bytes)
+    };
+    // hsb x0 at 0, its own first byte; h-load of it
+    for (permission, word, told) in [(3, 0x0000_002b, true), (2, 0x0000_002b, true), (1, 0x0000_000b, false)] {
+        let (machine, one) = world(permission, word);
+        let two = Supply::new(3).twin(&machine, &one);
+        let mut counts = Counts::default();
+        isolation(&Unasked, &machine, &one, &two, 1, &mut counts);
+        assert_eq!(counts.differences.iter().any(|text| text.contains("executable and changed")), told, "{:?}", counts.differences);
+        let mut counts = Counts::default();
+        isolation(&Oracle, &machine, &one, &two, 1, &mut counts);
+        assert!(counts.differences.is_empty());
+        assert_eq!(counts.isolation_stops.contains_key(&4), told);
+    }
+}
+
+/// A run that would leave writable code in locked HFI mode is told.
+#[test]
+fn widened_regions_are_caught() {
+    assert!(caught(|machine, _| {
+        if machine.mode == 1 {
+            machine.regions[1] = oracle::Region { base: 0, bound: !0xfff, permission: 3 };
+        }
+    }));
 }

@@ -1,7 +1,7 @@
 -- Document 02, Job 5, "Refused: 4 .. 22 ..": which machines a step or run refuses with 4, and which words stop with 22, both ways and in the
 -- document's words; and that 4 cannot arise inside a run that began without it.
 -- Assumes nothing.
-use mathlib.Core.Path.{_≡_, refl, sym, _∙_}
+use mathlib.Core.Path.{_≡_, refl}
 use mathlib.Core.Bool.{Bool, true, false, cond, false≢true}
 use mathlib.Core.List.{List}
 use Prim.Native.Nat.{ℕ, _%_, _≤_}

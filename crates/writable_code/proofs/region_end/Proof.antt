@@ -1,5 +1,5 @@
-use mathlib.Core.Path.{_≡_, sym, ap, _∙_}
-use Prim.Native.Nat.{ℕ, _+_, _^_, _<_, _≤_}
+use mathlib.Core.Path.{_∙_}
+use Prim.Native.Nat.{_<_}
 use native.Mathlib.Omega.{arith}
 use Rattle.words.proofs.Shifts.{one-shl}
 use Rattle.model.proofs.Intervals.{implicit-kept, explicit-ends}
