@@ -11,6 +11,7 @@ use lib.ListN.{length}
 use Rattle.words.specs.Word.{sext}
 use Rattle.words.specs.Integer.{lowHalf, highHalf, quotient, remainder}
 use Rattle.instructions.specs.Decode.{decodeWord}
+use Rattle.model.specs.Machine.{sum, setReg, machine}
 use Rattle.model.specs.Bytes.{value, written}
 use Rattle.model.specs.Outcome.{stopped, allowed, aligned, settle}
 use Rattle.model.specs.WellFormed.{stateFits, wellFormed}
@@ -40,19 +41,19 @@ exit = 0x0400005b
 abbrev select : ℕ
 select = 0x0602805b
 
-abbrev setBase : ℕ
+abbrev pub setBase : ℕ
 setBase = 0x0802805b
 
 abbrev getBase : ℕ
 getBase = 0x0a00035b
 
-abbrev setBound : ℕ
+abbrev pub setBound : ℕ
 setBound = 0x0c02805b
 
 abbrev getBound : ℕ
 getBound = 0x0e00035b
 
-abbrev setPermission : ℕ
+abbrev pub setPermission : ℕ
 setPermission = 0x1002805b
 
 abbrev getPermission : ℕ
@@ -97,10 +98,10 @@ hsb = 0x0060002b
 abbrev hld : ℕ
 hld = 0x0000330b
 
-abbrev ld : ℕ
+abbrev pub ld : ℕ
 ld = 0x0002b303
 
-abbrev sd : ℕ
+abbrev pub sd : ℕ
 sd = 0x0062b023
 
 abbrev hlb5 : ℕ
@@ -151,7 +152,7 @@ abbrev faults : List (ℕ × ℕ) → ℕ → ℕ → ℕ → Row
 faults start w kind at = steps start w 16 ((occurred, 1) ∷ (faultRegion, 1) ∷ (op, kind) ∷ (faulting, at) ∷ [])
 
 -- a step that changes the memory too
-abbrev writes : List (ℕ × ℕ) → List ℕ → List (ℕ × ℕ) → List (ℕ × ℕ) → Row
+abbrev pub writes : List (ℕ × ℕ) → List ℕ → List (ℕ × ℕ) → List (ℕ × ℕ) → Row
 writes start mem changes written = (stepping (with start) mem, gave 0 0 0 (with (start ++ changes)) (puts mem written))
 
 -- a run over words: its budget, stop, count and address, and the places that it changes
@@ -422,6 +423,11 @@ absent =
     -- a load into x0 asks as any other: hlb x0, 8(x0) and hlb x0, 0(x0)
     ∷ stepsOver (inside 0) (bytes (0x0080000b ∷ [])) 16 0 ((occurred, 1) ∷ (faultRegion, 1) ∷ (op, 1) ∷ (faulting, 0x18) ∷ [])
     ∷ stepsOver (inside 0) (bytes (0x0000000b ∷ [])) 17 0x10 []
+    -- "all others give 0 there", at a pc that is not 0: 13, 14, 15, and 16 by hlb x0, 8(x0)
+    ∷ runs (outside 0) (seven ∷ 0 ∷ []) 9 13 1 0 ((pc, 4) ∷ (x 7, 7) ∷ [])
+    ∷ runs (outside 0) (seven ∷ exit ∷ []) 9 14 1 0 ((pc, 4) ∷ (x 7, 7) ∷ [])
+    ∷ runs (outside 0) (seven ∷ jal ∷ []) 9 15 1 0 ((pc, 4) ∷ (x 7, 7) ∷ [])
+    ∷ runs (inside 0) (seven ∷ 0x0080000b ∷ []) 9 16 1 0 ((pc, 4) ∷ (x 7, 7) ∷ (occurred, 1) ∷ (faultRegion, 1) ∷ (op, 1) ∷ (faulting, 0x18) ∷ [])
     -- every byte is asked for its region before any for memory's end
     ∷ stepsOver (inside 0 ++ operands 0x7c 0) (bytes (ld ∷ [])) 16 0 ((occurred, 1) ∷ (faultRegion, 0) ∷ (op, 1) ∷ (faulting, 0x80) ∷ [])
     ∷ []
@@ -493,6 +499,9 @@ forming =
     ∷ steps (outside 16) seven 3 []
     ∷ runs (outside 16) (seven ∷ []) 1 3 0 0 []
     ∷ resumes (outside 16) 7 3 []
+    ∷ steps (outside 0 ++ ((x 0, 1) ∷ [])) seven 3 []
+    ∷ runs (outside 0 ++ ((x 0, 1) ∷ [])) (seven ∷ []) 1 3 0 0 []
+    ∷ resumes (outside 0 ++ ((x 0, 1) ∷ [])) 7 3 []
     ∷ []
 
 abbrev pub rows : List Row
@@ -501,6 +510,17 @@ rows = entering ++ leaving ++ locking ++ keeping ++ running-on ++ asking ++ oper
 pub clauses : found rows ≡ stated rows
 unfolding entering leaving locking keeping running-on asking operating offsets absent going-on forming trailingZeros sext lowHalf highHalf quotient remainder decodeWord matches explicitRule firstMatch implicitGrants explicitGrants explicitCovers writableCode exposesCode scan firstRefused firstAbsent verdict value written allowed aligned settle stateFits wellFormed hfiStop hWordStop hfiPerform load store jump branch perform executeWord step stepCall resumeCall runBy runCall
 clauses = refl
+
+-- ---- resuming, of every machine: "it asks question 3 only"
+
+module _ (m : Machine) (v : ℕ) where
+  pub resumed : wellFormed m ≡ true → resumeCall m v ≡ record { stop = 0; address = 0; machine = machine (setReg (m .x) 10 v) (sum (m .pc) 4) (m .hfi) }
+  unfolding resumeCall
+  resumed w = rw w refl
+
+  pub not-resumed : wellFormed m ≡ false → resumeCall m v ≡ record { stop = 3; address = 0; machine = m }
+  unfolding resumeCall
+  not-resumed w = rw w refl
 
 -- ---- "Is memory no longer than 16,777,216?" of memories that are too long to write down
 

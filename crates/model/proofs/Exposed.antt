@@ -13,7 +13,7 @@ use Rattle.instructions.specs.declared.kind.HfiKind.{HfiKind}
 use Rattle.instructions.specs.declared.kind.HfiKind.the-variants.{Enter, EnterJump, Exit, SelectRegion, SetBase, GetBase, SetBound, GetBound, SetPermission, GetPermission, SetHandler, GetHandler, ResetRegions}
 use Rattle.instructions.specs.declared.instruction.Instruction.the-variants.{Hfi}
 use Rattle.instructions.proofs.Tests.{and-both}
-use Rattle.model.specs.Machine.{bit, reg, inside, locked, entered}
+use Rattle.model.specs.Machine.{bit, reg, largestOptions, inside, locked, entered}
 use Rattle.model.specs.WellFormed.{wellFormed}
 use Rattle.model.specs.WritableCode.{WritableCode, writableCode, exposesCode}
 use Rattle.model.specs.Outcome.{Outcome, stopped, allowed, aligned}
@@ -105,11 +105,11 @@ pub data Enters : HfiKind → Type 0 where
   plain : Enters Enter
   jump : Enters EnterJump
 
--- a is the options operand: it locks, and the regions as they are have such a byte
+-- a is the options operand: neither the mode nor the operand forbids the word, the operand locks, and the regions as they are have such a byte
 pub record Begins (h : HfiState) (k : HfiKind) (a : ℕ) : Type 0 where
   pub enters : Enters k
-  pub outside : modeForbids h k ≡ false
-  pub good : operandForbids h k a ≡ false
+  pub outside : inside h ≡ false
+  pub good : a ≤ largestOptions
   pub locks : bit 0 a ≡ true
   pub code : WritableCode (h .regions)
 
@@ -123,40 +123,45 @@ exposed-begins h a t = let p = and-both (bit 0 a) (writableCode (h .regions)) t 
 
 pub enter-refused : (h : HfiState) (k : HfiKind) (a : ℕ) → Begins h k a → hfiStop h k a ≡ 22
 unfolding hfiStop
-enter-refused h k a b = rw (b .outside, b .good, go k (b .enters)) refl
+enter-refused h k a b = go k (b .enters)
   where
-    go : (k : HfiKind) → Enters k → lockForbids h k a ≡ true
-    go Enter e = begins-exposed h a (b .locks) (b .code)
-    go EnterJump e = begins-exposed h a (b .locks) (b .code)
+    asked : {n p q : Bool} → n ≡ false → p ≡ false → q ≡ true → _≡_ {A = ℕ} (cond n 14 (cond p 14 (cond q 22 0))) 22
+    asked e f g = rw (e, f, g) refl
+
+    go : (k : HfiKind) → Enters k → hfiStop h k a ≡ 22
+    go Enter e = asked (b .outside) (le-ltb _ _ (b .good)) (begins-exposed h a (b .locks) (b .code))
+    go EnterJump e = asked (b .outside) (le-ltb _ _ (b .good)) (begins-exposed h a (b .locks) (b .code))
 
 pub only-enter : (h : HfiState) (k : HfiKind) (a : ℕ) → hfiStop h k a ≡ 22 → Begins h k a
 unfolding hfiStop
 only-enter h k a q = go (modeForbids h k) (operandForbids h k a) (lockForbids h k a) refl refl refl q
   where
-    which : (k : HfiKind) → lockForbids h k a ≡ true → Enters k × (exposesCode (entered h a) ≡ true)
-    which Enter e = (Enters.plain, e)
-    which EnterJump e = (Enters.jump, e)
-    which Exit e = absurd (false≢true e)
-    which SelectRegion e = absurd (false≢true e)
-    which SetBase e = absurd (false≢true e)
-    which GetBase e = absurd (false≢true e)
-    which SetBound e = absurd (false≢true e)
-    which GetBound e = absurd (false≢true e)
-    which SetPermission e = absurd (false≢true e)
-    which GetPermission e = absurd (false≢true e)
-    which SetHandler e = absurd (false≢true e)
-    which GetHandler e = absurd (false≢true e)
-    which ResetRegions e = absurd (false≢true e)
+    begins : {k : HfiKind} → Enters k → inside h ≡ false → ltb largestOptions a ≡ false → exposesCode (entered h a) ≡ true → Begins h k a
+    begins t n o l =
+        let p = exposed-begins h a l in
+        record { enters = t; outside = n; good = ltb-false _ _ o; locks = p .0; code = p .1 }
+
+    which : (k : HfiKind) → modeForbids h k ≡ false → operandForbids h k a ≡ false → lockForbids h k a ≡ true → Begins h k a
+    which Enter n o l = begins Enters.plain n o l
+    which EnterJump n o l = begins Enters.jump n o l
+    which Exit n o l = absurd (false≢true l)
+    which SelectRegion n o l = absurd (false≢true l)
+    which SetBase n o l = absurd (false≢true l)
+    which GetBase n o l = absurd (false≢true l)
+    which SetBound n o l = absurd (false≢true l)
+    which GetBound n o l = absurd (false≢true l)
+    which SetPermission n o l = absurd (false≢true l)
+    which GetPermission n o l = absurd (false≢true l)
+    which SetHandler n o l = absurd (false≢true l)
+    which GetHandler n o l = absurd (false≢true l)
+    which ResetRegions n o l = absurd (false≢true l)
 
     go : (b c d : Bool) → modeForbids h k ≡ b → operandForbids h k a ≡ c → lockForbids h k a ≡ d
         → _≡_ {A = ℕ} (cond b 14 (cond c 14 (cond d 22 0))) 22 → Begins h k a
     go true c d m o l e = absurd (omega (arith, e))
     go false true d m o l e = absurd (omega (arith, e))
     go false false false m o l e = absurd (omega (arith, e))
-    go false false true m o l e =
-        let w = which k l in
-        let p = exposed-begins h a (w .1) in
-        record { enters = w .0; outside = m; good = o; locks = p .0; code = p .1 }
+    go false false true m o l e = which k m o l
 
 -- of the whole word: before 15, since rs2 may be anything; and "22 what 14 leaves"
 module _ (m : Machine) (mem : List ℕ) (next : ℕ) (k : HfiKind) (rd rs1 rs2 : ℕ) where

@@ -23,10 +23,10 @@ use Rattle.instructions.specs.declared.instruction.Decoded.{Decoded}
 use Rattle.instructions.specs.declared.instruction.Decoded.the-variants.{Legal, Illegal}
 use Rattle.instructions.proofs.RoundTrip.{decoded-range}
 use Rattle.instructions.proofs.Tests.{and-both}
-use Rattle.model.specs.Machine.{reg, setReg, loadOp, storeOp, fetchOp, largestOptions, inside, locked, redirectsCalls, region, zeroRegions, entered, exited, machine, lastRegion}
+use Rattle.model.specs.Machine.{reg, setReg, bit, loadOp, storeOp, fetchOp, largestOptions, inside, locked, redirectsCalls, region, zeroRegions, entered, exited, machine, lastRegion}
 use Rattle.model.specs.Regions.{dataRegions, codeRegions, permissionFits, matches, firstMatch}
 use Rattle.model.specs.WellFormed.{wellFormed}
-use Rattle.model.specs.WritableCode.{exposesCode}
+use Rattle.model.specs.WritableCode.{writableCode, exposesCode}
 use Rattle.model.specs.Bytes.{value, written}
 use Rattle.model.specs.Access.{Access, verdict, fetchAccess, loadAccess, storeAccess, hloadAccess, hstoreAccess}
 use Rattle.model.specs.Reach.{Passes, Readable, Writable}
@@ -70,9 +70,20 @@ pub record Kept (m k : Machine) : Type 0 where
 
 -- ---- the answer of a step
 
--- a completed step gives no address; 1 to 4 are the calls' own numbers, and 20 and 21 the run's
-abbrev pub proper : ℕ → ℕ → Bool
-proper stop at = (not (eqb stop 0) || eqb at 0) && (not (leb 1 stop && leb stop 4) && (not (eqb stop 20) && not (eqb stop 21)))
+-- a step's numbers: 1 to 4 are the calls' own, and 20 and 21 the run's
+abbrev pub isStop : ℕ → Bool
+isStop stop = eqb stop 0 || ((leb 10 stop && leb stop 19) || eqb stop 22)
+
+-- "12 and 17 also give the first absent address .. all others give 0 there"
+abbrev pub isAddress : ℕ → ℕ → Bool
+isAddress stop at = eqb stop 12 || (eqb stop 17 || eqb at 0)
+
+-- 22 is met outside HFI mode alone, and where a byte is both writable and executable
+abbrev pub isLocking : HfiState → ℕ → Bool
+isLocking h stop = not (eqb stop 22) || (not (inside h) && writableCode (h .regions))
+
+abbrev pub proper : HfiState → ℕ → ℕ → Bool
+proper h stop at = isStop stop && (isAddress stop at && isLocking h stop)
 
 -- ---- what an instruction does, whatever memory it is done over
 
@@ -89,7 +100,7 @@ abbrev pub Writes : Machine → Access → Type 0
 Writes m a = Reaches a (Writable (m .hfi .regions))
 
 pub data Move (m : Machine) : Type 0 where
-  quiet : (stop at : ℕ) (k : Machine) → proper stop at ≡ true → Kept m k → Move m
+  quiet : (stop at : ℕ) (k : Machine) → proper (m .hfi) stop at ≡ true → Kept m k → Move m
   loads : (next : ℕ) (a : Access) (k : LoadKind) (rd : ℕ) → Reads m a → Move m
   stores : (next : ℕ) (a : Access) (v : ℕ) → Writes m a → Move m
 
@@ -167,7 +178,7 @@ module _ (m : Machine) where
 
   -- ---- the moves that there are
 
-  stop : (n : ℕ) → proper n 0 ≡ true → Moves m (λ mem. outcome n 0 m mem)
+  stop : (n : ℕ) → proper (m .hfi) n 0 ≡ true → Moves m (λ mem. outcome n 0 m mem)
   stop n p = record { move = Move.quiet n 0 m p same-kept; same = λ mem. refl }
 
   onward : (x : List ℕ) (pc : ℕ) → (reg (m .x) 0 ≡ 0 → reg x 0 ≡ 0) → Moves m (λ mem. outcome 0 0 (machine x pc (m .hfi)) mem)
@@ -180,7 +191,7 @@ module _ (m : Machine) where
   by-test true p q = let t = p refl in record { move = t .move; same = t .same }
   by-test false p q = let t = q refl in record { move = t .move; same = t .same }
 
-  allows : (n : ℕ) {f : List ℕ → Outcome} → proper n 0 ≡ true → (eqb n 0 ≡ true → Moves m f) → Moves m (λ mem. allowed m mem n (f mem))
+  allows : (n : ℕ) {f : List ℕ → Outcome} → proper (m .hfi) n 0 ≡ true → (eqb n 0 ≡ true → Moves m f) → Moves m (λ mem. allowed m mem n (f mem))
   unfolding allowed
   allows n p q = by-test (eqb n 0) q (λ e. stop n p)
 
@@ -203,22 +214,40 @@ permitted h k a e = go (modeForbids h k) (operandForbids h k a) (lockForbids h k
     go false false true p q r f g h e = absurd (h (eqb-true r 0 e))
     go false false false p q r f g h e = (refl, refl, refl)
 
--- and the number is none of the run's own, nor of the calls'
-stop-proper : (h : HfiState) (k : HfiKind) (a : ℕ) → proper (hfiStop h k a) 0 ≡ true
-unfolding hfiStop
-stop-proper h k a = go (modeForbids h k) (operandForbids h k a) (lockForbids h k a) _ _ _ refl refl refl
-  where
-    go : (b c d : Bool) (p q r : ℕ) → proper p 0 ≡ true → proper q 0 ≡ true → proper r 0 ≡ true → proper (cond b p (cond c q (cond d r 0))) 0 ≡ true
-    go true c d p q r f g h = f
-    go false true d p q r f g h = g
-    go false false true p q r f g h = h
-    go false false false p q r f g h = refl
+-- a word that would begin a lock over writable code is an enter outside HFI mode, and the regions have the byte
+locks-outside : (h : HfiState) (k : HfiKind) (a : ℕ) → modeForbids h k ≡ false → lockForbids h k a ≡ true → (not (inside h) && writableCode (h .regions)) ≡ true
+unfolding exposesCode
+locks-outside h Enter a n l = rw n (and-both (bit 0 a) (writableCode (h .regions)) l .1)
+locks-outside h EnterJump a n l = rw n (and-both (bit 0 a) (writableCode (h .regions)) l .1)
+locks-outside h Exit a n l = absurd (clash refl l)
+locks-outside h SelectRegion a n l = absurd (clash refl l)
+locks-outside h SetBase a n l = absurd (clash refl l)
+locks-outside h GetBase a n l = absurd (clash refl l)
+locks-outside h SetBound a n l = absurd (clash refl l)
+locks-outside h GetBound a n l = absurd (clash refl l)
+locks-outside h SetPermission a n l = absurd (clash refl l)
+locks-outside h GetPermission a n l = absurd (clash refl l)
+locks-outside h SetHandler a n l = absurd (clash refl l)
+locks-outside h GetHandler a n l = absurd (clash refl l)
+locks-outside h ResetRegions a n l = absurd (clash refl l)
 
-h-word-proper : (h : HfiState) → proper (hWordStop h) 0 ≡ true
+-- and what forbids a word gives a step's number
+stop-proper : (h : HfiState) (k : HfiKind) (a : ℕ) → proper h (hfiStop h k a) 0 ≡ true
+unfolding hfiStop
+stop-proper h k a = go (modeForbids h k) (operandForbids h k a) (lockForbids h k a) _ _ _ refl refl refl refl (locks-outside h k a)
+  where
+    go : (b c d : Bool) (p q r : ℕ) → lockForbids h k a ≡ d → proper h p 0 ≡ true → proper h q 0 ≡ true → (isStop r && isAddress r 0) ≡ true
+        → (b ≡ false → lockForbids h k a ≡ true → isLocking h r ≡ true) → proper h (cond b p (cond c q (cond d r 0))) 0 ≡ true
+    go true c d p q r l f g s t = f
+    go false true d p q r l f g s t = g
+    go false false true p q r l f g s t = let u = and-both (isStop r) (isAddress r 0) s in rw (u .0, u .1) (t refl l)
+    go false false false p q r l f g s t = refl
+
+h-word-proper : (h : HfiState) → proper h (hWordStop h) 0 ≡ true
 unfolding hWordStop
 h-word-proper h = go (inside h) _ refl
   where
-    go : (b : Bool) (p : ℕ) → proper p 0 ≡ true → proper (cond b 0 p) 0 ≡ true
+    go : (b : Bool) (p : ℕ) → proper h p 0 ≡ true → proper h (cond b 0 p) 0 ≡ true
     go true p f = refl
     go false p f = f
 
@@ -376,7 +405,7 @@ pub record Stored (m : Machine) (before after : List ℕ) : Type 0 where
 -- what a step from m over a memory can do
 pub record Does (m : Machine) (mem : List ℕ) (o : Outcome) : Type 0 where
   pub kept : Kept m (o .result .machine)
-  pub stop : proper (o .result .stop) (o .result .address) ≡ true
+  pub stop : proper (m .hfi) (o .result .stop) (o .result .address) ≡ true
   pub memory : (o .memory ≡ mem) ⊎ Stored m mem (o .memory)
 
 -- the fault region of a verdict
@@ -395,7 +424,7 @@ faults mode length a h = go (ltb _ (a .count)) (ltb _ (a .count)) _ _ (a .faultR
     go false false x y r e = tt
 
 module _ (m : Machine) (mem : List ℕ) where
-  settles : (op refused absent : ℕ) (v : Verdict) (o : Outcome) → leb op fetchOp ≡ true → proper refused 0 ≡ true → ((at : ℕ) → proper absent at ≡ true)
+  settles : (op refused absent : ℕ) (v : Verdict) (o : Outcome) → leb op fetchOp ≡ true → proper (m .hfi) refused 0 ≡ true → ((at : ℕ) → proper (m .hfi) absent at ≡ true)
       → Faults v → (v ≡ Passed → Does m mem o) → Does m mem (settle m mem op refused absent v o)
   unfolding settle
   settles op refused absent (Refused at region) o l p q f d = record { kept = faulted-kept m op at region l f; stop = p; memory = inl refl }

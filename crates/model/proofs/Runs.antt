@@ -8,7 +8,7 @@ use Prim.Native.Nat.{ℕ, zero, suc, _+_, _-_, _<_, _≤_}
 use native.Mathlib.Omega.{arith}
 use lib.Dec.{eqb, leb, ltb, lit≤}
 use lib.ListN.{length, getD}
-use borrow.Author.Tests.{eqb-true, eq-eqb, ne-eqb, eqb-false, le-leb}
+use borrow.Author.Tests.{eqb-true, eq-eqb, ne-eqb, eqb-false, leb-true, not-true}
 use Rattle.instructions.proofs.Tests.{and-both}
 use Rattle.model.specs.Machine.{inside, locked}
 use Rattle.model.specs.WellFormed.{wellFormed}
@@ -21,8 +21,8 @@ use Rattle.model.specs.Isolation.{Locked}
 use Rattle.model.specs.declared.Machine.{Machine}
 use Rattle.model.proofs.Bytes.{length-written, written-other}
 use Rattle.model.proofs.Cleared.{passing}
-use Rattle.model.proofs.WritableCode.{not-both}
-use Rattle.model.proofs.Moves.{Settings, settings, Stored, clash, step-does}
+use Rattle.model.proofs.WritableCode.{either, not-both}
+use Rattle.model.proofs.Moves.{Settings, settings, Stored, clash, isStop, isAddress, isLocking, step-does}
 
 -- ---- for the loop
 
@@ -120,28 +120,54 @@ never-zero m mem budget =
     run-ind (inside (m .hfi)) (λ n k l mem e. e .result .stop ≡ 0 → ⊥) (λ k l mem e. omega (arith, e)) (λ n k l mem q. q)
     (λ n k l mem e. omega (arith, e)) (λ n k l mem e i h. h) budget 0 m mem)
 
--- a completed step gives no address, and 1 to 4 and 21 are no step's numbers
+-- what a step can answer: its number, its address, and where 22 is met
 module _ (m : Machine) (mem : List ℕ) where
-  proper-parts : ((not (eqb (step m mem .result .stop) 0) || eqb (step m mem .result .address) 0) ≡ true)
-      × (not (leb 1 (step m mem .result .stop) && leb (step m mem .result .stop) 4) ≡ true)
-      × ((not (eqb (step m mem .result .stop) 20) && not (eqb (step m mem .result .stop) 21)) ≡ true)
+  abbrev stop : ℕ
+  stop = step m mem .result .stop
+
+  proper-parts : (isStop stop ≡ true) × (isAddress stop (step m mem .result .address) ≡ true) × (isLocking (m .hfi) stop ≡ true)
   proper-parts =
-      let p = and-both (not (eqb (step m mem .result .stop) 0) || eqb (step m mem .result .address) 0) _ (step-does m mem .stop) in
-      let q = and-both (not (leb 1 (step m mem .result .stop) && leb (step m mem .result .stop) 4)) _ (p .1) in
+      let p = and-both (isStop stop) _ (step-does m mem .stop) in
+      let q = and-both (isAddress stop (step m mem .result .address)) (isLocking (m .hfi) stop) (p .1) in
       (p .0, q .0, q .1)
 
-  pub no-address : step m mem .result .stop ≡ 0 → step m mem .result .address ≡ 0
-  no-address e =
-      let z : eqb (step m mem .result .stop) 0 ≡ true = eq-eqb _ 0 e in
-      eqb-true _ 0 (rw z at (proper-parts .0))
+  pub step-number : (stop ≡ 0) ⊎ (((10 ≤ stop) × (stop ≤ 19)) ⊎ (stop ≡ 22))
+  step-number = first (either (eqb stop 0) _ (proper-parts .0))
+    where
+      second : ((leb 10 stop && leb stop 19) ≡ true) ⊎ (eqb stop 22 ≡ true) → (stop ≡ 0) ⊎ (((10 ≤ stop) × (stop ≤ 19)) ⊎ (stop ≡ 22))
+      second (inl t) = let u = and-both (leb 10 stop) (leb stop 19) t in inr (inl (leb-true 10 stop (u .0), leb-true stop 19 (u .1)))
+      second (inr t) = inr (inr (eqb-true stop 22 t))
 
-  pub step-not-refused : 1 ≤ step m mem .result .stop → step m mem .result .stop ≤ 4 → ⊥
-  step-not-refused l u =
-      let both : (leb 1 (step m mem .result .stop) && leb (step m mem .result .stop) 4) ≡ true = rw (le-leb 1 _ l) (le-leb _ 4 u) in
-      clash (ap not both) (proper-parts .1)
+      first : (eqb stop 0 ≡ true) ⊎ (((leb 10 stop && leb stop 19) || eqb stop 22) ≡ true) → (stop ≡ 0) ⊎ (((10 ≤ stop) × (stop ≤ 19)) ⊎ (stop ≡ 22))
+      first (inl t) = inl (eqb-true stop 0 t)
+      first (inr t) = second (either (leb 10 stop && leb stop 19) _ t)
 
-  not-spent : step m mem .result .stop ≡ 21 → ⊥
-  not-spent e = clash (ap not (eq-eqb _ 21 e)) (and-both (not (eqb (step m mem .result .stop) 20)) _ (proper-parts .2) .1)
+  -- "all others give 0 there"
+  pub step-address : (stop ≡ 12 → ⊥) → (stop ≡ 17 → ⊥) → step m mem .result .address ≡ 0
+  step-address p q = eqb-true _ 0 (rw (ne-eqb stop 12 p, ne-eqb stop 17 q) at (proper-parts .1))
+
+  pub step-locking : stop ≡ 22 → (inside (m .hfi) ≡ false) × (writableCode (m .hfi .regions) ≡ true)
+  step-locking e =
+      let t = and-both (not (inside (m .hfi))) (writableCode (m .hfi .regions)) (rw (eq-eqb stop 22 e) at (proper-parts .2)) in
+      (not-true (inside (m .hfi)) (t .0), t .1)
+
+  pub no-address : stop ≡ 0 → step m mem .result .address ≡ 0
+  no-address e = step-address (λ f. omega (arith, e, f)) (λ f. omega (arith, e, f))
+
+  -- so it is none of the calls' own numbers, nor the run's 21
+  among-its-own : {X : Type 0} → (stop ≡ 0 → X) → (10 ≤ stop → stop ≤ 19 → X) → (stop ≡ 22 → X) → X
+  among-its-own {X} f g h = go step-number
+    where
+      go : (stop ≡ 0) ⊎ (((10 ≤ stop) × (stop ≤ 19)) ⊎ (stop ≡ 22)) → X
+      go (inl e) = f e
+      go (inr (inl t)) = g (t .0) (t .1)
+      go (inr (inr e)) = h e
+
+  pub step-not-refused : 1 ≤ stop → stop ≤ 4 → ⊥
+  step-not-refused l u = among-its-own (λ e. omega (arith, e, l)) (λ a b. omega (arith, a, u)) (λ e. omega (arith, e, u))
+
+  not-spent : stop ≡ 21 → ⊥
+  not-spent q = among-its-own (λ e. omega (arith, e, q)) (λ a b. omega (arith, b, q)) (λ e. omega (arith, e, q))
 
 -- a run that is made answers none of the numbers by which a call is refused
 pub run-not-refused : (began : Bool) (n k : ℕ) (m : Machine) (mem : List ℕ) → 1 ≤ run began n k m mem .result .stop → run began n k m mem .result .stop ≤ 4 → ⊥
@@ -225,6 +251,11 @@ step-unwritten m mem b k n = go (step-does m mem .memory)
         ap (λ s. getD s b 0) (w .bytes)
         ∙ written-other (a .count) 0 mem (a .first) (w .stored) b
         (λ j p q e. n (subst (Writable (m .hfi .regions)) (sym e) (w .may .reach _ (passing (m .hfi .mode) (length mem) a (k .mode) (w .passed) j (omega arith)))))
+
+-- nor does a step of a locked machine that 4 does not refuse change a byte that may be executed, wherever in a run it is made
+pub step-executable : (m : Machine) (mem : List ℕ) (b : ℕ) → Locked m → exposesCode (m .hfi) ≡ false → Executable (m .hfi .regions) b → getD (step m mem .memory) b 0 ≡ getD mem b 0
+unfolding exposesCode
+step-executable m mem b k n x = step-unwritten m mem b k (not-both (m .hfi .regions) b (rw (is-locked m k) at n) x)
 
 -- a machine in HFI mode with the settings of a locked one is locked
 locked-too : (m l : Machine) → Locked m → settings l ≡ settings m → inside (l .hfi) ≡ true → Locked l

@@ -29,7 +29,7 @@ same-truth true c f g = sym (f refl)
 same-truth false true f g = g refl
 same-truth false false f g = refl
 
-either : (b c : Bool) → (b || c) ≡ true → (b ≡ true) ⊎ (c ≡ true)
+pub either : (b c : Bool) → (b || c) ≡ true → (b ≡ true) ⊎ (c ≡ true)
 either true c e = inl refl
 either false c e = inr e
 
@@ -306,3 +306,7 @@ pub not-both : (rs : List Region) (b : ℕ) → writableCode rs ≡ false → Ex
 not-both rs b n x w =
     false≢true
     (sym n ∙ code-tested rs (record { at = b; low = granted-low rs b (executable-form rs b x); writable = w; executable = x }))
+
+-- and where it holds, not every byte below 2^48 is only one of the two
+pub not-apart : (rs : List Region) → writableCode rs ≡ true → ((b : ℕ) → b < 2 ^ 48 → Writable rs b → Executable rs b → ⊥) → ⊥
+not-apart rs t n = let w = tested-code rs t in n (w .at) (w .low) (w .writable) (w .executable)

@@ -15,13 +15,13 @@ use Rattle.model.specs.Hfi.{hfiStop, hWordStop, hfiPerform}
 use Rattle.model.specs.Regions.{explicitRule, matches, firstMatch, implicitGrants, explicitGrants}
 use Rattle.model.specs.WritableCode.{explicitCovers, writableCode, exposesCode}
 use Rattle.model.specs.Access.{scan, firstRefused, firstAbsent, verdict}
-use Rattle.model.specs.Step.{perform, executeWord, step, stepCall, resumeCall}
+use Rattle.model.specs.Step.{load, store, perform, executeWord, step, stepCall, resumeCall}
 use Rattle.model.specs.Run.{runBy, runCall}
 use Rattle.model.specs.declared.Region.{Region}
-use Rattle.model.proofs.Rows.{Row, found, stated, x, pc, mode, options, base, bound, permission, occurred, regionOf}
+use Rattle.model.proofs.Rows.{Row, found, stated, x, pc, mode, options, selector, base, bound, permission, occurred, regionOf, bytes}
 use Rattle.model.proofs.Rows.Question.{exposing}
 use Rattle.model.proofs.Rows.Answer.{told}
-use Rattle.model.proofs.Clauses.{enter, enterJump, seven, outside, inside, operands, stepsOver, steps, goes, forbidden, runs, resumes}
+use Rattle.model.proofs.Clauses.{enter, enterJump, setBase, setBound, setPermission, seven, ld, sd, outside, inside, operands, stepsOver, steps, goes, forbidden, writes, runs, resumes}
 
 -- ---- the test, of regions 1 and 2 against the sixteen bytes from 100 on as region 3, and against others
 
@@ -59,6 +59,9 @@ exact =
     ∷ parts (regionOf 0x110 0x10 3) none code
     ∷ parts none (regionOf 0xf0 (2 ^ 64 - 0x10) 3) code
     ∷ parts none (regionOf 0x110 (2 ^ 64 - 0x10) 3) code
+    ∷ parts (regionOf 0 0x10000 0xb) none (regionOf 0x10000 (2 ^ 64 - 0x10) 4)
+    ∷ parts (regionOf 0x102 1 3) none (regionOf 0x103 (2 ^ 64 - 1) 4)
+    ∷ parts none (regionOf 0x102 (2 ^ 64 - 1) 3) (regionOf 0x103 (2 ^ 64 - 1) 4)
     -- "both writable and executable": a permission is missing
     ∷ parts (regionOf 0x100 0x10 1) none code
     ∷ parts none (regionOf 0x100 (2 ^ 64 - 0x10) 1) code
@@ -89,6 +92,10 @@ exact =
 abbrev writing : List (ℕ × ℕ)
 writing = (base 1, 0) ∷ (bound 1, 8) ∷ []
 
+-- region 2 then has the first 64, the code among them
+abbrev sharing : List (ℕ × ℕ)
+sharing = (base 2, 0) ∷ (permission 2, 3) ∷ []
+
 unfoldable pub asking : List Row
 asking =
     -- "4, for a step or run given such a machine in locked HFI mode": before its pc, its budget, its memory
@@ -98,7 +105,7 @@ asking =
     ∷ stepsOver (inside 1 ++ writing) [] 4 0 []
     ∷ runs (inside 1 ++ writing) (seven ∷ []) 1 4 0 0 []
     ∷ runs (inside 1 ++ writing) (seven ∷ []) 0 4 0 0 []
-    ∷ runs (inside 1 ++ ((base 2, 0) ∷ (permission 2, 2) ∷ [])) (seven ∷ []) 9 4 0 0 []
+    ∷ runs (inside 1 ++ sharing) (seven ∷ []) 9 4 0 0 []
     -- "asked after 3"
     ∷ runs (inside 1 ++ writing) (seven ∷ []) 1000001 2 0 0 []
     ∷ runs (inside 17 ++ writing) (seven ∷ []) 9 3 0 0 []
@@ -109,12 +116,23 @@ asking =
     ∷ goes (inside 1) seven ((x 7, 7) ∷ [])
     ∷ runs (inside 0xe ++ writing) (seven ∷ []) 1 21 1 0 ((pc, 4) ∷ (x 7, 7) ∷ [])
     ∷ runs (outside 0xf ++ writing) (seven ∷ []) 1 21 1 0 ((pc, 4) ∷ (x 7, 7) ∷ [])
+    -- so a guest that is not locked loads from its own code, and stores into it: ld x6, 0(x5); sd x6, 0(x5)
+    ∷ stepsOver (inside 0xe ++ sharing ++ operands 4 0) (bytes (ld ∷ 0x11223344 ∷ 0x55667788 ∷ [])) 0 0 ((pc, 4) ∷ (x 6, 0x5566778811223344) ∷ [])
+    ∷ writes (inside 0xe ++ sharing ++ operands 4 0x0102030405060708) (bytes (sd ∷ 0 ∷ 0 ∷ [])) ((pc, 4) ∷ [])
+    ((4, 8) ∷ (5, 7) ∷ (6, 6) ∷ (7, 5) ∷ (8, 4) ∷ (9, 3) ∷ (10, 2) ∷ (11, 1) ∷ [])
+    -- and regions may be set so that a byte is both
+    ∷ goes (inside 0xe ++ ((selector, 1) ∷ (x 5, 0) ∷ [])) setBase ((base 1, 0) ∷ [])
+    ∷ goes (outside 0xf ++ ((selector, 1) ∷ (base 1, 8) ∷ (bound 1, 0) ∷ (x 5, 8) ∷ [])) setBound ((bound 1, 8) ∷ [])
+    ∷ goes (inside 0xe ++ ((selector, 1) ∷ (base 1, 8) ∷ (permission 1, 1) ∷ (x 5, 3) ∷ [])) setPermission ((permission 1, 3) ∷ [])
     -- nor by resuming
     ∷ resumes (inside 1 ++ writing) 9 0 ((x 10, 9) ∷ (pc, 4) ∷ [])
+    ∷ resumes (inside 1 ++ sharing) 9 0 ((x 10, 9) ∷ (pc, 4) ∷ [])
     -- "22, for either enter form that would begin such a state": by the operand's lock bit
     ∷ steps (outside 0 ++ writing ++ operands 1 0) enter 22 []
     ∷ steps (outside 0 ++ writing ++ operands 0xf 0) enter 22 []
     ∷ steps (outside 0 ++ writing ++ operands 1 0x100) enterJump 22 []
+    ∷ steps (outside 0xf ++ writing ++ operands 1 0) enter 22 []
+    ∷ steps (outside 0xf ++ sharing ++ operands 3 0x100) enterJump 22 []
     ∷ goes (outside 1 ++ writing ++ operands 0 0) enter ((mode, 1) ∷ (options, 0) ∷ (occurred, 0) ∷ [])
     ∷ goes (outside 1 ++ writing ++ operands 0xe 0) enter ((mode, 1) ∷ (options, 0xe) ∷ (occurred, 0) ∷ [])
     ∷ steps (outside 0 ++ writing ++ operands 2 0x100) enterJump 0 ((pc, 0x100) ∷ (mode, 1) ∷ (options, 2) ∷ (occurred, 0) ∷ [])
@@ -123,7 +141,10 @@ asking =
     ∷ forbidden (outside 0 ++ writing ++ operands 0x11 0x102) enterJump
     ∷ forbidden (inside 0 ++ writing ++ operands 1 0) enter
     ∷ forbidden (inside 0 ++ writing ++ operands 1 0x102) enterJump
+    ∷ forbidden (inside 0xe ++ writing ++ operands 1 0) enter
+    ∷ forbidden (inside 0xe ++ writing ++ operands 0xf 0x102) enterJump
     ∷ steps (outside 0 ++ writing ++ operands 1 0x102) enterJump 22 []
+    ∷ steps (outside 0xf ++ writing ++ operands 3 0x101) enterJump 22 []
     ∷ steps (outside 0 ++ writing ++ operands 0 0x102) enterJump 15 []
     -- "22 what 14 leaves": in a run the stopping step isn't counted and changes nothing
     ∷ runs (outside 0 ++ writing ++ operands 1 0) (seven ∷ enter ∷ []) 9 22 1 0 ((pc, 4) ∷ (x 7, 7) ∷ [])
@@ -133,5 +154,5 @@ abbrev pub rows : List Row
 rows = exact ++ asking
 
 pub rows-hold : found rows ≡ stated rows
-unfolding exact asking trailingZeros sext decodeWord matches explicitRule firstMatch implicitGrants explicitGrants explicitCovers writableCode exposesCode scan firstRefused firstAbsent verdict value written allowed aligned settle stateFits wellFormed hfiStop hWordStop hfiPerform perform executeWord step stepCall resumeCall runBy runCall
+unfolding exact asking trailingZeros sext decodeWord matches explicitRule firstMatch implicitGrants explicitGrants explicitCovers writableCode exposesCode scan firstRefused firstAbsent verdict value written allowed aligned settle stateFits wellFormed hfiStop hWordStop hfiPerform load store perform executeWord step stepCall resumeCall runBy runCall
 rows-hold = refl
