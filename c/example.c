@@ -1,6 +1,6 @@
-/* example: two guest programs in a sandbox, as a controller runs them. Each result is printed as the sheet program
+/* example: guest programs in a sandbox, as a controller runs them. Each result is printed as the sheet program
  * prints it. The second program makes a system call; the controller answers it and goes on. A third sandbox grants a
- * byte of its code for writing too, and its run is refused. */
+ * byte of its code for writing too, and its run is refused. A fourth program tries to widen what it was granted. */
 #include "koubospar.h"
 
 #include <inttypes.h>
@@ -67,6 +67,13 @@ static const struct placed calling[] = {
     {0x1c, 0x0400005b}, /* hfiexit */
 };
 
+/* c/widening.sheet */
+static const struct placed widening[] = {
+    {0x0, 0x00100293}, /* addi x5, x0, 1 */
+    {0x4, 0x0602805b}, /* select region x5: regions are locked */
+    {0x8, 0x0c02805b}, /* set bound x5: it never comes to this */
+};
+
 int main(void)
 {
     static uint8_t memory[LENGTH];
@@ -90,5 +97,10 @@ int main(void)
     m.hfi.regions[0].base = 0xf; /* the last byte of the code: c/writable.sheet */
     r = koubospar_run(&m, memory, sizeof memory, 10);
     print(r, &m); /* KOUBOSPAR_WRITABLE_CODE */
+
+    place(memory, widening, sizeof widening / sizeof widening[0]);
+    m = sandbox(0xfffffffffffffff0);
+    r = koubospar_run(&m, memory, sizeof memory, 10);
+    print(r, &m); /* KOUBOSPAR_SETTING_FORBIDDEN, at the pc of the select */
     return 0;
 }

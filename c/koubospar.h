@@ -89,26 +89,30 @@ struct koubospar_machine {
 
 /* The number that ended a call. Of those that a call can answer, the first whose question is answered no. 4 is asked
  * after 3, of the regions alone: a byte below 2^48 counts whether or not memory has it, and a region that breaks its rule
- * does not. It is asked once a call; no step of a run can bring about what it refuses. */
+ * does not. It is asked once a call; no step of a run can bring about what it refuses. What HFI forbids is asked after
+ * 13 and before 15, in the order 23, 24, 25, 14, 22. */
 enum {
-    KOUBOSPAR_COMPLETED = 0,          /* a completed step, or a resumption */
-    KOUBOSPAR_MEMORY_TOO_LONG = 1,    /* memory is longer than 16,777,216 bytes */
-    KOUBOSPAR_BUDGET_TOO_LARGE = 2,   /* the budget is above 1,000,000 */
-    KOUBOSPAR_ILL_FORMED = 3,         /* the machine is not well formed */
-    KOUBOSPAR_WRITABLE_CODE = 4,      /* in HFI mode with regions locked, a byte is both writable and executable */
-    KOUBOSPAR_PC_MISALIGNED = 10,     /* pc is no multiple of 4 */
-    KOUBOSPAR_FETCH_REFUSED = 11,     /* in HFI mode, a byte of the word is not executable */
-    KOUBOSPAR_FETCH_ABSENT = 12,      /* a byte of the word is not in memory */
-    KOUBOSPAR_ILLEGAL_WORD = 13,      /* the word is not legal */
-    KOUBOSPAR_HFI_FORBIDS = 14,       /* HFI does not allow the instruction */
-    KOUBOSPAR_TARGET_MISALIGNED = 15, /* the target of a branch, a jump or an enter is no multiple of 4 */
-    KOUBOSPAR_DATA_REFUSED = 16,      /* a data byte is not granted */
-    KOUBOSPAR_DATA_ABSENT = 17,       /* a data byte is not in memory */
-    KOUBOSPAR_SYSTEM_CALL = 18,       /* an ECALL that is not redirected */
-    KOUBOSPAR_BREAKPOINT = 19,        /* an EBREAK */
-    KOUBOSPAR_LEFT = 20,              /* a run that began in HFI mode has left it */
-    KOUBOSPAR_BUDGET_SPENT = 21,      /* the budget has no step left */
-    KOUBOSPAR_LOCK_WRITABLE_CODE = 22 /* an enter would begin what 4 refuses; asked after 14 and before 15 */
+    KOUBOSPAR_COMPLETED = 0,           /* a completed step, or a resumption */
+    KOUBOSPAR_MEMORY_TOO_LONG = 1,     /* memory is longer than 16,777,216 bytes */
+    KOUBOSPAR_BUDGET_TOO_LARGE = 2,    /* the budget is above 1,000,000 */
+    KOUBOSPAR_ILL_FORMED = 3,          /* the machine is not well formed */
+    KOUBOSPAR_WRITABLE_CODE = 4,       /* in HFI mode with regions locked, a byte is both writable and executable */
+    KOUBOSPAR_PC_MISALIGNED = 10,      /* pc is no multiple of 4 */
+    KOUBOSPAR_FETCH_REFUSED = 11,      /* in HFI mode, a byte of the word is not executable */
+    KOUBOSPAR_FETCH_ABSENT = 12,       /* a byte of the word is not in memory */
+    KOUBOSPAR_ILLEGAL_WORD = 13,       /* the word is not legal */
+    KOUBOSPAR_HFI_FORBIDS = 14,        /* a bad operand of an HFI word, no region selected, an h-word outside HFI mode */
+    KOUBOSPAR_TARGET_MISALIGNED = 15,  /* the target of a branch, a jump or an enter is no multiple of 4 */
+    KOUBOSPAR_DATA_REFUSED = 16,       /* a data byte is not granted */
+    KOUBOSPAR_DATA_ABSENT = 17,        /* a data byte is not in memory */
+    KOUBOSPAR_SYSTEM_CALL = 18,        /* an ECALL that is not redirected */
+    KOUBOSPAR_BREAKPOINT = 19,         /* an EBREAK */
+    KOUBOSPAR_LEFT = 20,               /* a run that began in HFI mode has left it */
+    KOUBOSPAR_BUDGET_SPENT = 21,       /* the budget has no step left */
+    KOUBOSPAR_LOCK_WRITABLE_CODE = 22, /* an enter would begin what 4 refuses */
+    KOUBOSPAR_ENTER_INSIDE = 23,       /* an enter in HFI mode */
+    KOUBOSPAR_EXIT_OUTSIDE = 24,       /* an exit outside it */
+    KOUBOSPAR_SETTING_FORBIDDEN = 25   /* a region or handler instruction that HFI mode forbids */
 };
 
 struct koubospar_stop {
@@ -118,15 +122,15 @@ struct koubospar_stop {
 
 struct koubospar_run_stop {
     uint64_t stop;
-    uint64_t count; /* completed steps; 20 counts the step that left; 10 to 19 and 22 do not count theirs */
+    uint64_t count; /* completed steps; 20 counts the step that left; 10 to 19 and 22 to 25 do not count theirs */
     uint64_t address;
 };
 
-/* One step: 0, or 1, 3, 4, 10 to 19, 22. After 0 machine and memory are what the instruction makes of them. Every other
- * number leaves both as they were, but for 11 and 16, which write the machine's fault record. */
+/* One step: 0, or 1, 3, 4, 10 to 19, 22 to 25. After 0 machine and memory are what the instruction makes of them. Every
+ * other number leaves both as they were, but for 11 and 16, which write the machine's fault record. */
 struct koubospar_stop koubospar_step(struct koubospar_machine *machine, uint8_t *memory, size_t length);
 
-/* A run of at most `budget` steps: 1 to 4, or 10 to 22. 1 to 4 leave all as it was, with count 0. Otherwise machine and
+/* A run of at most `budget` steps: 1 to 4, or 10 to 25. 1 to 4 leave all as it was, with count 0. Otherwise machine and
  * memory are as after `count` completed steps, and after 11 and 16 the fault record is written besides. */
 struct koubospar_run_stop koubospar_run(struct koubospar_machine *machine, uint8_t *memory, size_t length, uint64_t budget);
 

@@ -169,6 +169,7 @@ static void names(void)
         {KOUBOSPAR_HFI_FORBIDS, 14},    {KOUBOSPAR_TARGET_MISALIGNED, 15},  {KOUBOSPAR_DATA_REFUSED, 16},
         {KOUBOSPAR_DATA_ABSENT, 17},    {KOUBOSPAR_SYSTEM_CALL, 18},        {KOUBOSPAR_BREAKPOINT, 19},
         {KOUBOSPAR_LEFT, 20},           {KOUBOSPAR_BUDGET_SPENT, 21},       {KOUBOSPAR_LOCK_WRITABLE_CODE, 22},
+        {KOUBOSPAR_ENTER_INSIDE, 23},   {KOUBOSPAR_EXIT_OUTSIDE, 24},       {KOUBOSPAR_SETTING_FORBIDDEN, 25},
     };
     for (size_t i = 0; i < sizeof stops / sizeof stops[0]; i++)
         is("a stop by its name", (uint64_t)stops[i][0], (uint64_t)stops[i][1]);

@@ -8,7 +8,7 @@ ghost use Rattle.words.specs.Word.{fitsSigned};
 ghost use Rattle.instructions.specs.Encode.{inRange};
 ghost use Rattle.instructions.specs.declared.instruction.Instruction.the-variants.{Upper, Branch, Load, Store, System, HLoad, HStore};
 ghost use Rattle.model.specs.Machine.{machine};
-ghost use Rattle.model.specs.Step.{perform};
+ghost use Rattle.model.specs.Step.{perform, executeInstruction};
 ghost use Rattle.hart.specs.Effect.{effectWith};
 use arithmetic::add_word;
 use arithmetic::jalr_target;
@@ -25,8 +25,8 @@ use hart::effect::register;
 use hart::effect::stopped;
 use hart::effect::write_back;
 use hart::state::exited;
-use hart::state::inside;
 use hart::state::redirects_calls;
+use hfi::word::h_word_stop;
 use hfi::word::hfi_word;
 use instructions::instruction::Instruction;
 use instructions::kind::BranchKind;
@@ -140,10 +140,11 @@ fn hload(
     imm: u64,
 ) -> Effect
     requires { ⌜ (rd < 32) × (rs1 < 32) × (fitsSigned 12 imm ≡ true) ⌝ }
-    ensures { λ r. ⌜ effectWith r (now (x .exit)) (now (mem .entry)) ≡ perform (machine (now (x .entry)) pc hfi) (now (mem .entry)) next (HLoad k rd rs1 imm) ⌝ }
+    ensures { λ r. ⌜ effectWith r (now (x .exit)) (now (mem .entry)) ≡ executeInstruction (machine (now (x .entry)) pc hfi) (now (mem .entry)) next (HLoad k rd rs1 imm) ⌝ }
 {
-    if !inside(hfi) {
-        return stopped(14, pc, hfi);
+    let stop = h_word_stop(hfi);
+    if stop != 0 {
+        return stopped(stop, pc, hfi);
     }
     let operand = register(x, rs1);
     load_store::hload(x, pc, hfi, mem, next, k, rd, operand, imm)
@@ -161,16 +162,17 @@ fn hstore(
     imm: u64,
 ) -> Effect
     requires { ⌜ (rs1 < 32) × (rs2 < 32) × (fitsSigned 12 imm ≡ true) ⌝ }
-    ensures { λ r. ⌜ effectWith r (now (x .entry)) (now (mem .exit)) ≡ perform (machine (now (x .entry)) pc hfi) (now (mem .entry)) next (HStore k rs1 rs2 imm) ⌝ }
+    ensures { λ r. ⌜ effectWith r (now (x .entry)) (now (mem .exit)) ≡ executeInstruction (machine (now (x .entry)) pc hfi) (now (mem .entry)) next (HStore k rs1 rs2 imm) ⌝ }
 {
-    if !inside(hfi) {
-        return stopped(14, pc, hfi);
+    let stop = h_word_stop(hfi);
+    if stop != 0 {
+        return stopped(stop, pc, hfi);
     }
     let operand = register(x, rs1);
     load_store::hstore(pc, hfi, mem, next, k, register(x, rs2), operand, imm)
 }
 
-// One instruction; `next` is the pc after it.
+// One instruction, question 8 first; `next` is the pc after it.
 pub fn execute(
     x: &mut [u64; 32],
     pc: u64,
@@ -180,7 +182,7 @@ pub fn execute(
     i: Instruction,
 ) -> Effect
     requires { ⌜ inRange i ≡ true ⌝ }
-    ensures { λ r. ⌜ effectWith r (now (x .exit)) (now (mem .exit)) ≡ perform (machine (now (x .entry)) pc hfi) (now (mem .entry)) next i ⌝ }
+    ensures { λ r. ⌜ effectWith r (now (x .exit)) (now (mem .exit)) ≡ executeInstruction (machine (now (x .entry)) pc hfi) (now (mem .entry)) next i ⌝ }
 {
     match i {
         Instruction::Upper(k, rd, imm) => upper(x, pc, hfi, next, k, rd, imm),

@@ -1,14 +1,15 @@
 // The words of opcode 5b.
 ghost use mathlib.Core.Path.{_≡_};
 ghost use mathlib.Core.List.{List};
-ghost use mathlib.Core.Bool.{cond};
+ghost use mathlib.Core.Bool.{cond, not};
 ghost use Prim.Native.Nat.{ℕ, _<_};
+ghost use Rattle.instructions.specs.declared.kind.HfiKind.the-variants.{Enter, SetBase, SetPermission};
 ghost use Rattle.instructions.specs.declared.instruction.Instruction.the-variants.{Hfi};
-ghost use Rattle.model.specs.Machine.{redirectsExits, withBase, withBound, withPermission, zeroRegions, entered as enteredOf, exited as exitedOf, withSelector, withRegions, withHandler, machine};
+ghost use Rattle.model.specs.Machine.{inside as insideOf, redirectsExits, withBase, withBound, withPermission, zeroRegions, entered as enteredOf, exited as exitedOf, withSelector, withRegions, withHandler, machine};
 ghost use Rattle.model.specs.WellFormed.{clearHandler};
 ghost use Rattle.model.specs.Outcome.{completed as completedOf, aligned};
-ghost use Rattle.model.specs.Hfi.{modeForbids, operandForbids, lockForbids, hfiStop, selected as selectedOf, changed as changedOf, hfiPerform};
-ghost use Rattle.model.specs.Step.{perform as performOf};
+ghost use Rattle.model.specs.Hfi.{firstBroken, wordRules, selected as selectedOf, changed as changedOf, hfiPerform};
+ghost use Rattle.model.specs.Step.{executeInstruction};
 ghost use Rattle.hart.specs.Effect.{effectWith};
 use hart::effect::Effect;
 use hart::effect::completed;
@@ -32,80 +33,62 @@ use model::REGIONS;
 use model::Region;
 use writable_code::exposes_code;
 
-// Does the mode forbid the word?
-fn mode_forbids(h: HfiState, k: HfiKind) -> bool
-    ensures { λ r. ⌜ r ≡ modeForbids h k ⌝ }
+// One rule of question 8: its number where it is broken, or what the later rules answer.
+fn rule(broken: bool, number: u64, later: u64) -> u64
+    ensures { λ r. ⌜ r ≡ cond broken number later ⌝ }
 {
-    match k {
-        HfiKind::Enter => inside(h),
-        HfiKind::EnterJump => inside(h),
-        HfiKind::Exit => !inside(h),
-        HfiKind::SelectRegion => locked(h),
-        HfiKind::SetBase => locked(h),
-        HfiKind::GetBase => locked(h),
-        HfiKind::SetBound => locked(h),
-        HfiKind::GetBound => locked(h),
-        HfiKind::SetPermission => locked(h),
-        HfiKind::GetPermission => locked(h),
-        HfiKind::SetHandler => inside(h),
-        HfiKind::GetHandler => locked(h),
-        HfiKind::ResetRegions => locked(h),
-    }
+    if broken { number } else { later }
 }
 
-// Does the operand `a`, or a missing selection, forbid it?
-fn operand_forbids(h: HfiState, k: HfiKind, a: u64) -> bool
-    ensures { λ r. ⌜ r ≡ operandForbids h k a ⌝ }
+// The rule of an h-word.
+pub fn h_word_stop(h: HfiState) -> u64
+    ensures { λ r. ⌜ r ≡ cond (not (insideOf h)) 14 0 ⌝ }
 {
-    match k {
-        HfiKind::Enter => LARGEST_OPTIONS < a,
-        HfiKind::EnterJump => LARGEST_OPTIONS < a,
-        HfiKind::Exit => false,
-        HfiKind::SelectRegion => !((1 <= a) & (a <= LAST_REGION)),
-        HfiKind::SetBase => h.selector == 0,
-        HfiKind::GetBase => h.selector == 0,
-        HfiKind::SetBound => h.selector == 0,
-        HfiKind::GetBound => h.selector == 0,
-        HfiKind::SetPermission => (h.selector == 0) | !permission_fits(h.selector, a),
-        HfiKind::GetPermission => h.selector == 0,
-        HfiKind::SetHandler => false,
-        HfiKind::GetHandler => false,
-        HfiKind::ResetRegions => false,
-    }
+    rule(!inside(h), 14, 0)
 }
 
-// Would the word begin a locked state with writable code?
-fn lock_forbids(h: HfiState, k: HfiKind, a: u64) -> bool
-    ensures { λ r. ⌜ r ≡ lockForbids h k a ⌝ }
+// The rules of either enter form.
+fn enter_stop(h: HfiState, options: u64) -> u64
+    ensures { λ r. ⌜ r ≡ firstBroken (wordRules h Enter options) ⌝ }
 {
-    match k {
-        HfiKind::Enter => exposes_code(entered(h, a)),
-        HfiKind::EnterJump => exposes_code(entered(h, a)),
-        HfiKind::Exit => false,
-        HfiKind::SelectRegion => false,
-        HfiKind::SetBase => false,
-        HfiKind::GetBase => false,
-        HfiKind::SetBound => false,
-        HfiKind::GetBound => false,
-        HfiKind::SetPermission => false,
-        HfiKind::GetPermission => false,
-        HfiKind::SetHandler => false,
-        HfiKind::GetHandler => false,
-        HfiKind::ResetRegions => false,
-    }
+    let lock = rule(exposes_code(entered(h, options)), 22, 0);
+    rule(inside(h), 23, rule(LARGEST_OPTIONS < options, 14, lock))
 }
 
-// Question 8, and then 22: the number, or 0.
+// The rules of a word for the selected region; they ask nothing of its operand.
+fn selected_stop(h: HfiState) -> u64
+    ensures { λ r. ⌜ r ≡ firstBroken (wordRules h SetBase 0) ⌝ }
+{
+    rule(locked(h), 25, rule(h.selector == 0, 14, 0))
+}
+
+// The rules of set permission: `p` is to fit the selected region.
+fn permission_stop(h: HfiState, p: u64) -> u64
+    ensures { λ r. ⌜ r ≡ firstBroken (wordRules h SetPermission p) ⌝ }
+{
+    let lacks = rule(!permission_fits(h.selector, p), 14, 0);
+    rule(locked(h), 25, rule(h.selector == 0, 14, lacks))
+}
+
+// Question 8 of a word of opcode 5b: the number of the first rule that it breaks, or 0. `a` is the register rs1.
 pub fn hfi_stop(h: HfiState, k: HfiKind, a: u64) -> u64
-    ensures { λ r. ⌜ r ≡ hfiStop h k a ⌝ }
+    ensures { λ r. ⌜ r ≡ firstBroken (wordRules h k a) ⌝ }
 {
-    if mode_forbids(h, k) {
-        return 14;
+    match k {
+        HfiKind::Enter => enter_stop(h, a),
+        HfiKind::EnterJump => enter_stop(h, a),
+        HfiKind::Exit => rule(!inside(h), 24, 0),
+        HfiKind::SelectRegion => rule(locked(h), 25, rule(!((1 <= a) & (a <= LAST_REGION)), 14, 0)),
+        HfiKind::SetBase => selected_stop(h),
+        HfiKind::GetBase => selected_stop(h),
+        HfiKind::SetBound => selected_stop(h),
+        HfiKind::GetBound => selected_stop(h),
+        HfiKind::SetPermission => permission_stop(h, a),
+        HfiKind::GetPermission => selected_stop(h),
+        HfiKind::SetHandler => rule(inside(h), 25, 0),
+        HfiKind::GetHandler => rule(locked(h), 25, 0),
+        HfiKind::ResetRegions => rule(locked(h), 25, 0),
     }
-    if operand_forbids(h, k, a) {
-        return 14;
-    }
-    if lock_forbids(h, k, a) { 22 } else { 0 }
 }
 
 // The selected region.
@@ -234,7 +217,7 @@ fn perform(
     }
 }
 
-// Question 8, 22, and the rest of the step.
+// Question 8, and the rest of the step.
 pub fn hfi_word(
     x: &mut [u64; 32],
     pc: u64,
@@ -246,7 +229,7 @@ pub fn hfi_word(
     rs2: u64,
 ) -> Effect
     requires { ⌜ (rd < 32) × (rs1 < 32) × (rs2 < 32) ⌝ }
-    ensures { λ r. ⌜ ((mem : List ℕ) → effectWith r (now (x .exit)) mem ≡ performOf (machine (now (x .entry)) pc h) mem next (Hfi k rd rs1 rs2)) ⌝ }
+    ensures { λ r. ⌜ ((mem : List ℕ) → effectWith r (now (x .exit)) mem ≡ executeInstruction (machine (now (x .entry)) pc h) mem next (Hfi k rd rs1 rs2)) ⌝ }
 {
     let stop = hfi_stop(h, k, register(x, rs1));
     if stop != 0 {

@@ -16,11 +16,11 @@ use Rattle.instructions.specs.declared.instruction.Decoded.the-variants.{Legal,
 use Rattle.model.specs.Bytes.{value, written}
 use Rattle.model.specs.Outcome.{allowed, settle}
 use Rattle.model.specs.WellFormed.{stateFits, wellFormed}
-use Rattle.model.specs.Hfi.{hfiStop, hWordStop, hfiPerform}
+use Rattle.model.specs.Hfi.{hfiStop, hfiPerform}
 use Rattle.model.specs.Regions.{explicitRule, matches, firstMatch, implicitGrants, explicitGrants}
 use Rattle.model.specs.WritableCode.{explicitCovers, writableCode, exposesCode}
 use Rattle.model.specs.Access.{scan, firstRefused, firstAbsent, verdict}
-use Rattle.model.specs.Step.{store, perform, executeWord, step, stepCall}
+use Rattle.model.specs.Step.{store, perform, executeInstruction, executeWord, step, stepCall}
 use Rattle.model.specs.Run.{runBy, runCall}
 use Rattle.model.proofs.Rows.{Row, found, stated, x, pc, mode, base, bound, permission, handler, occurred, faultRegion, op, faulting, puts, regionOf, with, bytes}
 use Rattle.model.proofs.Rows.Question.{decoding, matching, ruling, stepping, running}
@@ -95,5 +95,5 @@ rows =
     ∷ []
 
 pub cases : found rows ≡ stated rows
-unfolding rows trailingZeros sext decodeWord matches explicitRule firstMatch implicitGrants explicitGrants explicitCovers writableCode exposesCode scan firstRefused firstAbsent verdict value written allowed settle stateFits wellFormed hfiStop hWordStop hfiPerform store perform executeWord step stepCall runBy runCall
+unfolding rows trailingZeros sext decodeWord matches explicitRule firstMatch implicitGrants explicitGrants explicitCovers writableCode exposesCode scan firstRefused firstAbsent verdict value written allowed settle stateFits wellFormed hfiStop hfiPerform store perform executeInstruction executeWord step stepCall runBy runCall
 cases = refl

@@ -15,11 +15,11 @@ use Rattle.model.specs.Machine.{sum, setReg, machine}
 use Rattle.model.specs.Bytes.{value, written}
 use Rattle.model.specs.Outcome.{stopped, allowed, aligned, settle}
 use Rattle.model.specs.WellFormed.{stateFits, wellFormed}
-use Rattle.model.specs.Hfi.{hfiStop, hWordStop, hfiPerform}
+use Rattle.model.specs.Hfi.{hfiStop, hfiPerform}
 use Rattle.model.specs.Regions.{explicitRule, matches, firstMatch, implicitGrants, explicitGrants}
 use Rattle.model.specs.WritableCode.{explicitCovers, writableCode, exposesCode}
 use Rattle.model.specs.Access.{scan, firstRefused, firstAbsent, verdict}
-use Rattle.model.specs.Step.{load, store, jump, branch, perform, executeWord, step, stepCall, resumeCall}
+use Rattle.model.specs.Step.{load, store, jump, branch, perform, executeInstruction, executeWord, step, stepCall, resumeCall}
 use Rattle.model.specs.Run.{ended, runBy, runCall}
 use Rattle.model.specs.declared.Machine.{Machine}
 use Rattle.model.proofs.Rows.{Row, found, stated, x, pc, mode, reason, epc, options, handler, selector, base, bound, permission, occurred, faultRegion, op, faulting, puts, regionOf, with, bytes}
@@ -143,9 +143,9 @@ steps start w stop changes = stepsOver start (bytes (w ∷ [])) stop 0 changes
 abbrev pub goes : List (ℕ × ℕ) → ℕ → List (ℕ × ℕ) → Row
 goes start w changes = steps start w 0 ((pc, 4) ∷ changes)
 
--- a step that question 8 stops
-abbrev pub forbidden : List (ℕ × ℕ) → ℕ → Row
-forbidden start w = steps start w 14 []
+-- a step that question 8 stops, with this number
+abbrev pub forbidden : ℕ → List (ℕ × ℕ) → ℕ → Row
+forbidden number start w = steps start w number []
 
 -- an h-word that its region refuses, by what the fault record then says: load or store, and the address
 abbrev faults : List (ℕ × ℕ) → ℕ → ℕ → ℕ → Row
@@ -173,22 +173,22 @@ entering =
     -- "Is the target of .. an enter with jump a multiple of 4?"
     ∷ steps (outside 6 ++ operands 9 0x102) enterJump 15 []
     -- "an options operand above 15", before the target
-    ∷ forbidden (outside 6 ++ operands 16 0) enter
-    ∷ forbidden (outside 6 ++ operands (2 ^ 32) 0) enter
-    ∷ forbidden (outside 6 ++ operands 16 0x102) enterJump
-    ∷ forbidden (outside 6 ++ operands (2 ^ 32) 0x100) enterJump
-    -- "enter in HFI mode"
-    ∷ forbidden (inside 0 ++ operands 0 0) enter
-    ∷ forbidden (inside 0 ++ operands 0 0x100) enterJump
+    ∷ forbidden 14 (outside 6 ++ operands 16 0) enter
+    ∷ forbidden 14 (outside 6 ++ operands (2 ^ 32) 0) enter
+    ∷ forbidden 14 (outside 6 ++ operands 16 0x102) enterJump
+    ∷ forbidden 14 (outside 6 ++ operands (2 ^ 32) 0x100) enterJump
+    -- "23, enter in HFI mode"
+    ∷ forbidden 23 (inside 0 ++ operands 0 0) enter
+    ∷ forbidden 23 (inside 0 ++ operands 0 0x100) enterJump
     ∷ []
 
 unfoldable pub leaving : List Row
 leaving =
-    -- "exit or an h-word outside it"
-    forbidden (outside 0) exit
-    ∷ forbidden (outside 4) exit
-    ∷ forbidden (outside 0) hlb
-    ∷ forbidden (outside 0) hsb
+    -- "24, exit outside it"; "an h-word outside HFI mode .. keep 14"
+    forbidden 24 (outside 0) exit
+    ∷ forbidden 24 (outside 4) exit
+    ∷ forbidden 14 (outside 0) hlb
+    ∷ forbidden 14 (outside 0) hsb
     -- "Exit: mode 0, reason 1, exit pc is this pc; then pc is the handler if exits are redirected, else pc + 4."
     ∷ goes (inside 0xb) exit ((mode, 0) ∷ (reason, 1) ∷ (epc, 0) ∷ [])
     ∷ steps (inside 4) exit 0 ((pc, 0x40) ∷ (mode, 0) ∷ (reason, 1) ∷ (epc, 0) ∷ [])
@@ -222,37 +222,88 @@ locking =
     ++ manipulating (inside 0xe ++ operands 3 0)
     -- "Set handler clears bits 0, 1, 62, 63."
     ++ (goes (outside 1 ++ operands (2 ^ 64 - 1) 0) setHandler ((handler, 0x3ffffffffffffffc) ∷ [])
-    ∷ forbidden (inside 0xe ++ operands 3 0) setHandler
+    ∷ forbidden 25 (inside 0xe ++ operands 3 0) setHandler
     -- "funct7 3 to 9, 11 or 12 in HFI mode when locked"
-    ∷ forbidden (inside 1 ++ operands 3 0) select
-    ∷ forbidden (inside 1 ++ operands 3 0) setBase
-    ∷ forbidden (inside 1) getBase
-    ∷ forbidden (inside 1 ++ operands 3 0) setBound
-    ∷ forbidden (inside 1) getBound
-    ∷ forbidden (inside 1 ++ operands 3 0) setPermission
-    ∷ forbidden (inside 1) getPermission
-    ∷ forbidden (inside 1 ++ operands 3 0) setHandler
-    ∷ forbidden (inside 1) getHandler
-    ∷ forbidden (inside 1) reset
+    ∷ forbidden 25 (inside 1 ++ operands 3 0) select
+    ∷ forbidden 25 (inside 1 ++ operands 3 0) setBase
+    ∷ forbidden 25 (inside 1) getBase
+    ∷ forbidden 25 (inside 1 ++ operands 3 0) setBound
+    ∷ forbidden 25 (inside 1) getBound
+    ∷ forbidden 25 (inside 1 ++ operands 3 0) setPermission
+    ∷ forbidden 25 (inside 1) getPermission
+    ∷ forbidden 25 (inside 1 ++ operands 3 0) setHandler
+    ∷ forbidden 25 (inside 1) getHandler
+    ∷ forbidden 25 (inside 1) reset
     -- "a selected number not 1 to 3": the whole register
-    ∷ forbidden (outside 0 ++ operands 0 0) select
-    ∷ forbidden (outside 0 ++ operands 4 0) select
-    ∷ forbidden (outside 0 ++ operands (2 ^ 32 + 1) 0) select
+    ∷ forbidden 14 (outside 0 ++ operands 0 0) select
+    ∷ forbidden 14 (outside 0 ++ operands 4 0) select
+    ∷ forbidden 14 (outside 0 ++ operands (2 ^ 32 + 1) 0) select
     -- "funct7 4 to 9 with selector 0"
-    ∷ forbidden (outside 0 ++ ((selector, 0) ∷ [])) setBase
-    ∷ forbidden (outside 0 ++ ((selector, 0) ∷ [])) getBase
-    ∷ forbidden (outside 0 ++ ((selector, 0) ∷ [])) setBound
-    ∷ forbidden (outside 0 ++ ((selector, 0) ∷ [])) getBound
-    ∷ forbidden (outside 0 ++ ((selector, 0) ∷ [])) setPermission
-    ∷ forbidden (outside 0 ++ ((selector, 0) ∷ [])) getPermission
+    ∷ forbidden 14 (outside 0 ++ ((selector, 0) ∷ [])) setBase
+    ∷ forbidden 14 (outside 0 ++ ((selector, 0) ∷ [])) getBase
+    ∷ forbidden 14 (outside 0 ++ ((selector, 0) ∷ [])) setBound
+    ∷ forbidden 14 (outside 0 ++ ((selector, 0) ∷ [])) getBound
+    ∷ forbidden 14 (outside 0 ++ ((selector, 0) ∷ [])) setPermission
+    ∷ forbidden 14 (outside 0 ++ ((selector, 0) ∷ [])) getPermission
     -- "a permission bit the region lacks"
-    ∷ forbidden (outside 0 ++ ((selector, 1) ∷ (x 5, 4) ∷ [])) setPermission
-    ∷ forbidden (outside 0 ++ ((selector, 2) ∷ (x 5, 8) ∷ [])) setPermission
-    ∷ forbidden (outside 0 ++ ((selector, 3) ∷ (x 5, 1) ∷ [])) setPermission
+    ∷ forbidden 14 (outside 0 ++ ((selector, 1) ∷ (x 5, 4) ∷ [])) setPermission
+    ∷ forbidden 14 (outside 0 ++ ((selector, 2) ∷ (x 5, 8) ∷ [])) setPermission
+    ∷ forbidden 14 (outside 0 ++ ((selector, 3) ∷ (x 5, 1) ∷ [])) setPermission
     -- the bits are those given, and large may stand alone
     ∷ goes (outside 0 ++ ((selector, 1) ∷ (permission 1, 0xb) ∷ (x 5, 3) ∷ [])) setPermission ((permission 1, 3) ∷ [])
     ∷ goes (outside 0 ++ ((selector, 1) ∷ (x 5, 8) ∷ [])) setPermission ((permission 1, 8) ∷ [])
     ∷ [])
+
+-- "If the operand is bad as well, the new number is given."
+unfoldable pub numbering : List Row
+numbering =
+    -- "23, enter in HFI mode", locked or not, before the operand and before the target
+    forbidden 23 (inside 1 ++ operands 0 0) enter
+    ∷ forbidden 23 (inside 0xf ++ operands 0 0x100) enterJump
+    ∷ forbidden 23 (inside 0 ++ operands 16 0) enter
+    ∷ forbidden 23 (inside 1 ++ operands (2 ^ 64 - 1) 0) enter
+    ∷ forbidden 23 (inside 0 ++ operands 16 0x102) enterJump
+    ∷ forbidden 23 (inside 1 ++ operands (2 ^ 32) 0x101) enterJump
+    ∷ forbidden 23 (inside 0 ++ operands 0 0x102) enterJump
+    -- "24, exit outside it", whatever the options are; an h-word is none
+    ∷ forbidden 24 (outside 1) exit
+    ∷ forbidden 24 (outside 0xf) exit
+    ∷ forbidden 14 (outside 1) hlb
+    ∷ forbidden 14 (outside 0xf) hsb
+    -- "25, a region or handler instruction that HFI mode forbids": a number that is none, a bit that the region lacks, nothing selected
+    ∷ forbidden 25 (inside 1 ++ operands 0 0) select
+    ∷ forbidden 25 (inside 1 ++ operands 4 0) select
+    ∷ forbidden 25 (inside 1 ++ operands 8 0) setPermission
+    ∷ forbidden 25 (inside 1 ++ ((selector, 0) ∷ [])) setBase
+    ∷ forbidden 25 (inside 1 ++ ((selector, 0) ∷ [])) getBase
+    ∷ forbidden 25 (inside 1 ++ ((selector, 0) ∷ [])) setBound
+    ∷ forbidden 25 (inside 1 ++ ((selector, 0) ∷ [])) getBound
+    ∷ forbidden 25 (inside 1 ++ ((selector, 0) ∷ [])) setPermission
+    ∷ forbidden 25 (inside 1 ++ ((selector, 0) ∷ [])) getPermission
+    ∷ forbidden 25 (inside 1 ++ ((selector, 0) ∷ [])) reset
+    -- the handler asks for no selection: to set it is forbidden in HFI mode, to get it only when locked
+    ∷ forbidden 25 (inside 0 ++ ((selector, 0) ∷ [])) setHandler
+    ∷ forbidden 25 (inside 1 ++ ((selector, 0) ∷ [])) getHandler
+    ∷ goes (inside 0 ++ ((selector, 0) ∷ [])) getHandler ((x 6, 0x40) ∷ [])
+    ∷ goes (outside 1 ++ ((selector, 0) ∷ [])) getHandler ((x 6, 0x40) ∷ [])
+    -- unlocked, in HFI mode as outside it, operand and selection are asked alone
+    ∷ forbidden 14 (inside 0xe ++ operands 0 0) select
+    ∷ forbidden 14 (inside 0 ++ operands 4 0) select
+    ∷ forbidden 14 (inside 0 ++ operands 8 0) setPermission
+    ∷ forbidden 14 (inside 0 ++ ((selector, 0) ∷ [])) setBase
+    ∷ forbidden 14 (inside 0xe ++ ((selector, 0) ∷ [])) getBase
+    ∷ forbidden 14 (inside 0 ++ ((selector, 0) ∷ [])) setBound
+    ∷ forbidden 14 (inside 0xe ++ ((selector, 0) ∷ [])) getBound
+    ∷ forbidden 14 (inside 0 ++ ((selector, 0) ∷ [])) setPermission
+    ∷ forbidden 14 (inside 0xe ++ ((selector, 0) ∷ [])) getPermission
+    ∷ forbidden 14 (outside 1 ++ ((selector, 0) ∷ [])) getBase
+    ∷ forbidden 14 (outside 1 ++ operands 0 0) select
+    -- "Nothing else about these stops changes": in a run the stopping step isn't counted and changes nothing
+    ∷ runs (inside 0) (seven ∷ enter ∷ []) 9 23 1 0 ((pc, 4) ∷ (x 7, 7) ∷ [])
+    ∷ runs (outside 0) (seven ∷ exit ∷ []) 9 24 1 0 ((pc, 4) ∷ (x 7, 7) ∷ [])
+    ∷ runs (inside 1) (seven ∷ getHandler ∷ []) 9 25 1 0 ((pc, 4) ∷ (x 7, 7) ∷ [])
+    ∷ runs (outside 0) (seven ∷ hlb ∷ []) 9 14 1 0 ((pc, 4) ∷ (x 7, 7) ∷ [])
+    ∷ []
 
 unfoldable pub keeping : List Row
 keeping =
@@ -423,9 +474,8 @@ absent =
     -- a load into x0 asks as any other: hlb x0, 8(x0) and hlb x0, 0(x0)
     ∷ stepsOver (inside 0) (bytes (0x0080000b ∷ [])) 16 0 ((occurred, 1) ∷ (faultRegion, 1) ∷ (op, 1) ∷ (faulting, 0x18) ∷ [])
     ∷ stepsOver (inside 0) (bytes (0x0000000b ∷ [])) 17 0x10 []
-    -- "all others give 0 there", at a pc that is not 0: 13, 14, 15, and 16 by hlb x0, 8(x0)
+    -- "all others give 0 there", at a pc that is not 0: 13, 15, and 16 by hlb x0, 8(x0)
     ∷ runs (outside 0) (seven ∷ 0 ∷ []) 9 13 1 0 ((pc, 4) ∷ (x 7, 7) ∷ [])
-    ∷ runs (outside 0) (seven ∷ exit ∷ []) 9 14 1 0 ((pc, 4) ∷ (x 7, 7) ∷ [])
     ∷ runs (outside 0) (seven ∷ jal ∷ []) 9 15 1 0 ((pc, 4) ∷ (x 7, 7) ∷ [])
     ∷ runs (inside 0) (seven ∷ 0x0080000b ∷ []) 9 16 1 0 ((pc, 4) ∷ (x 7, 7) ∷ (occurred, 1) ∷ (faultRegion, 1) ∷ (op, 1) ∷ (faulting, 0x18) ∷ [])
     -- every byte is asked for its region before any for memory's end
@@ -505,10 +555,10 @@ forming =
     ∷ []
 
 abbrev pub rows : List Row
-rows = entering ++ leaving ++ locking ++ keeping ++ running-on ++ asking ++ operating ++ offsets ++ absent ++ going-on ++ forming
+rows = entering ++ leaving ++ locking ++ numbering ++ keeping ++ running-on ++ asking ++ operating ++ offsets ++ absent ++ going-on ++ forming
 
 pub clauses : found rows ≡ stated rows
-unfolding entering leaving locking keeping running-on asking operating offsets absent going-on forming trailingZeros sext lowHalf highHalf quotient remainder decodeWord matches explicitRule firstMatch implicitGrants explicitGrants explicitCovers writableCode exposesCode scan firstRefused firstAbsent verdict value written allowed aligned settle stateFits wellFormed hfiStop hWordStop hfiPerform load store jump branch perform executeWord step stepCall resumeCall runBy runCall
+unfolding entering leaving locking numbering keeping running-on asking operating offsets absent going-on forming trailingZeros sext lowHalf highHalf quotient remainder decodeWord matches explicitRule firstMatch implicitGrants explicitGrants explicitCovers writableCode exposesCode scan firstRefused firstAbsent verdict value written allowed aligned settle stateFits wellFormed hfiStop hfiPerform load store jump branch perform executeInstruction executeWord step stepCall resumeCall runBy runCall
 clauses = refl
 
 -- ---- resuming, of every machine: "it asks question 3 only"

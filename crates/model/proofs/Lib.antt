@@ -14,5 +14,7 @@ pub mod WritableCode
 pub mod Witness
 pub mod Runs
 pub mod Exposed
+pub mod Forbidden
+pub mod Broken
 pub mod Formed
 pub mod Moves

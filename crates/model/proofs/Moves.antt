@@ -9,7 +9,6 @@ use Prim.Native.Nat.{ℕ, _%_, _≤_}
 use native.Mathlib.Omega.{arith}
 use lib.Dec.{eqb, leb, ltb}
 use lib.ListN.{length}
-use borrow.Author.Tests.{eqb-true}
 use Rattle.instructions.specs.Decode.{decodeWord}
 use Rattle.instructions.specs.Encode.{inRange}
 use Rattle.instructions.specs.declared.kind.UpperKind.the-variants.{Lui, Auipc}
@@ -23,23 +22,25 @@ use Rattle.instructions.specs.declared.instruction.Decoded.{Decoded}
 use Rattle.instructions.specs.declared.instruction.Decoded.the-variants.{Legal, Illegal}
 use Rattle.instructions.proofs.RoundTrip.{decoded-range}
 use Rattle.instructions.proofs.Tests.{and-both}
-use Rattle.model.specs.Machine.{reg, setReg, bit, loadOp, storeOp, fetchOp, largestOptions, inside, locked, redirectsCalls, region, zeroRegions, entered, exited, machine, lastRegion}
-use Rattle.model.specs.Regions.{dataRegions, codeRegions, permissionFits, matches, firstMatch}
+use Rattle.model.specs.Machine.{reg, setReg, loadOp, storeOp, fetchOp, largestOptions, inside, locked, redirectsCalls, region, zeroRegions, entered, exited, machine, lastRegion}
+use Rattle.model.specs.Regions.{among, dataRegions, codeRegions, permissionFits, matches, firstMatch}
 use Rattle.model.specs.WellFormed.{wellFormed}
-use Rattle.model.specs.WritableCode.{writableCode, exposesCode}
+use Rattle.model.specs.WritableCode.{exposesCode}
 use Rattle.model.specs.Bytes.{value, written}
 use Rattle.model.specs.Access.{Access, verdict, fetchAccess, loadAccess, storeAccess, hloadAccess, hstoreAccess}
 use Rattle.model.specs.Reach.{Passes, Readable, Writable}
-use Rattle.model.specs.Outcome.{Outcome, outcome, allowed, aligned, faulted, settle}
+use Rattle.model.specs.Outcome.{Outcome, outcome, stopped, allowed, aligned, faulted, settle}
 use Rattle.model.specs.Arithmetic.{taken}
-use Rattle.model.specs.Hfi.{modeForbids, operandForbids, lockForbids, hfiStop, hWordStop, changed, hfiPerform}
-use Rattle.model.specs.Step.{load, store, jump, branch, perform, executeWord, step}
+use Rattle.model.specs.Hfi.{wordRules, hfiStop, changed, hfiPerform}
+use Rattle.model.specs.Step.{load, store, jump, branch, perform, executeInstruction, executeWord, step}
 use Rattle.model.specs.declared.Region.{Region}
 use Rattle.model.specs.declared.HfiState.{HfiState}
 use Rattle.model.specs.declared.Machine.{Machine}
 use Rattle.model.specs.declared.Verdict.{Verdict}
 use Rattle.model.specs.declared.Verdict.the-variants.{Passed, Refused, Absent}
+use Rattle.model.proofs.Forbidden.{every, isHfiStop, allowed-breaks-none, forbidden-numbered}
 use Rattle.model.proofs.Formed.{Good, good, formed, zero-kept, changed-fits, selected-fits, entered-fits, exited-fits, handler-fits, regions-fit, fault-fits}
+use Rattle.model.proofs.WritableCode.{or-second}
 use Rattle.model.proofs.Reach.{load-width, store-width, encodes}
 
 -- ---- the machine after a step
@@ -70,20 +71,24 @@ pub record Kept (m k : Machine) : Type 0 where
 
 -- ---- the answer of a step
 
--- a step's numbers: 1 to 4 are the calls' own, and 20 and 21 the run's
+-- the numbers of a step's other questions, and 0: 1 to 4 are the calls' own, and 20 and 21 the run's
+abbrev pub plainStops : List ℕ
+plainStops = 0 ∷ 10 ∷ 11 ∷ 12 ∷ 13 ∷ 15 ∷ 16 ∷ 17 ∷ 18 ∷ 19 ∷ []
+
+abbrev pub isPlain : ℕ → Bool
+isPlain stop = among stop plainStops
+
+-- a step's numbers
 abbrev pub isStop : ℕ → Bool
-isStop stop = eqb stop 0 || ((leb 10 stop && leb stop 19) || eqb stop 22)
+isStop stop = isPlain stop || isHfiStop stop
 
 -- "12 and 17 also give the first absent address .. all others give 0 there"
 abbrev pub isAddress : ℕ → ℕ → Bool
 isAddress stop at = eqb stop 12 || (eqb stop 17 || eqb at 0)
 
--- 22 is met outside HFI mode alone, and where a byte is both writable and executable
-abbrev pub isLocking : HfiState → ℕ → Bool
-isLocking h stop = not (eqb stop 22) || (not (inside h) && writableCode (h .regions))
-
-abbrev pub proper : HfiState → ℕ → ℕ → Bool
-proper h stop at = isStop stop && (isAddress stop at && isLocking h stop)
+-- a stop of the kind S, with its address
+abbrev pub proper : (ℕ → Bool) → ℕ → ℕ → Bool
+proper S stop at = S stop && isAddress stop at
 
 -- ---- what an instruction does, whatever memory it is done over
 
@@ -100,7 +105,7 @@ abbrev pub Writes : Machine → Access → Type 0
 Writes m a = Reaches a (Writable (m .hfi .regions))
 
 pub data Move (m : Machine) : Type 0 where
-  quiet : (stop at : ℕ) (k : Machine) → proper (m .hfi) stop at ≡ true → Kept m k → Move m
+  quiet : (stop at : ℕ) (k : Machine) → proper isPlain stop at ≡ true → Kept m k → Move m
   loads : (next : ℕ) (a : Access) (k : LoadKind) (rd : ℕ) → Reads m a → Move m
   stores : (next : ℕ) (a : Access) (v : ℕ) → Writes m a → Move m
 
@@ -178,7 +183,7 @@ module _ (m : Machine) where
 
   -- ---- the moves that there are
 
-  stop : (n : ℕ) → proper (m .hfi) n 0 ≡ true → Moves m (λ mem. outcome n 0 m mem)
+  stop : (n : ℕ) → proper isPlain n 0 ≡ true → Moves m (λ mem. outcome n 0 m mem)
   stop n p = record { move = Move.quiet n 0 m p same-kept; same = λ mem. refl }
 
   onward : (x : List ℕ) (pc : ℕ) → (reg (m .x) 0 ≡ 0 → reg x 0 ≡ 0) → Moves m (λ mem. outcome 0 0 (machine x pc (m .hfi)) mem)
@@ -191,73 +196,24 @@ module _ (m : Machine) where
   by-test true p q = let t = p refl in record { move = t .move; same = t .same }
   by-test false p q = let t = q refl in record { move = t .move; same = t .same }
 
-  allows : (n : ℕ) {f : List ℕ → Outcome} → proper (m .hfi) n 0 ≡ true → (eqb n 0 ≡ true → Moves m f) → Moves m (λ mem. allowed m mem n (f mem))
-  unfolding allowed
-  allows n p q = by-test (eqb n 0) q (λ e. stop n p)
-
   aligns : (target : ℕ) {f : List ℕ → Outcome} → Moves m f → Moves m (λ mem. aligned m mem target (f mem))
   unfolding aligned
   aligns target p = by-test (eqb (target % 4) 0) (λ e. p) (λ e. stop 15 refl)
 
 -- ---- the words of opcode 5b
 
--- question 8 and 22 let a word pass that neither the mode nor its operand forbids, nor the lock that it would begin
-permitted : (h : HfiState) (k : HfiKind) (a : ℕ) → eqb (hfiStop h k a) 0 ≡ true
-    → (modeForbids h k ≡ false) × (operandForbids h k a ≡ false) × (lockForbids h k a ≡ false)
-unfolding hfiStop
-permitted h k a e = go (modeForbids h k) (operandForbids h k a) (lockForbids h k a) _ _ _ (λ e. omega (arith, e)) (λ e. omega (arith, e)) (λ e. omega (arith, e)) e
-  where
-    go : (b c d : Bool) (p q r : ℕ) → (p ≡ 0 → ⊥) → (q ≡ 0 → ⊥) → (r ≡ 0 → ⊥) → eqb (cond b p (cond c q (cond d r 0))) 0 ≡ true
-        → (b ≡ false) × (c ≡ false) × (d ≡ false)
-    go true c d p q r f g h e = absurd (f (eqb-true p 0 e))
-    go false true d p q r f g h e = absurd (g (eqb-true q 0 e))
-    go false false true p q r f g h e = absurd (h (eqb-true r 0 e))
-    go false false false p q r f g h e = (refl, refl, refl)
-
--- a word that would begin a lock over writable code is an enter outside HFI mode, and the regions have the byte
-locks-outside : (h : HfiState) (k : HfiKind) (a : ℕ) → modeForbids h k ≡ false → lockForbids h k a ≡ true → (not (inside h) && writableCode (h .regions)) ≡ true
-unfolding exposesCode
-locks-outside h Enter a n l = rw n (and-both (bit 0 a) (writableCode (h .regions)) l .1)
-locks-outside h EnterJump a n l = rw n (and-both (bit 0 a) (writableCode (h .regions)) l .1)
-locks-outside h Exit a n l = absurd (clash refl l)
-locks-outside h SelectRegion a n l = absurd (clash refl l)
-locks-outside h SetBase a n l = absurd (clash refl l)
-locks-outside h GetBase a n l = absurd (clash refl l)
-locks-outside h SetBound a n l = absurd (clash refl l)
-locks-outside h GetBound a n l = absurd (clash refl l)
-locks-outside h SetPermission a n l = absurd (clash refl l)
-locks-outside h GetPermission a n l = absurd (clash refl l)
-locks-outside h SetHandler a n l = absurd (clash refl l)
-locks-outside h GetHandler a n l = absurd (clash refl l)
-locks-outside h ResetRegions a n l = absurd (clash refl l)
-
--- and what forbids a word gives a step's number
-stop-proper : (h : HfiState) (k : HfiKind) (a : ℕ) → proper h (hfiStop h k a) 0 ≡ true
-unfolding hfiStop
-stop-proper h k a = go (modeForbids h k) (operandForbids h k a) (lockForbids h k a) _ _ _ refl refl refl refl (locks-outside h k a)
-  where
-    go : (b c d : Bool) (p q r : ℕ) → lockForbids h k a ≡ d → proper h p 0 ≡ true → proper h q 0 ≡ true → (isStop r && isAddress r 0) ≡ true
-        → (b ≡ false → lockForbids h k a ≡ true → isLocking h r ≡ true) → proper h (cond b p (cond c q (cond d r 0))) 0 ≡ true
-    go true c d p q r l f g s t = f
-    go false true d p q r l f g s t = g
-    go false false true p q r l f g s t = let u = and-both (isStop r) (isAddress r 0) s in rw (u .0, u .1) (t refl l)
-    go false false false p q r l f g s t = refl
-
-h-word-proper : (h : HfiState) → proper h (hWordStop h) 0 ≡ true
-unfolding hWordStop
-h-word-proper h = go (inside h) _ refl
-  where
-    go : (b : Bool) (p : ℕ) → proper h p 0 ≡ true → proper h (cond b 0 p) 0 ≡ true
-    go true p f = refl
-    go false p f = f
-
-neither : (a b : Bool) → (a || b) ≡ false → (a ≡ false) × (b ≡ false)
-neither true b e = absurd (clash e refl)
-neither false b e = (refl, e)
+-- a rule that is not broken is kept
+kept-rule : (b : Bool) → not b ≡ true → b ≡ false
+kept-rule true e = sym e
+kept-rule false e = refl
 
 not-not : (b : Bool) → not b ≡ false → b ≡ true
 not-not true e = refl
 not-not false e = sym e
+
+-- the first rule of a list that are all kept, and the rest
+kept-first : (b c : Bool) → (not b && c) ≡ true → (b ≡ false) × (c ≡ true)
+kept-first b c e = let p = and-both (not b) c e in (kept-rule b (p .0), p .1)
 
 module _ (m : Machine) where
   -- a word that changes the state outside a lock: mode and options are as they were
@@ -315,29 +271,47 @@ module _ (m : Machine) where
         same = λ mem. refl;
       }
 
-  hfi-moves : (next : ℕ) (k : HfiKind) (rd rs1 rs2 : ℕ) → modeForbids (m .hfi) k ≡ false → operandForbids (m .hfi) k (reg (m .x) rs1) ≡ false
-      → lockForbids (m .hfi) k (reg (m .x) rs1) ≡ false → Moves m (λ mem. hfiPerform m mem next k rd rs1 rs2)
+  -- the rules of an enter, and of a word that sets a part of the selected region
+  enter-moves : (pc a : ℕ) → every (λ rule. not (rule .0)) (wordRules (m .hfi) Enter a) ≡ true → Moves m (λ mem. outcome 0 0 (machine (m .x) pc (entered (m .hfi) a)) mem)
+  enter-moves pc a e =
+      let p = kept-first (inside (m .hfi)) _ e in
+      let q = kept-first (ltb largestOptions a) _ (p .1) in
+      entering pc a (p .0) (q .0) (kept-first (exposesCode (entered (m .hfi) a)) true (q .1) .0)
+
+  set-moves : (pc : ℕ) (r : Region) → every (λ rule. not (rule .0)) (wordRules (m .hfi) SetBase 0) ≡ true
+      → (Good m → eqb (m .hfi .selector) 0 ≡ false → permissionFits (m .hfi .selector) (r .permission) ≡ true)
+      → Moves m (λ mem. outcome 0 0 (machine (m .x) pc (changed (m .hfi) r)) mem)
+  set-moves pc r e f =
+      let p = kept-first (locked (m .hfi)) _ e in
+      let s = kept-first (eqb (m .hfi .selector) 0) true (p .1) .0 in
+      changes pc r (p .0) s (λ g. f g s)
+
+  -- the words that HFI allows
+  hfi-moves : (next : ℕ) (k : HfiKind) (rd rs1 rs2 : ℕ) → every (λ rule. not (rule .0)) (wordRules (m .hfi) k (reg (m .x) rs1)) ≡ true
+      → Moves m (λ mem. hfiPerform m mem next k rd rs1 rs2)
   unfolding hfiPerform
-  hfi-moves next Enter rd rs1 rs2 n e c = entering next (reg (m .x) rs1) n e c
-  hfi-moves next EnterJump rd rs1 rs2 n e c = aligns m (reg (m .x) rs2) (entering (reg (m .x) rs2) (reg (m .x) rs1) n e c)
-  hfi-moves next Exit rd rs1 rs2 n e c = leaving _ 1 (not-not _ n) refl
-  hfi-moves next SelectRegion rd rs1 rs2 n e c =
+  hfi-moves next Enter rd rs1 rs2 e = enter-moves next (reg (m .x) rs1) e
+  hfi-moves next EnterJump rd rs1 rs2 e = aligns m (reg (m .x) rs2) (enter-moves (reg (m .x) rs2) (reg (m .x) rs1) e)
+  hfi-moves next Exit rd rs1 rs2 e = leaving _ 1 (not-not _ (kept-first _ true e .0)) refl
+  hfi-moves next SelectRegion rd rs1 rs2 e =
       let a = reg (m .x) rs1 in
-      unlocked next _ n refl refl
-      (λ g. record { zero = g .zero; state = regions-fit (m .hfi) (g .state) a (m .hfi .regions) (and-both (leb 1 a) (leb a lastRegion) (not-not _ e) .1) (g .state .permissions) })
-  hfi-moves next SetBase rd rs1 rs2 n e c = changes next _ n e (λ g. selected-fits (m .hfi) (g .state) e)
-  hfi-moves next GetBase rd rs1 rs2 n e c = assigns m next rd _
-  hfi-moves next SetBound rd rs1 rs2 n e c = changes next _ n e (λ g. selected-fits (m .hfi) (g .state) e)
-  hfi-moves next GetBound rd rs1 rs2 n e c = assigns m next rd _
-  hfi-moves next SetPermission rd rs1 rs2 n e c =
-      let p = neither (eqb (m .hfi .selector) 0) _ e in
-      changes next _ n (p .0) (λ g. not-not _ (p .1))
-  hfi-moves next GetPermission rd rs1 rs2 n e c = assigns m next rd _
-  hfi-moves next SetHandler rd rs1 rs2 n e c =
-      unlocked next _ (outside n) refl refl (λ g. record { zero = g .zero; state = handler-fits (m .hfi) (g .state) (reg (m .x) rs1) })
-  hfi-moves next GetHandler rd rs1 rs2 n e c = assigns m next rd _
-  hfi-moves next ResetRegions rd rs1 rs2 n e c =
-      unlocked next _ n refl refl (λ g. record { zero = g .zero; state = regions-fit (m .hfi) (g .state) 0 zeroRegions refl refl })
+      let p = kept-first _ _ e in
+      unlocked next _ (p .0) refl refl
+      (λ g. record { zero = g .zero; state = regions-fit (m .hfi) (g .state) a (m .hfi .regions) (and-both (leb 1 a) (leb a lastRegion) (not-not _ (kept-first _ true (p .1) .0)) .1) (g .state .permissions) })
+  hfi-moves next SetBase rd rs1 rs2 e = set-moves next _ e (λ g s. selected-fits (m .hfi) (g .state) s)
+  hfi-moves next GetBase rd rs1 rs2 e = assigns m next rd _
+  hfi-moves next SetBound rd rs1 rs2 e = set-moves next _ e (λ g s. selected-fits (m .hfi) (g .state) s)
+  hfi-moves next GetBound rd rs1 rs2 e = assigns m next rd _
+  hfi-moves next SetPermission rd rs1 rs2 e =
+      let p = kept-first (locked (m .hfi)) _ e in
+      let q = kept-first (eqb (m .hfi .selector) 0) _ (p .1) in
+      changes next _ (p .0) (q .0) (λ g. not-not _ (kept-first _ true (q .1) .0))
+  hfi-moves next GetPermission rd rs1 rs2 e = assigns m next rd _
+  hfi-moves next SetHandler rd rs1 rs2 e =
+      unlocked next _ (outside (kept-first _ true e .0)) refl refl (λ g. record { zero = g .zero; state = handler-fits (m .hfi) (g .state) (reg (m .x) rs1) })
+  hfi-moves next GetHandler rd rs1 rs2 e = assigns m next rd _
+  hfi-moves next ResetRegions rd rs1 rs2 e =
+      unlocked next _ (kept-first _ true e .0) refl refl (λ g. record { zero = g .zero; state = regions-fit (m .hfi) (g .state) 0 zeroRegions refl refl })
 
   -- ---- the instructions
 
@@ -347,50 +321,60 @@ module _ (m : Machine) where
   storing : (next : ℕ) (a : Access) (v : ℕ) → Writes m a → Moves m (λ mem. store m mem next a v)
   storing next a v w = record { move = Move.stores next a v w; same = λ mem. refl }
 
-  pub perform-moves : (next : ℕ) (i : Instruction) → inRange i ≡ true → Moves m (λ mem. perform m mem next i)
+  pub perform-moves : (next : ℕ) (i : Instruction) → inRange i ≡ true → eqb (hfiStop m i) 0 ≡ true → Moves m (λ mem. perform m mem next i)
   unfolding perform jump branch
-  perform-moves next (Upper Lui rd imm) h = assigns m next rd _
-  perform-moves next (Upper Auipc rd imm) h = assigns m next rd _
-  perform-moves next (Jal rd offset) h = aligns m _ (assigns m _ rd next)
-  perform-moves next (Jalr rd rs1 imm) h = aligns m _ (assigns m _ rd next)
-  perform-moves next (Branch k rs1 rs2 offset) h =
-      by-test m (taken k (reg (m .x) rs1) (reg (m .x) rs2)) (λ e. aligns m _ (onward m (m .x) _ (λ z. z))) (λ e. onward m (m .x) next (λ z. z))
-  perform-moves next (Load k rd rs1 imm) h =
+  perform-moves next (Upper Lui rd imm) h e = assigns m next rd _
+  perform-moves next (Upper Auipc rd imm) h e = assigns m next rd _
+  perform-moves next (Jal rd offset) h e = aligns m _ (assigns m _ rd next)
+  perform-moves next (Jalr rd rs1 imm) h e = aligns m _ (assigns m _ rd next)
+  perform-moves next (Branch k rs1 rs2 offset) h e =
+      by-test m (taken k (reg (m .x) rs1) (reg (m .x) rs2)) (λ t. aligns m _ (onward m (m .x) _ (λ z. z))) (λ t. onward m (m .x) next (λ z. z))
+  perform-moves next (Load k rd rs1 imm) h e =
       loading next (loadAccess (m .hfi .regions) (m .x) k rs1 imm) k rd
       (record { few = load-width k; reach = λ b p. Readable.byLoad _ (m .x) k rd rs1 imm (encodes _ h) p; numbered = λ i. match-numbered _ dataRegions _ refl })
-  perform-moves next (Store k rs1 rs2 imm) h =
+  perform-moves next (Store k rs1 rs2 imm) h e =
       storing next (storeAccess (m .hfi .regions) (m .x) k rs1 imm) _
       (record { few = store-width k; reach = λ b p. Writable.byStore _ (m .x) k rs1 rs2 imm (encodes _ h) p; numbered = λ i. match-numbered _ dataRegions _ refl })
-  perform-moves next (Immediate k rd rs1 imm) h = assigns m next rd _
-  perform-moves next (Shift k rd rs1 amount) h = assigns m next rd _
-  perform-moves next (Addiw rd rs1 imm) h = assigns m next rd _
-  perform-moves next (ShiftWord k rd rs1 amount) h = assigns m next rd _
-  perform-moves next (Register k rd rs1 rs2) h = assigns m next rd _
-  perform-moves next (RegisterWord k rd rs1 rs2) h = assigns m next rd _
-  perform-moves next (Fence fm pred succ rs1 rd) h = onward m (m .x) next (λ z. z)
-  perform-moves next (System Ecall) h =
-      by-test m (redirectsCalls (m .hfi)) (λ e. leaving _ 2 (calls-inside (m .hfi) e) refl) (λ e. stop m 18 refl)
-  perform-moves next (System Ebreak) h = stop m 19 refl
-  perform-moves next (HLoad k rd rs1 imm) h =
-      allows m _ (h-word-proper (m .hfi)) (λ e.
+  perform-moves next (Immediate k rd rs1 imm) h e = assigns m next rd _
+  perform-moves next (Shift k rd rs1 amount) h e = assigns m next rd _
+  perform-moves next (Addiw rd rs1 imm) h e = assigns m next rd _
+  perform-moves next (ShiftWord k rd rs1 amount) h e = assigns m next rd _
+  perform-moves next (Register k rd rs1 rs2) h e = assigns m next rd _
+  perform-moves next (RegisterWord k rd rs1 rs2) h e = assigns m next rd _
+  perform-moves next (Fence fm pred succ rs1 rd) h e = onward m (m .x) next (λ z. z)
+  perform-moves next (System Ecall) h e =
+      by-test m (redirectsCalls (m .hfi)) (λ t. leaving _ 2 (calls-inside (m .hfi) t) refl) (λ t. stop m 18 refl)
+  perform-moves next (System Ebreak) h e = stop m 19 refl
+  perform-moves next (HLoad k rd rs1 imm) h e =
       loading next (hloadAccess (m .hfi .regions) (m .x) k rs1 imm) k rd
-      (record { few = load-width k; reach = λ b p. Readable.byHLoad _ (m .x) k rd rs1 imm (encodes _ h) p; numbered = λ i. refl }))
-  perform-moves next (HStore k rs1 rs2 imm) h =
-      allows m _ (h-word-proper (m .hfi)) (λ e.
+      (record { few = load-width k; reach = λ b p. Readable.byHLoad _ (m .x) k rd rs1 imm (encodes _ h) p; numbered = λ i. refl })
+  perform-moves next (HStore k rs1 rs2 imm) h e =
       storing next (hstoreAccess (m .hfi .regions) (m .x) k rs1 imm) _
-      (record { few = store-width k; reach = λ b p. Writable.byHStore _ (m .x) k rs1 rs2 imm (encodes _ h) p; numbered = λ i. refl }))
-  perform-moves next (Hfi k rd rs1 rs2) h =
-      let a = reg (m .x) rs1 in
-      allows m _ (stop-proper (m .hfi) k a) (λ e. let p = permitted (m .hfi) k a e in hfi-moves next k rd rs1 rs2 (p .0) (p .1) (p .2))
+      (record { few = store-width k; reach = λ b p. Writable.byHStore _ (m .x) k rs1 rs2 imm (encodes _ h) p; numbered = λ i. refl })
+  perform-moves next (Hfi k rd rs1 rs2) h e = hfi-moves next k rd rs1 rs2 (allowed-breaks-none m (Hfi k rd rs1 rs2) e)
+
+-- what a word does, whatever memory it is done over: any stop of question 8, which leaves all as it was, or a move
+pub data Word (m : Machine) (f : List ℕ → Outcome) : Type 0 where
+  forbidden : (stop : ℕ) → isHfiStop stop ≡ true → ((mem : List ℕ) → f mem ≡ stopped stop m mem) → Word m f
+  moves : Moves m f → Word m f
+
+module _ (m : Machine) where
+  pub instruction-moves : (next : ℕ) (i : Instruction) → inRange i ≡ true → Word m (λ mem. executeInstruction m mem next i)
+  unfolding executeInstruction allowed
+  instruction-moves next i h = go (eqb (hfiStop m i) 0) refl
+    where
+      go : (b : Bool) → eqb (hfiStop m i) 0 ≡ b → Word m (λ mem. cond b (perform m mem next i) (stopped (hfiStop m i) m mem))
+      go true e = Word.moves (let p = perform-moves m next i h e in record { move = p .move; same = p .same })
+      go false e = Word.forbidden (hfiStop m i) (forbidden-numbered m i e) (λ mem. refl)
 
   -- a word's instruction is in range
-  pub word-moves : (w : ℕ) → Moves m (λ mem. executeWord m mem (decodeWord w))
+  pub word-moves : (w : ℕ) → Word m (λ mem. executeWord m mem (decodeWord w))
   unfolding executeWord
   word-moves w = go (decodeWord w) refl
     where
-      go : (d : Decoded) → decodeWord w ≡ d → Moves m (λ mem. executeWord m mem d)
-      go (Legal i) e = perform-moves _ i (decoded-range w i e)
-      go Illegal e = stop m 13 refl
+      go : (d : Decoded) → decodeWord w ≡ d → Word m (λ mem. executeWord m mem d)
+      go (Legal i) e = instruction-moves _ i (decoded-range w i e)
+      go Illegal e = Word.moves (stop m 13 refl)
 
 -- ---- the law
 
@@ -402,10 +386,10 @@ pub record Stored (m : Machine) (before after : List ℕ) : Type 0 where
   pub passed : verdict (m .hfi .mode) (length before) access ≡ Passed
   pub bytes : after ≡ written before (access .first) 0 (access .count) stored
 
--- what a step from m over a memory can do
-pub record Does (m : Machine) (mem : List ℕ) (o : Outcome) : Type 0 where
+-- what a step from m over a memory can do, with a stop of the kind S
+pub record Does (S : ℕ → Bool) (m : Machine) (mem : List ℕ) (o : Outcome) : Type 0 where
   pub kept : Kept m (o .result .machine)
-  pub stop : proper (m .hfi) (o .result .stop) (o .result .address) ≡ true
+  pub stop : proper S (o .result .stop) (o .result .address) ≡ true
   pub memory : (o .memory ≡ mem) ⊎ Stored m mem (o .memory)
 
 -- the fault region of a verdict
@@ -424,14 +408,14 @@ faults mode length a h = go (ltb _ (a .count)) (ltb _ (a .count)) _ _ (a .faultR
     go false false x y r e = tt
 
 module _ (m : Machine) (mem : List ℕ) where
-  settles : (op refused absent : ℕ) (v : Verdict) (o : Outcome) → leb op fetchOp ≡ true → proper (m .hfi) refused 0 ≡ true → ((at : ℕ) → proper (m .hfi) absent at ≡ true)
-      → Faults v → (v ≡ Passed → Does m mem o) → Does m mem (settle m mem op refused absent v o)
+  settles : {S : ℕ → Bool} (op refused absent : ℕ) (v : Verdict) (o : Outcome) → leb op fetchOp ≡ true → proper S refused 0 ≡ true → ((at : ℕ) → proper S absent at ≡ true)
+      → Faults v → (v ≡ Passed → Does S m mem o) → Does S m mem (settle m mem op refused absent v o)
   unfolding settle
   settles op refused absent (Refused at region) o l p q f d = record { kept = faulted-kept m op at region l f; stop = p; memory = inl refl }
   settles op refused absent (Absent at) o l p q f d = record { kept = same-kept m; stop = q at; memory = inl refl }
   settles op refused absent Passed o l p q f d = d refl
 
-  enacted : (v : Move m) → Does m mem (enact m mem v)
+  enacted : (v : Move m) → Does isPlain m mem (enact m mem v)
   unfolding load store
   enacted (Move.quiet stop at k p c) = record { kept = c; stop = p; memory = inl refl }
   enacted (Move.loads next a k rd r) =
@@ -441,18 +425,34 @@ module _ (m : Machine) (mem : List ℕ) where
       settles storeOp 16 17 _ _ refl refl (λ at. refl) (faults (m .hfi .mode) (length mem) a (w .numbered))
       (λ e. record { kept = still m (m .x) next (λ z. z); stop = refl; memory = inr (record { access = a; stored = v; may = w; passed = e; bytes = refl }) })
 
-  does : {f : List ℕ → Outcome} → Moves m f → Does m mem (f mem)
+  does : {f : List ℕ → Outcome} → Moves m f → Does isPlain m mem (f mem)
   does p = rw (p .same mem) (enacted (p .move))
 
-  pub step-does : Does m mem (step m mem)
+  -- an instruction that HFI allows has none of the stops of question 8
+  pub perform-plain : (next : ℕ) (i : Instruction) → inRange i ≡ true → eqb (hfiStop m i) 0 ≡ true → isPlain (perform m mem next i .result .stop) ≡ true
+  perform-plain next i h e = and-both (isPlain (perform m mem next i .result .stop)) _ (does (perform-moves m next i h e) .stop) .0
+
+  any-stop : {o : Outcome} → Does isPlain m mem o → Does isStop m mem o
+  any-stop {o} d =
+      let p = and-both (isPlain (o .result .stop)) _ (d .stop) in
+      record { kept = d .kept; stop = rw (p .0) (p .1); memory = d .memory }
+
+  word-does : {f : List ℕ → Outcome} → Word m f → Does isStop m mem (f mem)
+  word-does (Word.forbidden n h same) = rw (same mem) (record { kept = same-kept m; stop = rw (or-second (isPlain n) (isHfiStop n) h) (no-address n); memory = inl refl })
+    where
+      no-address : (n : ℕ) → isAddress n 0 ≡ true
+      no-address n = or-second (eqb n 12) _ (or-second (eqb n 17) true refl)
+  word-does (Word.moves p) = any-stop (does p)
+
+  pub step-does : Does isStop m mem (step m mem)
   unfolding step
   step-does = go (eqb (m .pc % 4) 0)
     where
-      fetched : Does m mem (settle m mem fetchOp 11 12 (verdict (m .hfi .mode) (length mem) (fetchAccess (m .hfi .regions) (m .pc))) (executeWord m mem (decodeWord (value mem (m .pc) 0 4))))
+      fetched : Does isStop m mem (settle m mem fetchOp 11 12 (verdict (m .hfi .mode) (length mem) (fetchAccess (m .hfi .regions) (m .pc))) (executeWord m mem (decodeWord (value mem (m .pc) 0 4))))
       fetched =
           settles fetchOp 11 12 _ _ refl refl (λ at. refl) (faults (m .hfi .mode) (length mem) _ (λ i. match-numbered _ codeRegions _ refl))
-          (λ e. does (word-moves m (value mem (m .pc) 0 4)))
+          (λ e. word-does (word-moves m (value mem (m .pc) 0 4)))
 
-      go : (b : Bool) → Does m mem (cond b (settle m mem fetchOp 11 12 (verdict (m .hfi .mode) (length mem) (fetchAccess (m .hfi .regions) (m .pc))) (executeWord m mem (decodeWord (value mem (m .pc) 0 4)))) (outcome 10 0 m mem))
+      go : (b : Bool) → Does isStop m mem (cond b (settle m mem fetchOp 11 12 (verdict (m .hfi .mode) (length mem) (fetchAccess (m .hfi .regions) (m .pc))) (executeWord m mem (decodeWord (value mem (m .pc) 0 4)))) (outcome 10 0 m mem))
       go true = fetched
-      go false = does (stop m 10 refl)
+      go false = any-stop (does (stop m 10 refl))

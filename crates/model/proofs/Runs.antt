@@ -6,9 +6,9 @@ use mathlib.Core.List.{List}
 use mathlib.Core.Logic.{_⊎_, inl, inr}
 use Prim.Native.Nat.{ℕ, zero, suc, _+_, _-_, _<_, _≤_}
 use native.Mathlib.Omega.{arith}
-use lib.Dec.{eqb, leb, ltb, lit≤}
+use lib.Dec.{eqb, ltb, lit≤}
 use lib.ListN.{length, getD}
-use borrow.Author.Tests.{eqb-true, eq-eqb, ne-eqb, eqb-false, leb-true, not-true}
+use borrow.Author.Tests.{eqb-true, eq-eqb, ne-eqb, eqb-false, ltb-true, not-true}
 use Rattle.instructions.proofs.Tests.{and-both}
 use Rattle.model.specs.Machine.{inside, locked}
 use Rattle.model.specs.WellFormed.{wellFormed}
@@ -22,7 +22,8 @@ use Rattle.model.specs.declared.Machine.{Machine}
 use Rattle.model.proofs.Bytes.{length-written, written-other}
 use Rattle.model.proofs.Cleared.{passing}
 use Rattle.model.proofs.WritableCode.{either, not-both}
-use Rattle.model.proofs.Moves.{Settings, settings, Stored, clash, isStop, isAddress, isLocking, step-does}
+use Rattle.model.proofs.Forbidden.{every, of-each, hfiStops, isHfiStop}
+use Rattle.model.proofs.Moves.{Settings, settings, Stored, clash, plainStops, isPlain, isStop, isAddress, step-does}
 
 -- ---- for the loop
 
@@ -88,7 +89,7 @@ module _ (began : Bool) (Q : ℕ → ℕ → Machine → List ℕ → Ended → 
         go false q c d h = stops n k m mem (eqb-false _ 0 q)
 
 -- what holds of a refusal and of the run holds of the call
-pub call-ind : (Q : Ended → Type 0) (m : Machine) (mem : List ℕ) (budget : ℕ) → ((stop : ℕ) → 1 ≤ stop → stop ≤ 4 → Q (ended stop 0 0 m mem))
+call-ind : (Q : Ended → Type 0) (m : Machine) (mem : List ℕ) (budget : ℕ) → ((stop : ℕ) → 1 ≤ stop → stop ≤ 4 → Q (ended stop 0 0 m mem))
     → (wellFormed m ≡ true → exposesCode (m .hfi) ≡ false → Q (run (inside (m .hfi)) budget 0 m mem)) → Q (runCall m mem budget)
 unfolding runCall
 call-ind Q m mem budget refused r = go (ltb longest (length mem)) (ltb largestBudget budget) (wellFormed m) (exposesCode (m .hfi)) refl refl
@@ -120,54 +121,46 @@ never-zero m mem budget =
     run-ind (inside (m .hfi)) (λ n k l mem e. e .result .stop ≡ 0 → ⊥) (λ k l mem e. omega (arith, e)) (λ n k l mem q. q)
     (λ n k l mem e. omega (arith, e)) (λ n k l mem e i h. h) budget 0 m mem)
 
--- what a step can answer: its number, its address, and where 22 is met
+-- what a step can answer: its number and its address
 module _ (m : Machine) (mem : List ℕ) where
   abbrev stop : ℕ
   stop = step m mem .result .stop
 
-  proper-parts : (isStop stop ≡ true) × (isAddress stop (step m mem .result .address) ≡ true) × (isLocking (m .hfi) stop ≡ true)
-  proper-parts =
-      let p = and-both (isStop stop) _ (step-does m mem .stop) in
-      let q = and-both (isAddress stop (step m mem .result .address)) (isLocking (m .hfi) stop) (p .1) in
-      (p .0, q .0, q .1)
+  proper-parts : (isStop stop ≡ true) × (isAddress stop (step m mem .result .address) ≡ true)
+  proper-parts = and-both (isStop stop) _ (step-does m mem .stop)
 
-  pub step-number : (stop ≡ 0) ⊎ (((10 ≤ stop) × (stop ≤ 19)) ⊎ (stop ≡ 22))
-  step-number = first (either (eqb stop 0) _ (proper-parts .0))
+  -- a number of its other questions, or any stop of question 8
+  pub step-number : (isPlain stop ≡ true) ⊎ (isHfiStop stop ≡ true)
+  step-number = either (isPlain stop) (isHfiStop stop) (proper-parts .0)
+
+  -- so what holds of all those numbers holds of it
+  of-its-own : (p : ℕ → Bool) → every p plainStops ≡ true → every p hfiStops ≡ true → p stop ≡ true
+  of-its-own p f g = go step-number
     where
-      second : ((leb 10 stop && leb stop 19) ≡ true) ⊎ (eqb stop 22 ≡ true) → (stop ≡ 0) ⊎ (((10 ≤ stop) × (stop ≤ 19)) ⊎ (stop ≡ 22))
-      second (inl t) = let u = and-both (leb 10 stop) (leb stop 19) t in inr (inl (leb-true 10 stop (u .0), leb-true stop 19 (u .1)))
-      second (inr t) = inr (inr (eqb-true stop 22 t))
-
-      first : (eqb stop 0 ≡ true) ⊎ (((leb 10 stop && leb stop 19) || eqb stop 22) ≡ true) → (stop ≡ 0) ⊎ (((10 ≤ stop) × (stop ≤ 19)) ⊎ (stop ≡ 22))
-      first (inl t) = inl (eqb-true stop 0 t)
-      first (inr t) = second (either (leb 10 stop && leb stop 19) _ t)
+      go : (isPlain stop ≡ true) ⊎ (isHfiStop stop ≡ true) → p stop ≡ true
+      go (inl e) = of-each p plainStops stop f e
+      go (inr e) = of-each p hfiStops stop g e
 
   -- "all others give 0 there"
   pub step-address : (stop ≡ 12 → ⊥) → (stop ≡ 17 → ⊥) → step m mem .result .address ≡ 0
   step-address p q = eqb-true _ 0 (rw (ne-eqb stop 12 p, ne-eqb stop 17 q) at (proper-parts .1))
 
-  pub step-locking : stop ≡ 22 → (inside (m .hfi) ≡ false) × (writableCode (m .hfi .regions) ≡ true)
-  step-locking e =
-      let t = and-both (not (inside (m .hfi))) (writableCode (m .hfi .regions)) (rw (eq-eqb stop 22 e) at (proper-parts .2)) in
-      (not-true (inside (m .hfi)) (t .0), t .1)
-
   pub no-address : stop ≡ 0 → step m mem .result .address ≡ 0
   no-address e = step-address (λ f. omega (arith, e, f)) (λ f. omega (arith, e, f))
 
-  -- so it is none of the calls' own numbers, nor the run's 21
-  among-its-own : {X : Type 0} → (stop ≡ 0 → X) → (10 ≤ stop → stop ≤ 19 → X) → (stop ≡ 22 → X) → X
-  among-its-own {X} f g h = go step-number
-    where
-      go : (stop ≡ 0) ⊎ (((10 ≤ stop) × (stop ≤ 19)) ⊎ (stop ≡ 22)) → X
-      go (inl e) = f e
-      go (inr (inl t)) = g (t .0) (t .1)
-      go (inr (inr e)) = h e
-
+  -- it is none of the calls' own numbers, nor the run's 20 and 21
   pub step-not-refused : 1 ≤ stop → stop ≤ 4 → ⊥
-  step-not-refused l u = among-its-own (λ e. omega (arith, e, l)) (λ a b. omega (arith, a, u)) (λ e. omega (arith, e, u))
+  step-not-refused l u = go (either (eqb stop 0) (ltb 4 stop) (of-its-own (λ n. eqb n 0 || ltb 4 n) refl refl))
+    where
+      go : (eqb stop 0 ≡ true) ⊎ (ltb 4 stop ≡ true) → ⊥
+      go (inl e) = let z = eqb-true stop 0 e in omega (arith, z, l)
+      go (inr e) = let z = ltb-true 4 stop e in omega (arith, z, u)
+
+  pub not-left : stop ≡ 20 → ⊥
+  not-left q = eqb-false stop 20 (not-true (eqb stop 20) (of-its-own (λ n. not (eqb n 20)) refl refl)) q
 
   not-spent : stop ≡ 21 → ⊥
-  not-spent q = among-its-own (λ e. omega (arith, e, q)) (λ a b. omega (arith, b, q)) (λ e. omega (arith, e, q))
+  not-spent q = eqb-false stop 21 (not-true (eqb stop 21) (of-its-own (λ n. not (eqb n 21)) refl refl)) q
 
 -- a run that is made answers none of the numbers by which a call is refused
 pub run-not-refused : (began : Bool) (n k : ℕ) (m : Machine) (mem : List ℕ) → 1 ≤ run began n k m mem .result .stop → run began n k m mem .result .stop ≤ 4 → ⊥
@@ -233,10 +226,10 @@ pub run-options : (m : Machine) (mem : List ℕ) (budget : ℕ) → inside (m .h
 run-options m mem budget on =
     run-keeps m (λ l s. l .hfi .options ≡ m .hfi .options) (λ l s i e. step-does l s .kept .options (i on) ∙ e) mem budget refl
 
--- nor does a locked machine's regions, options, handler or selector
 pub is-locked : (m : Machine) → Locked m → locked (m .hfi) ≡ true
 is-locked m k = rw (eq-eqb _ 1 (k .mode)) (eq-eqb _ _ (k .lock))
 
+-- nor do a locked machine's regions, options, handler or selector
 pub step-settings : (m : Machine) (mem : List ℕ) → Locked m → settings (step m mem .result .machine) ≡ settings m
 step-settings m mem k = step-does m mem .kept .lock (is-locked m k)
 

@@ -15,11 +15,11 @@ use Rattle.model.specs.Machine.{bit, region}
 use Rattle.model.specs.Bytes.{value, written}
 use Rattle.model.specs.Outcome.{allowed, settle}
 use Rattle.model.specs.WellFormed.{stateFits, wellFormed}
-use Rattle.model.specs.Hfi.{hfiStop, hWordStop, hfiPerform}
+use Rattle.model.specs.Hfi.{hfiStop, hfiPerform}
 use Rattle.model.specs.Regions.{read, execute, dataRegions, codeRegions, explicitRule, matches, firstMatch, implicitGrants, explicitGrants}
 use Rattle.model.specs.WritableCode.{explicitCovers, writableCode, exposesCode}
 use Rattle.model.specs.Access.{scan, firstRefused, firstAbsent, verdict}
-use Rattle.model.specs.Step.{load, store, perform, executeWord, step}
+use Rattle.model.specs.Step.{load, store, perform, executeInstruction, executeWord, step}
 use Rattle.model.specs.Run.{runBy, runCall}
 use Rattle.model.specs.Reach.{Readable, Writable}
 use Rattle.model.specs.Isolation.{Locked, Agree}
@@ -98,7 +98,7 @@ abbrev rows : List Row
 rows = (running guest one 9, answer one) ∷ (running guest two 9, answer two) ∷ []
 
 pub runs-done : found rows ≡ stated rows
-unfolding trailingZeros sext decodeWord matches explicitRule firstMatch implicitGrants explicitGrants explicitCovers writableCode exposesCode scan firstRefused firstAbsent verdict value written allowed settle stateFits wellFormed hfiStop hWordStop hfiPerform load store perform executeWord step runBy runCall
+unfolding trailingZeros sext decodeWord matches explicitRule firstMatch implicitGrants explicitGrants explicitCovers writableCode exposesCode scan firstRefused firstAbsent verdict value written allowed settle stateFits wellFormed hfiStop hfiPerform load store perform executeInstruction executeWord step runBy runCall
 runs-done = refl
 
 -- ---- what h-words reach, of a region of 2^24 bytes from 10000 on and no other: with the permission all of it, and nothing else

@@ -36,7 +36,7 @@ either false c e = inr e
 or-first : (b c : Bool) → b ≡ true → (b || c) ≡ true
 or-first b c e = rw e refl
 
-or-second : (b c : Bool) → c ≡ true → (b || c) ≡ true
+pub or-second : (b c : Bool) → c ≡ true → (b || c) ≡ true
 or-second true c e = refl
 or-second false c e = e
 

@@ -11,11 +11,11 @@ use Rattle.instructions.specs.Decode.{decodeWord}
 use Rattle.model.specs.Bytes.{value, written}
 use Rattle.model.specs.Outcome.{allowed, aligned, settle}
 use Rattle.model.specs.WellFormed.{stateFits, wellFormed}
-use Rattle.model.specs.Hfi.{hfiStop, hWordStop, hfiPerform}
+use Rattle.model.specs.Hfi.{hfiStop, hfiPerform}
 use Rattle.model.specs.Regions.{explicitRule, matches, firstMatch, implicitGrants, explicitGrants}
 use Rattle.model.specs.WritableCode.{explicitCovers, writableCode, exposesCode}
 use Rattle.model.specs.Access.{scan, firstRefused, firstAbsent, verdict}
-use Rattle.model.specs.Step.{load, store, perform, executeWord, step, stepCall, resumeCall}
+use Rattle.model.specs.Step.{load, store, perform, executeInstruction, executeWord, step, stepCall, resumeCall}
 use Rattle.model.specs.Run.{runBy, runCall}
 use Rattle.model.specs.declared.Region.{Region}
 use Rattle.model.proofs.Rows.{Row, found, stated, x, pc, mode, options, selector, base, bound, permission, occurred, regionOf, bytes}
@@ -136,13 +136,13 @@ asking =
     ∷ goes (outside 1 ++ writing ++ operands 0 0) enter ((mode, 1) ∷ (options, 0) ∷ (occurred, 0) ∷ [])
     ∷ goes (outside 1 ++ writing ++ operands 0xe 0) enter ((mode, 1) ∷ (options, 0xe) ∷ (occurred, 0) ∷ [])
     ∷ steps (outside 0 ++ writing ++ operands 2 0x100) enterJump 0 ((pc, 0x100) ∷ (mode, 1) ∷ (options, 2) ∷ (occurred, 0) ∷ [])
-    -- "asked after 14 and before 15"
-    ∷ forbidden (outside 0 ++ writing ++ operands 0x11 0) enter
-    ∷ forbidden (outside 0 ++ writing ++ operands 0x11 0x102) enterJump
-    ∷ forbidden (inside 0 ++ writing ++ operands 1 0) enter
-    ∷ forbidden (inside 0 ++ writing ++ operands 1 0x102) enterJump
-    ∷ forbidden (inside 0xe ++ writing ++ operands 1 0) enter
-    ∷ forbidden (inside 0xe ++ writing ++ operands 0xf 0x102) enterJump
+    -- "asked after 14 and before 15", and after 23
+    ∷ forbidden 14 (outside 0 ++ writing ++ operands 0x11 0) enter
+    ∷ forbidden 14 (outside 0 ++ writing ++ operands 0x11 0x102) enterJump
+    ∷ forbidden 23 (inside 0 ++ writing ++ operands 1 0) enter
+    ∷ forbidden 23 (inside 0 ++ writing ++ operands 1 0x102) enterJump
+    ∷ forbidden 23 (inside 0xe ++ writing ++ operands 1 0) enter
+    ∷ forbidden 23 (inside 0xe ++ writing ++ operands 0xf 0x102) enterJump
     ∷ steps (outside 0 ++ writing ++ operands 1 0x102) enterJump 22 []
     ∷ steps (outside 0xf ++ writing ++ operands 3 0x101) enterJump 22 []
     ∷ steps (outside 0 ++ writing ++ operands 0 0x102) enterJump 15 []
@@ -154,5 +154,5 @@ abbrev pub rows : List Row
 rows = exact ++ asking
 
 pub rows-hold : found rows ≡ stated rows
-unfolding exact asking trailingZeros sext decodeWord matches explicitRule firstMatch implicitGrants explicitGrants explicitCovers writableCode exposesCode scan firstRefused firstAbsent verdict value written allowed aligned settle stateFits wellFormed hfiStop hWordStop hfiPerform load store perform executeWord step stepCall resumeCall runBy runCall
+unfolding exact asking trailingZeros sext decodeWord matches explicitRule firstMatch implicitGrants explicitGrants explicitCovers writableCode exposesCode scan firstRefused firstAbsent verdict value written allowed aligned settle stateFits wellFormed hfiStop hfiPerform load store perform executeInstruction executeWord step stepCall resumeCall runBy runCall
 rows-hold = refl

@@ -1,12 +1,15 @@
--- The words of opcode 5b: what question 8 forbids, and 22 (02, Job 5); and what each does. Document 01, the list after the table, and question 8.
--- Region, HfiState and Machine are declared in src/lib.rt, HfiKind in instructions/src/kind.rt, Outcome in
--- Outcome.antt. Assumes nothing.
-use mathlib.Core.Bool.{Bool, false, cond, not, _&&_, _||_}
-use mathlib.Core.List.{List}
+-- HFI: what question 8 forbids, of every instruction; and what each word of opcode 5b does. Document 01, question 8 and the list after the
+-- table; document 02, Jobs 5 and 6.
+-- Region, HfiState and Machine are declared in src/lib.rt, HfiKind and Instruction in instructions/src, Outcome in Outcome.antt. Assumes
+-- nothing.
+use mathlib.Core.Bool.{Bool, cond, not, _&&_}
+use mathlib.Core.List.{List, [], _∷_}
 use Prim.Native.Nat.{ℕ}
 use lib.Dec.{eqb, leb, ltb}
 use Rattle.instructions.specs.declared.kind.HfiKind.{HfiKind}
 use Rattle.instructions.specs.declared.kind.HfiKind.the-variants.{Enter, EnterJump, Exit, SelectRegion, SetBase, GetBase, SetBound, GetBound, SetPermission, GetPermission, SetHandler, GetHandler, ResetRegions}
+use Rattle.instructions.specs.declared.instruction.Instruction.{Instruction}
+use Rattle.instructions.specs.declared.instruction.Instruction.the-variants.{Upper, Jal, Jalr, Branch, Load, Store, Immediate, Shift, Addiw, ShiftWord, Register, RegisterWord, Fence, System, HLoad, HStore, Hfi}
 use Rattle.model.specs.Machine.{reg, largestOptions, inside, locked, redirectsExits, region, setRegion, withBase, withBound, withPermission, zeroRegions, entered, exited, withHandler, withSelector, withRegions, machine, lastRegion}
 use Rattle.model.specs.Regions.{permissionFits}
 use Rattle.model.specs.WellFormed.{clearHandler}
@@ -16,63 +19,61 @@ use Rattle.model.specs.declared.Region.{Region}
 use Rattle.model.specs.declared.HfiState.{HfiState}
 use Rattle.model.specs.declared.Machine.{Machine}
 
--- "enter in HFI mode; exit .. outside it; funct7 3 to 9, 11 or 12 in HFI mode when locked; set handler in HFI mode, locked
--- or unlocked"
-abbrev pub modeForbids : HfiState → HfiKind → Bool
-modeForbids h Enter = inside h
-modeForbids h EnterJump = inside h
-modeForbids h Exit = not (inside h)
-modeForbids h SelectRegion = locked h
-modeForbids h SetBase = locked h
-modeForbids h GetBase = locked h
-modeForbids h SetBound = locked h
-modeForbids h GetBound = locked h
-modeForbids h SetPermission = locked h
-modeForbids h GetPermission = locked h
-modeForbids h SetHandler = inside h
-modeForbids h GetHandler = locked h
-modeForbids h ResetRegions = locked h
+-- ---- question 8: "8. Does HFI allow it? No: **14**: ..". Document 02 gives three of its rules numbers of their own, "all three are asked
+-- just before 14" (Job 6), and adds 22, "asked after 14 and before 15" (Job 5)
 
--- "an options operand above 15; a selected number not 1 to 3; funct7 4 to 9 with selector 0; a permission bit the region
--- lacks", with a the whole register rs1
-abbrev pub operandForbids : HfiState → HfiKind → ℕ → Bool
-operandForbids h Enter a = ltb largestOptions a
-operandForbids h EnterJump a = ltb largestOptions a
-operandForbids h Exit a = false
-operandForbids h SelectRegion a = not (leb 1 a && leb a lastRegion)
-operandForbids h SetBase a = eqb (h .selector) 0
-operandForbids h GetBase a = eqb (h .selector) 0
-operandForbids h SetBound a = eqb (h .selector) 0
-operandForbids h GetBound a = eqb (h .selector) 0
-operandForbids h SetPermission a = eqb (h .selector) 0 || not (permissionFits (h .selector) a)
-operandForbids h GetPermission a = eqb (h .selector) 0
-operandForbids h SetHandler a = false
-operandForbids h GetHandler a = false
-operandForbids h ResetRegions a = false
+-- the number of the first rule that is broken, or 0
+abbrev pub firstBroken : List (Bool × ℕ) → ℕ
+firstBroken [] = 0
+firstBroken (rule ∷ rest) = cond (rule .0) (rule .1) (firstBroken rest)
 
--- "22, for either enter form that would begin such a state" (02, Job 5): locked HFI mode with writable code
-abbrev pub lockForbids : HfiState → HfiKind → ℕ → Bool
-lockForbids h Enter a = exposesCode (entered h a)
-lockForbids h EnterJump a = exposesCode (entered h a)
-lockForbids h Exit a = false
-lockForbids h SelectRegion a = false
-lockForbids h SetBase a = false
-lockForbids h GetBase a = false
-lockForbids h SetBound a = false
-lockForbids h GetBound a = false
-lockForbids h SetPermission a = false
-lockForbids h GetPermission a = false
-lockForbids h SetHandler a = false
-lockForbids h GetHandler a = false
-lockForbids h ResetRegions a = false
+-- The rules that a word of opcode 5b may break, in the order in which they are asked: whether it breaks the rule, and the number. a is the
+-- whole register rs1
+abbrev pub wordRules : HfiState → HfiKind → ℕ → List (Bool × ℕ)
+-- "23, enter in HFI mode"; "an options operand above 15"; "22, for either enter form that would begin such a state", which is locked HFI
+-- mode with writable code
+wordRules h Enter a = (inside h, 23) ∷ (ltb largestOptions a, 14) ∷ (exposesCode (entered h a), 22) ∷ []
+wordRules h EnterJump a = (inside h, 23) ∷ (ltb largestOptions a, 14) ∷ (exposesCode (entered h a), 22) ∷ []
+-- "24, exit outside it"
+wordRules h Exit a = (not (inside h), 24) ∷ []
+-- "25, a region or handler instruction that HFI mode forbids": "funct7 3 to 9, 11 or 12 in HFI mode when locked; set handler in HFI mode, locked
+-- or unlocked". "Faults in an operand .. and a missing selection keep 14": "a selected number not 1 to 3; funct7 4 to 9 with selector 0; a permission
+-- bit the region lacks"
+wordRules h SelectRegion a = (locked h, 25) ∷ (not (leb 1 a && leb a lastRegion), 14) ∷ []
+wordRules h SetBase a = (locked h, 25) ∷ (eqb (h .selector) 0, 14) ∷ []
+wordRules h GetBase a = (locked h, 25) ∷ (eqb (h .selector) 0, 14) ∷ []
+wordRules h SetBound a = (locked h, 25) ∷ (eqb (h .selector) 0, 14) ∷ []
+wordRules h GetBound a = (locked h, 25) ∷ (eqb (h .selector) 0, 14) ∷ []
+wordRules h SetPermission a = (locked h, 25) ∷ (eqb (h .selector) 0, 14) ∷ (not (permissionFits (h .selector) a), 14) ∷ []
+wordRules h GetPermission a = (locked h, 25) ∷ (eqb (h .selector) 0, 14) ∷ []
+wordRules h SetHandler a = (inside h, 25) ∷ []
+wordRules h GetHandler a = (locked h, 25) ∷ []
+wordRules h ResetRegions a = (locked h, 25) ∷ []
 
--- question 8, and then 22, "asked after 14 and before 15" (02, Job 5): the number, or 0 where nothing is forbidden
-unfoldable pub hfiStop : HfiState → HfiKind → ℕ → ℕ
-hfiStop h k a = cond (modeForbids h k) 14 (cond (operandForbids h k a) 14 (cond (lockForbids h k a) 22 0))
+-- and those of every instruction
+abbrev pub rules : Machine → Instruction → List (Bool × ℕ)
+rules m (Upper k rd imm) = []
+rules m (Jal rd offset) = []
+rules m (Jalr rd rs1 imm) = []
+rules m (Branch k rs1 rs2 offset) = []
+rules m (Load k rd rs1 imm) = []
+rules m (Store k rs1 rs2 imm) = []
+rules m (Immediate k rd rs1 imm) = []
+rules m (Shift k rd rs1 amount) = []
+rules m (Addiw rd rs1 imm) = []
+rules m (ShiftWord k rd rs1 amount) = []
+rules m (Register k rd rs1 rs2) = []
+rules m (RegisterWord k rd rs1 rs2) = []
+rules m (Fence fm pred succ rs1 rd) = []
+rules m (System k) = []
+-- "an h-word outside it": "an h-word outside HFI mode .. keep 14"
+rules m (HLoad k rd rs1 imm) = (not (inside (m .hfi)), 14) ∷ []
+rules m (HStore k rs1 rs2 imm) = (not (inside (m .hfi)), 14) ∷ []
+rules m (Hfi k rd rs1 rs2) = wordRules (m .hfi) k (reg (m .x) rs1)
 
--- "an h-word outside" HFI mode
-unfoldable pub hWordStop : HfiState → ℕ
-hWordStop h = cond (inside h) 0 14
+-- question 8's number for an instruction, or 0 where HFI allows it
+unfoldable pub hfiStop : Machine → Instruction → ℕ
+hfiStop m i = firstBroken (rules m i)
 
 -- the state with the selected region changed
 abbrev pub changed : HfiState → Region → HfiState

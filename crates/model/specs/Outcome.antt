@@ -25,8 +25,8 @@ steppedWith r mem = record { result = r; memory = mem }
 abbrev pub completed : Machine → List ℕ → Outcome
 completed m mem = outcome 0 0 m mem
 
--- "For 10 to 19 the stopping step isn't counted and changes nothing"; "22 what 14 leaves" (02, Job 5); "12 and 17 also give the first absent address .. all others
--- give 0 there"
+-- "For 10 to 19 the stopping step isn't counted and changes nothing"; "22 what 14 leaves" (02, Job 5), as 23 to 25 do: "Nothing else about these
+-- stops changes" (02, Job 6); "12 and 17 also give the first absent address .. all others give 0 there"
 abbrev pub stopped : ℕ → Machine → List ℕ → Outcome
 stopped stop m mem = outcome stop 0 m mem
 
@@ -40,7 +40,7 @@ withPc m next = machine (m .x) next (m .hfi)
 
 -- ---- questions that lead to a stop, or to the rest of the step
 
--- "8. Does HFI allow it? No: 14", and then 22 (02, Job 5), by the number that the rules give: 0 where HFI allows the instruction
+-- "8. Does HFI allow it?", by the number that its rules give (Hfi.antt): 0 where HFI allows the instruction
 unfoldable pub allowed : Machine → List ℕ → ℕ → Outcome → Outcome
 allowed m mem stop rest = cond (eqb stop 0) rest (stopped stop m mem)
 

@@ -22,7 +22,7 @@ use Rattle.model.specs.Bytes.{value, written}
 use Rattle.model.specs.Outcome.{Outcome, completed, stopped, assigned, withPc, allowed, aligned, settle}
 use Rattle.model.specs.Access.{Access, fetchAccess, loadAccess, storeAccess, hloadAccess, hstoreAccess, verdict}
 use Rattle.model.specs.Arithmetic.{operate, operateWord, ofRegisterWord, ofImmediate, ofShift, ofShiftWord, taken, extended}
-use Rattle.model.specs.Hfi.{hfiStop, hWordStop, hfiPerform}
+use Rattle.model.specs.Hfi.{hfiStop, hfiPerform}
 use Rattle.model.specs.declared.Machine.{Machine}
 use Rattle.model.specs.declared.Stepped.{Stepped}
 
@@ -74,16 +74,17 @@ perform m mem next (Fence fm pred succ rs1 rd) = completed (withPc m next) mem
 -- "12. Is it anything but an ECALL that is not redirected? No: 18." "13. Is it anything but EBREAK? No: 19."
 perform m mem next (System Ecall) = cond (redirectsCalls (m .hfi)) (completed (redirected m) mem) (stopped 18 m mem)
 perform m mem next (System Ebreak) = stopped 19 m mem
-perform m mem next (HLoad k rd rs1 imm) =
-    allowed m mem (hWordStop (m .hfi)) (load m mem next (hloadAccess (m .hfi .regions) (m .x) k rs1 imm) k rd)
-perform m mem next (HStore k rs1 rs2 imm) =
-    allowed m mem (hWordStop (m .hfi)) (store m mem next (hstoreAccess (m .hfi .regions) (m .x) k rs1 imm) (reg (m .x) rs2))
-perform m mem next (Hfi k rd rs1 rs2) =
-    allowed m mem (hfiStop (m .hfi) k (reg (m .x) rs1)) (hfiPerform m mem next k rd rs1 rs2)
+perform m mem next (HLoad k rd rs1 imm) = load m mem next (hloadAccess (m .hfi .regions) (m .x) k rs1 imm) k rd
+perform m mem next (HStore k rs1 rs2 imm) = store m mem next (hstoreAccess (m .hfi .regions) (m .x) k rs1 imm) (reg (m .x) rs2)
+perform m mem next (Hfi k rd rs1 rs2) = hfiPerform m mem next k rd rs1 rs2
+
+-- "8. Does HFI allow it?", of every instruction, and then what it does
+unfoldable pub executeInstruction : Machine → List ℕ → ℕ → Instruction → Outcome
+executeInstruction m mem next i = allowed m mem (hfiStop m i) (perform m mem next i)
 
 -- "7. Is the word legal? No: 13." The instruction after it stands 4 further
 unfoldable pub executeWord : Machine → List ℕ → Decoded → Outcome
-executeWord m mem (Legal i) = perform m mem (sum (m .pc) 4) i
+executeWord m mem (Legal i) = executeInstruction m mem (sum (m .pc) 4) i
 executeWord m mem Illegal = stopped 13 m mem
 
 -- "4. Is pc a multiple of 4? No: 10." "5. In HFI mode, are all four bytes executable? No: 11." "6. Are they in memory? No: 12."

@@ -7,11 +7,11 @@ use Rattle.words.specs.Word.{sext}
 use Rattle.instructions.specs.Decode.{decodeWord}
 use Rattle.model.specs.Access.{scan, firstRefused, firstAbsent, verdict}
 use Rattle.model.specs.Bytes.{value, written}
-use Rattle.model.specs.Hfi.{hfiStop, hWordStop, hfiPerform}
+use Rattle.model.specs.Hfi.{hfiStop, hfiPerform}
 use Rattle.model.specs.Outcome.{allowed, aligned, settle}
 use Rattle.model.specs.Regions.{explicitRule, matches, firstMatch, implicitGrants, explicitGrants}
 use Rattle.model.specs.Run.{runBy, runCall}
-use Rattle.model.specs.Step.{load, store, jump, branch, perform, executeWord, step}
+use Rattle.model.specs.Step.{load, store, jump, branch, perform, executeInstruction, executeWord, step}
 use Rattle.model.specs.WellFormed.{stateFits, wellFormed}
 use Rattle.model.specs.WritableCode.{explicitCovers, writableCode, exposesCode}
 use Rattle.text.specs.Number.{spelled, digits}
@@ -54,5 +54,5 @@ expected [] = []
 expected (r ∷ rs) = r .1 ∷ expected rs
 
 pub rows-hold : reported rows ≡ expected rows
-unfolding report reportOver registerLines sheetRefusal linesRefusal wordsRefusal readWord rowOf memoryOf blank fileNo permissionsInRange readSetup split allWide firstThat count spelled digits runCall runBy step executeWord perform branch jump store load stateFits wellFormed explicitRule matches firstMatch implicitGrants explicitGrants explicitCovers writableCode exposesCode allowed aligned settle hfiStop hWordStop hfiPerform value written scan firstRefused firstAbsent verdict decodeWord sext trailingZeros
+unfolding report reportOver registerLines sheetRefusal linesRefusal wordsRefusal readWord rowOf memoryOf blank fileNo permissionsInRange readSetup split allWide firstThat count spelled digits runCall runBy step executeWord executeInstruction perform branch jump store load stateFits wellFormed explicitRule matches firstMatch implicitGrants explicitGrants explicitCovers writableCode exposesCode allowed aligned settle hfiStop hfiPerform value written scan firstRefused firstAbsent verdict decodeWord sext trailingZeros
 rows-hold = refl

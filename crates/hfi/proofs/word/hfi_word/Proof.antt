@@ -1,6 +1,7 @@
 use mathlib.Core.Path.{_∙_}
 use borrow.Author.Tests.{eq-eqb, ne-eqb}
-use Rattle.model.specs.Step.{perform}
+use Rattle.model.specs.Step.{perform, executeInstruction}
+use Rattle.model.specs.Hfi.{hfiStop}
 use Rattle.model.specs.Outcome.{allowed}
 use borrow.Author.Needs.{needs}
 use Rattle.hfi.proofs.word.hfi_word.Statement.{statement}
@@ -16,7 +17,7 @@ stopped-requires : tie.Need-stopped-requires
 stopped-requires c κs = search needs
 
 returns : tie.Need-returns
-unfolding perform allowed
+unfolding perform executeInstruction allowed hfiStop
 returns c = λ mem.
     rw (
       c .stopped .ensures,
@@ -29,7 +30,7 @@ perform-requires : tie.Need-perform-requires
 perform-requires c κs = search needs
 
 returns-2 : tie.Need-returns-2
-unfolding perform allowed
+unfolding perform executeInstruction allowed hfiStop
 returns-2 c = λ mem.
     c .perform .ensures mem ∙ rw (
       ← c .before .before .before .before .register .ensures,

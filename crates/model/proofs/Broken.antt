@@ -1,0 +1,289 @@
+-- Document 02, Job 6, "Which HFI rule was broken": question 8's paragraph a clause at a time, each with its number (and Job 5's 22). The table
+-- gives these numbers, each exactly for its clause; so does a whole step, and it leaves all as it was.
+-- Assumes nothing.
+use mathlib.Core.Path.{_≡_, refl, ap, sym, _∙_}
+use mathlib.Core.Bool.{Bool, true, false, cond, not, _&&_, _||_, false≢true}
+use mathlib.Core.List.{List, [], _∷_}
+use Prim.Native.Nat.{ℕ, _%_, _<_, _≤_}
+use lib.Dec.{eqb, leb}
+use lib.ListN.{length}
+use borrow.Author.Tests.{eqb-true, eqb-false, eq-eqb, ne-eqb, ltb-true, lt-ltb, ltb-false, le-ltb, not-true}
+use Rattle.instructions.specs.Kinds.{hfiCode}
+use Rattle.instructions.specs.Decode.{decodeWord}
+use Rattle.instructions.specs.declared.kind.LoadKind.{LoadKind}
+use Rattle.instructions.specs.declared.kind.StoreKind.{StoreKind}
+use Rattle.instructions.specs.declared.kind.HfiKind.{HfiKind}
+use Rattle.instructions.specs.declared.kind.HfiKind.the-variants.{Enter, EnterJump, Exit, SelectRegion, SetBase, GetBase, SetBound, GetBound, SetPermission, GetPermission, SetHandler, GetHandler, ResetRegions}
+use Rattle.instructions.specs.Encode.{inRange}
+use Rattle.instructions.specs.declared.instruction.Decoded.{Decoded}
+use Rattle.instructions.specs.declared.instruction.Decoded.the-variants.{Legal, Illegal}
+use Rattle.instructions.specs.declared.instruction.Instruction.{Instruction}
+use Rattle.instructions.specs.declared.instruction.Instruction.the-variants.{Upper, Jal, Jalr, Branch, Load, Store, Immediate, Shift, Addiw, ShiftWord, Register, RegisterWord, Fence, System, HLoad, HStore, Hfi}
+use Rattle.instructions.proofs.RoundTrip.{decoded-range}
+use Rattle.instructions.proofs.Tests.{and-both}
+use Rattle.model.specs.Machine.{bit, sum, reg, fetchOp, largestOptions, inside, locked, entered, lastRegion}
+use Rattle.model.specs.Regions.{permissionFits}
+use Rattle.model.specs.WritableCode.{WritableCode, writableCode, exposesCode}
+use Rattle.model.specs.Bytes.{value}
+use Rattle.model.specs.Access.{fetchAccess, verdict}
+use Rattle.model.specs.Outcome.{Outcome, stopped, allowed, settle}
+use Rattle.model.specs.Step.{perform, executeInstruction, executeWord, step}
+use Rattle.model.specs.Hfi.{firstBroken, wordRules, rules, hfiStop}
+use Rattle.model.specs.declared.HfiState.{HfiState}
+use Rattle.model.specs.declared.Machine.{Machine}
+use Rattle.model.specs.declared.Verdict.{Verdict}
+use Rattle.model.specs.declared.Verdict.the-variants.{Passed, Refused, Absent}
+use Rattle.model.proofs.WritableCode.{code-tested, tested-code}
+use Rattle.model.proofs.Forbidden.{of-each, isHfiStop, stop-nonzero}
+use Rattle.model.proofs.Moves.{plainStops, isPlain, clash, perform-plain}
+
+-- ---- the clauses
+
+-- either enter form
+pub data Enters : HfiKind → Type 0 where
+  plain : Enters Enter
+  jump : Enters EnterJump
+
+-- "funct7 3 to 9, 11 or 12"
+abbrev pub lockable : HfiKind → Bool
+lockable k = (leb 3 (hfiCode k) && leb (hfiCode k) 9) || (eqb (hfiCode k) 11 || eqb (hfiCode k) 12)
+
+-- "funct7 4 to 9"
+abbrev pub ofSelection : HfiKind → Bool
+ofSelection k = leb 4 (hfiCode k) && leb (hfiCode k) 9
+
+-- the instruction, and the number
+pub data Breaks (m : Machine) : Instruction → ℕ → Type 0 where
+  -- "23, enter in HFI mode", whatever its operand
+  enters-inside : {k : HfiKind} {rd rs1 rs2 : ℕ} → Enters k → inside (m .hfi) ≡ true → Breaks m (Hfi k rd rs1 rs2) 23
+  -- "24, exit outside it"
+  exits-outside : {rd rs1 rs2 : ℕ} → inside (m .hfi) ≡ false → Breaks m (Hfi Exit rd rs1 rs2) 24
+  -- "25, a region or handler instruction that HFI mode forbids", whatever its operand and whatever is selected
+  when-locked : {k : HfiKind} {rd rs1 rs2 : ℕ} → lockable k ≡ true → locked (m .hfi) ≡ true → Breaks m (Hfi k rd rs1 rs2) 25
+  sets-handler : {rd rs1 rs2 : ℕ} → inside (m .hfi) ≡ true → Breaks m (Hfi SetHandler rd rs1 rs2) 25
+  -- "an h-word outside HFI mode"
+  h-load-outside : {k : LoadKind} {rd rs1 imm : ℕ} → inside (m .hfi) ≡ false → Breaks m (HLoad k rd rs1 imm) 14
+  h-store-outside : {k : StoreKind} {rs1 rs2 imm : ℕ} → inside (m .hfi) ≡ false → Breaks m (HStore k rs1 rs2 imm) 14
+  -- "Faults in an operand": "an options operand above 15; a selected number not 1 to 3; .. a permission bit the region lacks"
+  bad-options : {k : HfiKind} {rd rs1 rs2 : ℕ} → Enters k → inside (m .hfi) ≡ false → largestOptions < reg (m .x) rs1 → Breaks m (Hfi k rd rs1 rs2) 14
+  bad-number : {rd rs1 rs2 : ℕ} → locked (m .hfi) ≡ false → (leb 1 (reg (m .x) rs1) && leb (reg (m .x) rs1) lastRegion) ≡ false → Breaks m (Hfi SelectRegion rd rs1 rs2) 14
+  bad-permission : {rd rs1 rs2 : ℕ} → locked (m .hfi) ≡ false → (m .hfi .selector ≡ 0 → ⊥) → permissionFits (m .hfi .selector) (reg (m .x) rs1) ≡ false
+      → Breaks m (Hfi SetPermission rd rs1 rs2) 14
+  -- "a missing selection": "funct7 4 to 9 with selector 0"
+  no-selection : {k : HfiKind} {rd rs1 rs2 : ℕ} → ofSelection k ≡ true → locked (m .hfi) ≡ false → m .hfi .selector ≡ 0 → Breaks m (Hfi k rd rs1 rs2) 14
+  -- "22, for either enter form that would begin such a state": the operand is good and locks, and the regions as they are have writable code
+  begins : {k : HfiKind} {rd rs1 rs2 : ℕ} → Enters k → inside (m .hfi) ≡ false → reg (m .x) rs1 ≤ largestOptions → bit 0 (reg (m .x) rs1) ≡ true → WritableCode (m .hfi .regions)
+      → Breaks m (Hfi k rd rs1 rs2) 22
+
+-- ---- each clause has its number
+
+begins-exposed : (h : HfiState) (a : ℕ) → bit 0 a ≡ true → WritableCode (h .regions) → exposesCode (entered h a) ≡ true
+unfolding exposesCode
+begins-exposed h a l w = rw l (code-tested (h .regions) w)
+
+exposed-begins : (h : HfiState) (a : ℕ) → exposesCode (entered h a) ≡ true → (bit 0 a ≡ true) × WritableCode (h .regions)
+unfolding exposesCode
+exposed-begins h a t = let p = and-both (bit 0 a) (writableCode (h .regions)) t in (p .0, tested-code (h .regions) (p .1))
+
+module _ (h : HfiState) (a : ℕ) where
+  abbrev stop : HfiKind → ℕ
+  stop k = firstBroken (wordRules h k a)
+
+  -- both enter forms have the rules of the plain one
+  enter-forms : (k : HfiKind) → Enters k → wordRules h k a ≡ wordRules h Enter a
+  enter-forms k Enters.plain = refl
+  enter-forms k Enters.jump = refl
+
+  locked-25 : (k : HfiKind) → lockable k ≡ true → locked h ≡ true → stop k ≡ 25
+  locked-25 Enter t l = absurd (false≢true t)
+  locked-25 EnterJump t l = absurd (false≢true t)
+  locked-25 Exit t l = absurd (false≢true t)
+  locked-25 SelectRegion t l = rw l refl
+  locked-25 SetBase t l = rw l refl
+  locked-25 GetBase t l = rw l refl
+  locked-25 SetBound t l = rw l refl
+  locked-25 GetBound t l = rw l refl
+  locked-25 SetPermission t l = rw l refl
+  locked-25 GetPermission t l = rw l refl
+  locked-25 SetHandler t l = absurd (false≢true t)
+  locked-25 GetHandler t l = rw l refl
+  locked-25 ResetRegions t l = rw l refl
+
+  unselected-14 : (k : HfiKind) → ofSelection k ≡ true → locked h ≡ false → eqb (h .selector) 0 ≡ true → stop k ≡ 14
+  unselected-14 Enter t l s = absurd (false≢true t)
+  unselected-14 EnterJump t l s = absurd (false≢true t)
+  unselected-14 Exit t l s = absurd (false≢true t)
+  unselected-14 SelectRegion t l s = absurd (false≢true t)
+  unselected-14 SetBase t l s = rw (l, s) refl
+  unselected-14 GetBase t l s = rw (l, s) refl
+  unselected-14 SetBound t l s = rw (l, s) refl
+  unselected-14 GetBound t l s = rw (l, s) refl
+  unselected-14 SetPermission t l s = rw (l, s) refl
+  unselected-14 GetPermission t l s = rw (l, s) refl
+  unselected-14 SetHandler t l s = absurd (false≢true t)
+  unselected-14 GetHandler t l s = absurd (false≢true t)
+  unselected-14 ResetRegions t l s = absurd (false≢true t)
+
+pub rule-number : (m : Machine) (i : Instruction) (n : ℕ) → Breaks m i n → hfiStop m i ≡ n
+unfolding hfiStop
+rule-number m i n (Breaks.enters-inside {k} {rd} {rs1} e o) = ap firstBroken (enter-forms (m .hfi) (reg (m .x) rs1) k e) ∙ rw o refl
+rule-number m i n (Breaks.exits-outside o) = rw o refl
+rule-number m i n (Breaks.when-locked {k} t l) = locked-25 (m .hfi) _ k t l
+rule-number m i n (Breaks.sets-handler o) = rw o refl
+rule-number m i n (Breaks.h-load-outside o) = rw o refl
+rule-number m i n (Breaks.h-store-outside o) = rw o refl
+rule-number m i n (Breaks.bad-options {k} {rd} {rs1} e o l) =
+    ap firstBroken (enter-forms (m .hfi) (reg (m .x) rs1) k e) ∙ rw (o, lt-ltb largestOptions (reg (m .x) rs1) l) refl
+rule-number m i n (Breaks.bad-number l b) = rw (l, b) refl
+rule-number m i n (Breaks.bad-permission l s p) = rw (l, ne-eqb (m .hfi .selector) 0 s, p) refl
+rule-number m i n (Breaks.no-selection {k} t l s) = unselected-14 (m .hfi) _ k t l (eq-eqb _ _ s)
+rule-number m i n (Breaks.begins {k} {rd} {rs1} e o l b w) =
+    ap firstBroken (enter-forms (m .hfi) (reg (m .x) rs1) k e)
+    ∙ rw (o, le-ltb largestOptions (reg (m .x) rs1) l, begins-exposed (m .hfi) (reg (m .x) rs1) b w) refl
+
+-- ---- and there are no others
+
+-- P of the number of the first rule that is broken
+abbrev First : (ℕ → Type 0) → List (Bool × ℕ) → Type 0
+First P [] = Unit {0}
+First P (rule ∷ rest) = (rule .0 ≡ true → P (rule .1)) × (rule .0 ≡ false → First P rest)
+
+first : (P : ℕ → Type 0) (rs : List (Bool × ℕ)) → First P rs → eqb (firstBroken rs) 0 ≡ false → P (firstBroken rs)
+first P [] f e = absurd (false≢true (sym e))
+first P (r ∷ rs) f e = go (r .0) (f .0) (λ k u. first P rs (f .1 k) u) e
+  where
+    go : (b : Bool) → (b ≡ true → P (r .1)) → (b ≡ false → eqb (firstBroken rs) 0 ≡ false → P (firstBroken rs))
+        → eqb (cond b (r .1) (firstBroken rs)) 0 ≡ false → P (cond b (r .1) (firstBroken rs))
+    go true f g u = f refl
+    go false f g u = g refl u
+
+module _ (m : Machine) (rd rs1 rs2 : ℕ) where
+  abbrev P : HfiKind → ℕ → Type 0
+  P k n = Breaks m (Hfi k rd rs1 rs2) n
+
+  enter-first : (k : HfiKind) → Enters k → First (P k) (wordRules (m .hfi) Enter (reg (m .x) rs1))
+  enter-first k e = (
+    λ o. Breaks.enters-inside e o,
+    λ o. (
+      λ l. Breaks.bad-options e o (ltb-true _ _ l),
+      λ l. (λ x. let p = exposed-begins (m .hfi) (reg (m .x) rs1) x in Breaks.begins e o (ltb-false _ _ l) (p .0) (p .1), λ x. tt),
+    ),
+  )
+
+  selected-first : (k : HfiKind) → lockable k ≡ true → ofSelection k ≡ true → First (P k) (wordRules (m .hfi) SetBase (reg (m .x) rs1))
+  selected-first k t u = (λ l. Breaks.when-locked t l, λ l. (λ s. Breaks.no-selection u l (eqb-true _ _ s), λ s. tt))
+
+  word-first : (k : HfiKind) → First (P k) (wordRules (m .hfi) k (reg (m .x) rs1))
+  word-first Enter = enter-first Enter Enters.plain
+  word-first EnterJump = enter-first EnterJump Enters.jump
+  word-first Exit = (λ o. Breaks.exits-outside (not-true _ o), λ o. tt)
+  word-first SelectRegion = (λ l. Breaks.when-locked refl l, λ l. (λ b. Breaks.bad-number l (not-true _ b), λ b. tt))
+  word-first SetBase = selected-first SetBase refl refl
+  word-first GetBase = selected-first GetBase refl refl
+  word-first SetBound = selected-first SetBound refl refl
+  word-first GetBound = selected-first GetBound refl refl
+  word-first SetPermission = (
+    λ l. Breaks.when-locked refl l,
+    λ l. (λ s. Breaks.no-selection refl l (eqb-true _ _ s), λ s. (λ b. Breaks.bad-permission l (eqb-false _ _ s) (not-true _ b), λ b. tt)),
+  )
+  word-first GetPermission = selected-first GetPermission refl refl
+  word-first SetHandler = (λ o. Breaks.sets-handler o, λ o. tt)
+  word-first GetHandler = (λ l. Breaks.when-locked refl l, λ l. tt)
+  word-first ResetRegions = (λ l. Breaks.when-locked refl l, λ l. tt)
+
+instruction-first : (m : Machine) (i : Instruction) → First (Breaks m i) (rules m i)
+instruction-first m (Upper k rd imm) = tt
+instruction-first m (Jal rd offset) = tt
+instruction-first m (Jalr rd rs1 imm) = tt
+instruction-first m (Branch k rs1 rs2 offset) = tt
+instruction-first m (Load k rd rs1 imm) = tt
+instruction-first m (Store k rs1 rs2 imm) = tt
+instruction-first m (Immediate k rd rs1 imm) = tt
+instruction-first m (Shift k rd rs1 amount) = tt
+instruction-first m (Addiw rd rs1 imm) = tt
+instruction-first m (ShiftWord k rd rs1 amount) = tt
+instruction-first m (Register k rd rs1 rs2) = tt
+instruction-first m (RegisterWord k rd rs1 rs2) = tt
+instruction-first m (Fence fm pred succ rs1 rd) = tt
+instruction-first m (System k) = tt
+instruction-first m (HLoad k rd rs1 imm) = (λ o. Breaks.h-load-outside (not-true _ o), λ o. tt)
+instruction-first m (HStore k rs1 rs2 imm) = (λ o. Breaks.h-store-outside (not-true _ o), λ o. tt)
+instruction-first m (Hfi k rd rs1 rs2) = word-first m rd rs1 rs2 k
+
+pub number-rule : (m : Machine) (i : Instruction) → (hfiStop m i ≡ 0 → ⊥) → Breaks m i (hfiStop m i)
+unfolding hfiStop
+number-rule m i n = first (Breaks m i) (rules m i) (instruction-first m i) (ne-eqb _ 0 n)
+
+-- ---- of a whole step
+
+-- no other question has one of these numbers
+plain-other : (n : ℕ) → isPlain n ≡ true → isHfiStop n ≡ true → ⊥
+plain-other n p = clash (not-true (isHfiStop n) (of-each (λ k. not (isHfiStop k)) plainStops n refl p))
+
+numbered-clause : (m : Machine) (i : Instruction) (n : ℕ) → Breaks m i n → isHfiStop n ≡ true
+numbered-clause m i n (Breaks.enters-inside e o) = refl
+numbered-clause m i n (Breaks.exits-outside o) = refl
+numbered-clause m i n (Breaks.when-locked t l) = refl
+numbered-clause m i n (Breaks.sets-handler o) = refl
+numbered-clause m i n (Breaks.h-load-outside o) = refl
+numbered-clause m i n (Breaks.h-store-outside o) = refl
+numbered-clause m i n (Breaks.bad-options e o l) = refl
+numbered-clause m i n (Breaks.bad-number l b) = refl
+numbered-clause m i n (Breaks.bad-permission l s p) = refl
+numbered-clause m i n (Breaks.no-selection t l s) = refl
+numbered-clause m i n (Breaks.begins e o l b w) = refl
+
+module _ (m : Machine) (mem : List ℕ) (next : ℕ) (i : Instruction) where
+  pub instruction-stops : (n : ℕ) → Breaks m i n → executeInstruction m mem next i ≡ stopped n m mem
+  unfolding executeInstruction allowed
+  instruction-stops n b = rw (rule-number m i n b) (rw (stop-nonzero n (numbered-clause m i n b)) refl)
+
+  pub instruction-stopped : inRange i ≡ true → isHfiStop (executeInstruction m mem next i .result .stop) ≡ true
+      → Breaks m i (executeInstruction m mem next i .result .stop)
+  unfolding executeInstruction allowed
+  instruction-stopped h q = go (eqb (hfiStop m i) 0) refl q
+    where
+      go : (b : Bool) → eqb (hfiStop m i) 0 ≡ b → isHfiStop (cond b (perform m mem next i) (stopped (hfiStop m i) m mem) .result .stop) ≡ true
+          → Breaks m i (cond b (perform m mem next i) (stopped (hfiStop m i) m mem) .result .stop)
+      go true e q = absurd (plain-other (perform m mem next i .result .stop) (perform-plain m mem next i h e) q)
+      go false e q = number-rule m i (eqb-false _ _ e)
+
+-- the instruction that a step comes to: questions 4 to 7 are answered yes
+pub record Fetches (m : Machine) (mem : List ℕ) (i : Instruction) : Type 0 where
+  pub multiple : m .pc % 4 ≡ 0
+  pub passed : verdict (m .hfi .mode) (length mem) (fetchAccess (m .hfi .regions) (m .pc)) ≡ Passed
+  pub legal : decodeWord (value mem (m .pc) 0 4) ≡ Legal i
+
+fetched-step : (m : Machine) (mem : List ℕ) (i : Instruction) → Fetches m mem i → step m mem ≡ executeInstruction m mem (sum (m .pc) 4) i
+unfolding step settle executeWord
+fetched-step m mem i f = rw (f .multiple, f .passed, f .legal) refl
+
+-- "Nothing else about these stops changes": "the stopping step isn't counted and changes nothing", and its address is 0
+pub step-stops : (m : Machine) (mem : List ℕ) (i : Instruction) (n : ℕ) → Fetches m mem i → Breaks m i n → step m mem ≡ stopped n m mem
+step-stops m mem i n f b = fetched-step m mem i f ∙ instruction-stops m mem _ i n b
+
+-- a step with such a stop
+pub record Forbids (m : Machine) (mem : List ℕ) (n : ℕ) : Type 0 where
+  pub instruction : Instruction
+  pub fetched : Fetches m mem instruction
+  pub rule : Breaks m instruction n
+
+pub step-stopped : (m : Machine) (mem : List ℕ) → isHfiStop (step m mem .result .stop) ≡ true → Forbids m mem (step m mem .result .stop)
+unfolding step settle executeWord
+step-stopped m mem q = go (eqb (m .pc % 4) 0) refl (verdict (m .hfi .mode) (length mem) (fetchAccess (m .hfi .regions) (m .pc))) refl (decodeWord (value mem (m .pc) 0 4)) refl q
+  where
+    comes : (i : Instruction) → Fetches m mem i → isHfiStop (step m mem .result .stop) ≡ true → Forbids m mem (step m mem .result .stop)
+    comes i f q =
+        let e = ap (λ (o : Outcome). o .result .stop) (fetched-step m mem i f) in
+        record { instruction = i; fetched = f; rule = rw e (instruction-stopped m mem _ i (decoded-range _ i (f .legal)) (rw e at q)) }
+
+    go : (b : Bool) → eqb (m .pc % 4) 0 ≡ b → (v : Verdict) → verdict (m .hfi .mode) (length mem) (fetchAccess (m .hfi .regions) (m .pc)) ≡ v
+        → (d : Decoded) → decodeWord (value mem (m .pc) 0 4) ≡ d
+        → isHfiStop (cond b (settle m mem fetchOp 11 12 v (executeWord m mem d)) (stopped 10 m mem) .result .stop) ≡ true → Forbids m mem (step m mem .result .stop)
+    go false p v r d t q = absurd (false≢true q)
+    go true p (Refused at region) r d t q = absurd (false≢true q)
+    go true p (Absent at) r d t q = absurd (false≢true q)
+    go true p Passed r Illegal t q = absurd (false≢true q)
+    go true p Passed r (Legal i) t q =
+        let f : Fetches m mem i = record { multiple = eqb-true _ _ p; passed = r; legal = t } in
+        comes i f (rw (ap (λ (o : Outcome). o .result .stop) (fetched-step m mem i f)) q)
