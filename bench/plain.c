@@ -1,5 +1,5 @@
-/* A plain switch interpreter of the machine of document 01, with Jobs 1, 2 and
-   5 of document 02: RV64I and RV64M with HFI checks on every fetch, load and
+/* A plain switch interpreter of the machine of document 01, with Jobs 1, 2, 5
+   and 6 of document 02: RV64I and RV64M with HFI checks on every fetch, load and
    store. It is the measure of speed; nothing is decoded ahead or remembered
    from one step to the next. */
 #include "machine.h"
@@ -384,12 +384,19 @@ static inline uint64_t one_step(struct machine *m, uint8_t *memory, size_t lengt
         uint64_t operand = x[rs1];
         int inside = m->mode == 1, locked = inside && (m->options & 1);
         struct region *r = &m->regions[m->selector - (m->selector != 0)];
-        if (funct7 >= 3 && funct7 <= 9 && (locked || (funct7 >= 4 && m->selector == 0)))
+        /* 23, 24 and 25 go by where the word stands alone; 14 after them by its operand */
+        if (funct7 < 2 && inside)
+            STOP(23);
+        if (funct7 == 2 && !inside)
+            STOP(24);
+        if (funct7 == 10 ? inside : funct7 > 2 && locked)
+            STOP(25);
+        if (funct7 >= 4 && funct7 <= 9 && m->selector == 0)
             STOP(14);
         switch (funct7) {
         case 0:
         case 1:
-            if (inside || operand > 15)
+            if (operand > 15)
                 STOP(14);
             if ((operand & 1) && code_is_writable(m))
                 STOP(22);
@@ -403,8 +410,6 @@ static inline uint64_t one_step(struct machine *m, uint8_t *memory, size_t lengt
             m->fault.occurred = 0;
             break;
         case 2:
-            if (!inside)
-                STOP(14);
             m->mode = 0;
             m->reason = 1;
             m->exit_pc = pc;
@@ -426,19 +431,9 @@ static inline uint64_t one_step(struct machine *m, uint8_t *memory, size_t lengt
             r->permission = operand;
             break;
         case 9: v = r->permission; goto write_rd;
-        case 10:
-            if (inside)
-                STOP(14);
-            m->handler = operand & 0x3ffffffffffffffcu;
-            break;
-        case 11:
-            if (locked)
-                STOP(14);
-            v = m->handler;
-            goto write_rd;
+        case 10: m->handler = operand & 0x3ffffffffffffffcu; break;
+        case 11: v = m->handler; goto write_rd;
         default:
-            if (locked)
-                STOP(14);
             memset(m->regions, 0, sizeof m->regions);
             m->selector = 0;
             break;

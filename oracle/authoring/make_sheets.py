@@ -3,7 +3,7 @@
 
 Each sheet stands below with the first line of its output, worked out by hand
 from document 01, as document 02 has changed it; some of RV64M, some budgets, two
-long ones and most of Job 5 with all their registers too. `oracle sheets FOLDER` then
+long ones, most of Job 5 and all of Job 6 with all their registers too. `oracle sheets FOLDER` then
 prints what the oracle makes of them, and `--check FILE` holds that against the
 lines here. `--store ORACLE` writes data/index and stdout, the answers being the
 oracle's, if its first lines are those here.
@@ -471,23 +471,24 @@ sheet("illegal-h-load-funct3-7", program(NOP, hload(7, 5, 0, 0), r1=SMALL), "13,
 sheet("illegal-h-store-funct3-4", program(NOP, hstore(4, 5, 0, 0), r1=SMALL), "13,1,4,0,0,0,0,0,0", "an h-store with funct3 4",
       "opcode `2b`, funct3 0 to 3")
 
-# ---------------------------------------------------------------- 14
-section("Stop 14: what HFI forbids (in HFI mode, as a sheet starts there)")
-Q8 = "8. Does HFI allow it? No: **14**"
-sheet("enter-inside", program(hfi(0, 0, 0)), "14,0,0,0,0,0,0,0,0", "enter in HFI mode", Q8 + ": enter in HFI mode")
-sheet("enter-inside-unlocked", program(hfi(0, 0, 0), options=0), "14,0,0,0,0,0,0,0,0", "the same, unlocked", Q8 + ": enter in HFI mode")
-sheet("enter-jump-inside", program(addi(5, 0, 2), hfi(1, 0, 0, 5)), "14,1,4,0,0,0,0,0,0", "enter with jump to 2: 14 before 15", Q8 + ": enter in HFI mode")
-LK = "funct7 3 to 9, 11 or 12 in HFI mode when locked"
+# ---------------------------------------------------------------- 14, 23, 25
+# A sheet starts in HFI mode, and where it leaves it ends with 20: so no sheet comes to 24, nor to an h-word outside.
+section("Stops 14, 23 and 25: what HFI forbids (in HFI mode, as a sheet starts there; so none comes to 24)")
+R23 = "02, Job 6: 23, enter in HFI mode"
+R25 = "02, Job 6: 25, a region or handler instruction that HFI mode forbids"
+sheet("enter-inside", program(hfi(0, 0, 0)), "23,0,0,0,0,0,0,0,0", "enter in HFI mode", R23)
+sheet("enter-inside-unlocked", program(hfi(0, 0, 0), options=0), "23,0,0,0,0,0,0,0,0", "the same, unlocked", R23)
+sheet("enter-jump-inside", program(addi(5, 0, 2), hfi(1, 0, 0, 5)), "23,1,4,0,0,0,0,0,0", "enter with jump to 2: 23 before 15", R23)
+LK = R25 + ", with 01: funct7 3 to 9, 11 or 12 in HFI mode when locked"
 for name, f7, rd, rs1 in [
     ("locked-select", SELECT, 0, 5), ("locked-set-base", SETBASE, 0, 5), ("locked-get-base", GETBASE, 6, 0),
     ("locked-set-bound", SETBOUND, 0, 5), ("locked-get-bound", GETBOUND, 6, 0), ("locked-set-permission", SETPERM, 0, 5),
     ("locked-get-permission", GETPERM, 6, 0), ("locked-get-handler", GETHANDLER, 6, 0), ("locked-reset", RESET, 0, 0),
 ]:
-    sheet(name, program(addi(5, 0, 1), hfi(f7, rd, rs1)), "14,1,4,0,0,0,0,0,0", name.replace("-", " "), LK)
-sheet("locked-set-handler", program(addi(5, 0, 8), hfi(SETHANDLER, 0, 5)), "14,1,4,0,0,0,0,0,0", "set handler, locked",
-      "set handler in HFI mode, locked or unlocked")
-sheet("unlocked-set-handler", program(addi(5, 0, 8), hfi(SETHANDLER, 0, 5), options=14), "14,1,4,0,0,0,0,0,0", "set handler, unlocked",
-      "set handler in HFI mode, locked or unlocked")
+    sheet(name, program(addi(5, 0, 1), hfi(f7, rd, rs1)), "25,1,4,0,0,0,0,0,0", name.replace("-", " "), LK)
+HANDLER = R25 + ", with 01: set handler in HFI mode, locked or unlocked"
+sheet("locked-set-handler", program(addi(5, 0, 8), hfi(SETHANDLER, 0, 5)), "25,1,4,0,0,0,0,0,0", "set handler, locked", HANDLER)
+sheet("unlocked-set-handler", program(addi(5, 0, 8), hfi(SETHANDLER, 0, 5), options=14), "25,1,4,0,0,0,0,0,0", "set handler, unlocked", HANDLER)
 NUM = "a selected number not 1 to 3"
 sheet("select-0", program(hfi(SELECT, 0, 0), options=0), "14,0,0,0,0,0,0,0,0", "number 0", NUM)
 sheet("select-4", program(addi(5, 0, 4), hfi(SELECT, 0, 5), options=0), "14,1,4,0,0,0,0,0,0", "number 4", NUM)
@@ -1151,7 +1152,7 @@ four("four-before-ten", "pc 2: 4 before 10", ASKED, pc=2, r2=(0, mask(12), 3))
 four("four-before-eleven", "pc past code: 4 before 11", ASKED, pc=0x2000, r2=(0, mask(12), 3))
 four("four-before-twelve", "pc past memory: 4 before 12", ASKED, pc=0x10000, r2=(0, mask(12), 3), r3=(0, mask(17), 4))
 four("four-before-thirteen", "an illegal word: 4 before 13", ASKED, words=(0,), r2=(0, mask(12), 3))
-four("four-before-fourteen", "enter in HFI mode: 4 before 14", ASKED, words=(hfi(0),), r2=(0, mask(12), 3))
+four("four-before-fourteen", "enter in HFI mode: 4 before 23, which was 14", ASKED, words=(hfi(0),), r2=(0, mask(12), 3))
 four("four-before-fifteen", "a jump to 2: 4 before 15", ASKED, words=(J(0, 2),), r2=(0, mask(12), 3))
 four("four-before-sixteen", "a refused load: 4 before 16", ASKED, words=(load(LB, 10, 0, -1),), r2=(0, mask(12), 3))
 four("four-before-eighteen", "ECALL: 4 before 18", ASKED, words=(ECALL,), r2=(0, mask(12), 3))
@@ -1220,10 +1221,106 @@ four("code-changes-itself-hsw-locked", "the same, locked", AS_FOUND, words=H_CHA
 registers["unlocked-code-made-writable"] = {5: 2, 6: ECALL}
 sheet("unlocked-code-made-writable", program(addi(5, 0, 2), hfi(SELECT, 0, 5), hfi(SETBASE, 0, 0), addi(6, 0, ECALL), store(SW, 6, 0, 0x14), EBREAK,
       options=0, r2=DATA), "18,5,14,0,0,0,0,0,0", "unlocked, region 2 moved over code, which is then stored into", LOCK)
-sheet("locked-code-not-made-writable", program(addi(5, 0, 2), hfi(SELECT, 0, 5), r2=DATA), "14,1,4,0,0,0,0,0,0",
+sheet("locked-code-not-made-writable", program(addi(5, 0, 2), hfi(SELECT, 0, 5), r2=DATA), "25,1,4,0,0,0,0,0,0",
       "locked, region 2 cannot be moved", AS_FOUND)
-sheet("unlocked-enter-locked", program(addi(5, 0, 1), hfi(0, 0, 5), options=0, r2=(0, mask(12), 3)), "14,1,4,0,0,0,0,0,0",
-      "enter in HFI mode is 14 before 22; outside it no sheet goes on", "02, Job 5: 22 ... asked after 14")
+sheet("unlocked-enter-locked", program(addi(5, 0, 1), hfi(0, 0, 5), options=0, r2=(0, mask(12), 3)), "23,1,4,0,0,0,0,0,0",
+      "enter in HFI mode is 23 before 22; outside it no sheet goes on", "02, Job 5: 22 ... asked after 14, with Job 6: all three are asked just before 14")
+
+# ---------------------------------------------------------------- which HFI rule
+section("Which HFI rule (document 02, Job 6); no sheet comes to 24, as where it leaves it ends with 20")
+BAD = "02, Job 6: If the operand is bad as well, the new number is given."
+KEEP = "02, Job 6: Faults in an operand, an h-word outside HFI mode and a missing selection keep 14."
+JUST = "02, Job 6: all three are asked just before 14"
+SAME = "02, Job 6: Nothing else about these stops changes."
+
+
+def ruled(name, words, first, shows, sentence, values=None, **how):
+    """A sheet of Job 6 with all its registers."""
+    registers[name] = values or {}
+    sheet(name, program(*words, **how), first, shows, sentence)
+
+
+# 23
+for options in range(2, 16):
+    ruled("enter-inside-options-%x" % options, [hfi(0, 0, 0)], "23,0,0,0,0,0,0,0,0", "options %x" % options, R23, options=options)
+for lock, place in [(0, "unlocked"), (1, "locked")]:
+    ruled("enter-%s-operand-f" % place, [addi(5, 0, 15), hfi(0, 0, 5)], "23,1,4,0,0,0,0,0,0", place + ", a good operand", R23, {5: 15}, options=lock)
+    ruled("enter-%s-operand-10" % place, [addi(5, 0, 16), hfi(0, 0, 5)], "23,1,4,0,0,0,0,0,0", place + ", operand 10: 23 before 14", BAD, {5: 16}, options=lock)
+    ruled("enter-%s-operand-ones" % place, [addi(5, 0, -1), hfi(0, 0, 5)], "23,1,4,0,0,0,0,0,0", place + ", an operand of ones: 23 before 14", BAD,
+          {5: ONES}, options=lock)
+    ruled("enter-%s-operand-2-to-32" % place, [addi(5, 0, 1), slli(5, 5, 32), hfi(0, 0, 5)], "23,2,8,0,0,0,0,0,0", place + ", operand 2^32: 23 before 14", BAD,
+          {5: 1 << 32}, options=lock)
+    ruled("enter-jump-%s" % place, [addi(6, 0, 8), hfi(1, 0, 0, 6), ECALL], "23,1,4,0,0,0,0,0,0", place + ", enter with jump to 8", R23, {6: 8}, options=lock)
+    for target in (1, 3):
+        ruled("enter-jump-%s-to-%d" % (place, target), [addi(6, 0, target), hfi(1, 0, 0, 6)], "23,1,4,0,0,0,0,0,0",
+              "%s, to %d: 23 before 15" % (place, target), JUST, {6: target}, options=lock)
+    ruled("enter-jump-%s-worst" % place, [addi(5, 0, 16), addi(6, 0, 2), hfi(1, 0, 5, 6)], "23,2,8,0,0,0,0,0,0", place + ", operand 10 and to 2: 23 before 14 and 15",
+          BAD, {5: 16, 6: 2}, options=lock)
+ruled("enter-jump-unlocked-to-2", [addi(6, 0, 2), hfi(1, 0, 0, 6)], "23,1,4,0,0,0,0,0,0", "unlocked, to 2: 23 before 15", JUST, {6: 2}, options=0)
+ruled("enter-jump-writable-code", [addi(5, 0, 1), addi(6, 0, 2), hfi(1, 0, 5, 6)], "23,2,8,0,0,0,0,0,0", "unlocked, code is writable, operand 1, to 2: 23 before 22 and 15",
+      JUST, {5: 1, 6: 2}, options=0, r2=(0, mask(12), 3))
+ruled("enter-writable-code-operand-11", [addi(5, 0, 17), hfi(0, 0, 5)], "23,1,4,0,0,0,0,0,0", "unlocked, code is writable, operand 11: 23 before 14 and 22", BAD,
+      {5: 17}, options=0, r1=(0, 0x100, 3))
+
+# 25
+for name, f7, rd, rs1, shows in [("locked-select-0", SELECT, 0, 0, "number 0"), ("locked-get-base-into-x0", GETBASE, 0, 0, "into x0"),
+                                 ("locked-get-bound-into-x0", GETBOUND, 0, 0, "into x0"), ("locked-get-permission-into-x0", GETPERM, 0, 0, "into x0"),
+                                 ("locked-get-handler-into-x0", GETHANDLER, 0, 0, "into x0"), ("locked-set-handler-from-x0", SETHANDLER, 0, 0, "handler 0")]:
+    ruled(name, [hfi(f7, rd, rs1)], "25,0,0,0,0,0,0,0,0", "locked, " + shows, R25)
+ruled("locked-select-4", [addi(5, 0, 4), hfi(SELECT, 0, 5)], "25,1,4,0,0,0,0,0,0", "locked, number 4: 25 before 14", BAD, {5: 4})
+ruled("locked-select-100000001", [addi(5, 0, 1), slli(5, 5, 32), addi(5, 5, 1), hfi(SELECT, 0, 5)], "25,3,c,0,0,0,0,0,0", "locked, number 2^32 + 1: 25 before 14", BAD,
+      {5: 0x100000001})
+ruled("locked-permission-of-ones", [addi(5, 0, -1), hfi(SETPERM, 0, 5)], "25,1,4,0,0,0,0,0,0", "locked, all permission bits and nothing selected: 25 before 14", BAD,
+      {5: ONES})
+ruled("locked-select-options-f", [addi(5, 0, 1), hfi(SELECT, 0, 5)], "25,1,4,0,0,0,0,0,0", "options f", R25, {5: 1}, options=15)
+ruled("locked-reset-options-3", [hfi(RESET)], "25,0,0,0,0,0,0,0,0", "options 3", R25, options=3)
+for options in range(16):
+    if options not in (1, 14):
+        ruled("set-handler-options-%x" % options, [addi(5, 0, 8), hfi(SETHANDLER, 0, 5)], "25,1,4,0,0,0,0,0,0", "options %x" % options, HANDLER, {5: 8}, options=options)
+    if options == 1:
+        continue
+    if options % 2:
+        ruled("get-handler-options-%x" % options, [hfi(GETHANDLER, 6)], "25,0,0,0,0,0,0,0,0", "options %x: locked" % options, LK, options=options, handler=0x80)
+    else:
+        ruled("get-handler-options-%x" % options, [hfi(GETHANDLER, 6), EBREAK], "19,1,4,0,0,0,0,0,0", "options %x: it may, unlocked" % options, LK, {6: 0x80},
+              options=options, handler=0x80)
+
+# 14 as before, unlocked
+ruled("select-0-options-e", [hfi(SELECT, 0, 0)], "14,0,0,0,0,0,0,0,0", "number 0, options e", KEEP, options=14)
+ruled("no-selection-options-e", [hfi(GETBASE, 6)], "14,0,0,0,0,0,0,0,0", "nothing selected, options e", KEEP, options=14)
+ruled("no-selection-permission-of-ones", [addi(5, 0, -1), hfi(SETPERM, 0, 5)], "14,1,4,0,0,0,0,0,0", "unlocked, all permission bits and nothing selected", KEEP,
+      {5: ONES}, options=0)
+ruled("select-3-then-0", [addi(5, 0, 3), hfi(SELECT, 0, 5), hfi(SETBASE, 0, 0), hfi(GETBASE, 6), hfi(SELECT, 0, 0)], "14,4,10,0,0,0,0,0,0",
+      "a selection, then number 0", KEEP, {5: 3}, options=0)
+
+# order
+ruled("ten-before-twenty-three", [hfi(0, 0, 0)], "10,0,2,0,0,0,0,0,0", "pc 2: 10 before 23", JUST, pc=2)
+ruled("eleven-before-twenty-three", [hfi(0, 0, 0)], "11,0,0,0,0,1,3,3,0", "region 3 without execute: 11 before 23", JUST, r3=(0, mask(12), 0))
+ruled("eleven-before-twenty-five", [hfi(RESET)], "11,0,0,0,0,1,0,3,2", "code of two bytes: 11 before 25", JUST, r3=(0, mask(1), 4))
+ruled("thirteen-before-twenty-three", [hfi(0, 1, 0)], "13,0,0,0,0,0,0,0,0", "enter with rd 1: 13 before 23", JUST)
+ruled("thirteen-before-twenty-five", [hfi(GETBASE, 6, 1)], "13,0,0,0,0,0,0,0,0", "get base with rs1 1: 13 before 25", JUST)
+ruled("two-before-twenty-three", [hfi(0, 0, 0)], "2,0,0,0,0,0,0,0,0", "2 before 23", JUST, budget=0xf4241)
+ruled("three-before-twenty-five", [hfi(RESET)], "3,0,0,0,0,0,0,0,0", "options 11: 3 before 25", JUST, options=0x11)
+four("four-before-twenty-five", "a locked select: 4 before 25", ASKED, words=[hfi(SELECT, 0, 0)], r2=(0, mask(12), 3))
+ruled("twenty-one-before-twenty-three", [addi(5, 0, 1), hfi(0, 0, 5)], "21,1,4,0,0,0,0,0,0", "a budget of 1 step does not reach the enter", JUST, {5: 1}, budget=1)
+ruled("twenty-one-before-twenty-five", [hfi(RESET)], "21,0,0,0,0,0,0,0,0", "budget 0", JUST, budget=0)
+ruled("twenty-three-with-the-last-step", [addi(5, 0, 1), hfi(0, 0, 5)], "23,1,4,0,0,0,0,0,0", "a budget of 2 steps reaches it", JUST, {5: 1}, budget=2)
+
+# after steps: what they left stays, and the stopping step is not counted
+ruled("twenty-three-after-a-loop", [addi(5, 0, 3), addi(6, 6, 2), addi(5, 5, -1), B(1, 5, 0, -8), hfi(0, 0, 6)], "23,a,10,0,0,0,0,0,0",
+      "1 and 3 times 3 steps, then enter", SAME, {6: 6})
+ruled("twenty-three-after-a-store", [lui(5, 1), addi(6, 0, 7), store(SD, 6, 5, 8), load(LD, 10, 5, 8), hfi(1, 0, 0, 6)], "23,4,10,0,0,0,0,0,0",
+      "what was stored is there", SAME, {5: 0x1000, 6: 7, 10: 7}, r2=DATA)
+ruled("twenty-five-after-h-words", [addi(6, 0, 7), hstore(SD, 6, 0, 8), hload(LD, 10, 0, 8), hfi(GETPERM, 10)], "25,3,c,0,0,0,0,0,0",
+      "a get does not change its register", SAME, {6: 7, 10: 7}, r1=SMALL)
+ruled("twenty-five-after-select", [addi(5, 0, 1), hfi(SELECT, 0, 5), hfi(GETBASE, 6), hfi(GETHANDLER, 7), hfi(SETHANDLER, 0, 5)], "25,4,10,0,0,0,0,0,0",
+      "unlocked: select, get base and get handler, then set handler", HANDLER, {5: 1, 6: 0x2000, 7: 0x40}, options=0, handler=0x40, r1=SMALL)
+
+# where 24 would be: the run has ended
+LEFT = "After a step of a run that began in HFI mode: is the mode still on? No: **20**."
+ruled("exit-then-exit", [EXIT, EXIT], "20,1,4,1,0,0,0,0,0", "an exit after an exit is not reached", LEFT)
+ruled("exit-to-an-exit", [EXIT, NOP, EXIT], "20,1,8,1,0,0,0,0,0", "nor one at the handler", LEFT, options=5, handler=8)
+ruled("call-to-an-exit", [ECALL, NOP, EXIT], "20,1,8,2,0,0,0,0,0", "nor after a redirected call", LEFT, options=3, handler=8)
 
 
 def write():
@@ -1237,7 +1334,7 @@ def write():
     out = ["# Stored sheets", "",
            "One file a sheet. The first lines were worked out by hand from document 01, or from",
            "document 02 where a row says `02` (they stand in `oracle/authoring/make_sheets.py`, which",
-           "writes this page, and so do the registers of most RV64M sheets, of some budgets, of two long ones and of most of Job 5), and then confirmed by the oracle. The sheets stand in `crates/sheets/data`; `crates/sheets/stdout` has",
+           "writes this page, and so do the registers of most RV64M sheets, of some budgets, of two long ones, of most of Job 5 and of Job 6), and then confirmed by the oracle. The sheets stand in `crates/sheets/data`; `crates/sheets/stdout` has",
            "for each a line with its name and then the whole output.", ""]
     starts = dict(sections)
     for i, (name, _, first, shows, sentence) in enumerate(rows):

@@ -5,6 +5,7 @@
 //! come from the supply.
 
 use crate::compare::Engine;
+use crate::hfi_rules;
 use crate::instruction::{encode, m_kind, Instruction, M_WORDS};
 use crate::m_words::PAIRS;
 use crate::machine::{Machine, Region};
@@ -480,7 +481,7 @@ impl List {
         for (word, form) in [(ENTER, "enter"), (ENTER_JUMP, "enter with jump")] {
             for lock in [0, 1] {
                 let world = inside(hfi(word)).with(options(3)).with(|m| m.x[6] = 0x80).with(|m| m.options = lock);
-                self.step(&format!("{form} in HFI mode, lock {lock}"), world, 14, unchanged);
+                self.step(&format!("{form} in HFI mode, lock {lock}"), world, 23, unchanged);
             }
         }
     }
@@ -507,12 +508,12 @@ impl List {
         }
         for options in [0, 4, 15] {
             let world = outside(hfi(EXIT)).with(|m| m.options = options);
-            self.step(&format!("exit outside, options {options}"), world, 14, unchanged);
+            self.step(&format!("exit outside, options {options}"), world, 24, unchanged);
         }
-        self.run("exit outside", outside(hfi(EXIT)), 5, (14, 0), unchanged);
+        self.run("exit outside", outside(hfi(EXIT)), 5, (24, 0), unchanged);
     }
 
-    /// "exit or an h-word outside it": 14, whatever region 1 says.
+    /// "an h-word outside HFI mode" keeps 14, whatever region 1 says.
     fn h_words_outside(&mut self) {
         for funct3 in 0..7 {
             self.step(&format!("h-load {funct3} outside"), outside(hload(funct3, 7, 8)), 14, unchanged);
@@ -538,12 +539,12 @@ impl List {
             let unlocked = world(inside(hfi(funct7))).with(|m| m.options = 14);
             let name = format!("funct7 {funct7} inside, unlocked");
             if funct7 == SET_HANDLER {
-                self.step(&name, unlocked, 14, unchanged);
+                self.step(&name, unlocked, 25, unchanged);
             } else {
                 self.step(&name, unlocked, 0, done);
             }
             let locked = world(inside(hfi(funct7))).with(|m| m.options = 1);
-            self.step(&format!("funct7 {funct7} inside, locked"), locked, 14, unchanged);
+            self.step(&format!("funct7 {funct7} inside, locked"), locked, 25, unchanged);
         }
     }
 
@@ -1116,11 +1117,11 @@ impl List {
             out(m, 0, 1, 0x58);
             (m.exit_pc, m.x[11]) = (0x54, 6);
         });
-        self.run("outside, enters, enters again", begin(0).put(0x48, hfi(ENTER)), 50, (14, 2), |m| {
+        self.run("outside, enters, enters again", begin(0).put(0x48, hfi(ENTER)), 50, (23, 2), |m| {
             ins(m, 0);
             m.pc = 0x48;
         });
-        self.run("outside, enters, exits, exits again", begin(0).put(0x48, hfi(EXIT)).put(0x4c, hfi(EXIT)), 50, (14, 3), |m| out(m, 0, 1, 0x4c));
+        self.run("outside, enters, exits, exits again", begin(0).put(0x48, hfi(EXIT)).put(0x4c, hfi(EXIT)), 50, (24, 3), |m| out(m, 0, 1, 0x4c));
     }
 
     fn crossings_that_stop(&mut self) {
@@ -1145,7 +1146,7 @@ impl List {
             ins(m);
             m.fault = fault(0, 1, 0);
         });
-        self.run("outside, enters, a locked word is forbidden", begin().put(0x44, hfi(GET_HANDLER)), 50, (14, 1), ins);
+        self.run("outside, enters, a locked word is forbidden", begin().put(0x44, hfi(GET_HANDLER)), 50, (25, 1), ins);
         let grants = outside(hfi_fields(SELECT, 0, 1, 0))
             .with(|m| (m.x[1], m.x[2], m.x[3], m.x[5]) = (1, 0x300, 0x10, 1))
             .put(0x44, hfi_fields(SET_BASE, 0, 2, 0))
@@ -1244,7 +1245,7 @@ impl List {
             for value in [17, 31, (1 << 32) + 1, ALL] {
                 self.step(&format!("{form}, writable code, options operand {value:x}"), world(outside(word), value, 0x82), 14, unchanged);
             }
-            for (options, stop) in [(0, 14), (14, 14), (1, 4), (15, 4)] {
+            for (options, stop) in [(0, 23), (14, 23), (1, 4), (15, 4)] {
                 let name = format!("{form}, writable code, inside, options {options}");
                 self.step(&name, world(inside(word), 1, 0x82).with(|m| m.options = options), stop, unchanged);
             }
@@ -1300,6 +1301,174 @@ impl List {
         self.run("unlocked, makes its code writable, stores there", widens, 2, (21, 2), |m| (m.regions[1].base, m.pc) = (0, 0x48)).stores(0xff, 1, 7);
     }
 
+    /// Document 02, Job 6.
+    fn which_rule(&mut self) {
+        self.rules();
+        self.rules_and_options();
+        self.rules_and_operands();
+        self.rules_in_order();
+        self.rules_in_runs();
+        self.rules_after_entering();
+        self.rules_after_leaving();
+    }
+
+    /// "23, enter in HFI mode; 24, exit outside it; 25, a region or handler instruction that HFI mode
+    /// forbids ... If the operand is bad as well, the new number is given." Each row wherever it can stand, with a good
+    /// operand, with nothing selected, and with each bad one.
+    fn rules(&mut self) {
+        for (place, mode, options) in PLACES {
+            for funct7 in ENTER..=RESET {
+                let refused = rule(funct7, mode, options);
+                for (case, x5, x6, selector, bad) in cases(funct7) {
+                    let base = outside(hfi(funct7)).with(|m| (m.mode, m.options, m.x[5], m.selector) = (mode, options, x5, selector));
+                    let world = if funct7 == ENTER_JUMP { base.with(|m| m.x[6] = x6) } else { base };
+                    let name = format!("{} {place}, {case}", ROWS[funct7 as usize]);
+                    match refused.or(bad) {
+                        Some(number) => self.step(&name, world, number, unchanged),
+                        None => self.step(&name, world, 0, |m| row(m, funct7)),
+                    };
+                }
+            }
+        }
+    }
+
+    /// 24 whatever the options are; the lock bit alone decides whether get handler is 25, and nothing whether set handler is.
+    fn rules_and_options(&mut self) {
+        for options in 0..16 {
+            let world = |base: World| base.with(|m| m.options = options);
+            self.step(&format!("exit outside, options {options}"), world(outside(hfi(EXIT))), 24, unchanged);
+            self.step(&format!("set handler inside, options {options}"), world(inside(hfi(SET_HANDLER))), 25, unchanged);
+            let name = format!("get handler inside, options {options}");
+            match options {
+                1 | 14 => continue, // above
+                _ if options % 2 == 1 => self.step(&name, world(inside(hfi(GET_HANDLER))), 25, unchanged),
+                _ => self.step(&name, world(inside(hfi(GET_HANDLER))), 0, |m| row(m, GET_HANDLER)),
+            };
+        }
+    }
+
+    /// Operands that would be 14, 15 or 22, in HFI mode, locked and not.
+    fn rules_and_operands(&mut self) {
+        for (place, options) in [("unlocked", 0), ("locked", 1)] {
+            let world = |word: u32, x5: u64| inside(word).with(|m| (m.options, m.x[5]) = (options, x5));
+            for value in [0, 15, 17, 1 << 32, 1 << 63, ALL] {
+                self.step(&format!("enter inside, {place}, operand {value:x}"), world(hfi(ENTER), value), 23, unchanged);
+            }
+            for (value, target) in [(0, 0x81), (1, 0x83), (15, ALL), (ALL, 0x82)] {
+                let jump = world(hfi(ENTER_JUMP), value).with(|m| m.x[6] = target);
+                self.step(&format!("enter with jump inside, {place}, operand {value:x}, to {target:x}"), jump, 23, unchanged);
+            }
+            let number = if options == 1 { 25 } else { 14 };
+            for value in [0, 4, 5, (1 << 32) + 1, 1 << 63, ALL] {
+                self.step(&format!("select {value:x} inside, {place}"), world(hfi(SELECT), value), number, unchanged);
+            }
+            for (selector, value) in [(1, 4), (1, 1 << 63), (2, 4), (2, 0xb), (3, 1), (3, 1 << 32)] {
+                let lacks = world(hfi(SET_PERMISSION), value).with(|m| m.selector = selector);
+                self.step(&format!("set permission {value:x} inside, {place}, region {selector} lacks it"), lacks, number, unchanged);
+            }
+            for funct7 in [GET_BASE, GET_BOUND, GET_PERMISSION] {
+                let name = format!("{} into x0 inside, {place}, nothing selected", ROWS[funct7 as usize]);
+                self.step(&name, world(hfi_fields(funct7, 0, 0, 0), 1), number, unchanged);
+            }
+        }
+        let into_x0 = |base: World| base.with(|m| m.selector = 1);
+        self.step("get base into x0 inside, locked", into_x0(locked(hfi_fields(GET_BASE, 0, 0, 0))), 25, unchanged);
+        self.step("get handler into x0 inside, locked", locked(hfi_fields(GET_HANDLER, 0, 0, 0)), 25, unchanged);
+        self.step("set handler from x0 inside, unlocked", inside(hfi_fields(SET_HANDLER, 0, 0, 0)), 25, unchanged);
+        self.step("select x0 inside, locked", locked(hfi_fields(SELECT, 0, 0, 0)), 25, unchanged);
+    }
+
+    /// "all three are asked just before 14": after all that stands before 14, and after the budget.
+    fn rules_in_order(&mut self) {
+        let broken = [
+            ("enter inside", 23, inside(hfi(ENTER))),
+            ("enter with jump inside", 23, inside(hfi(ENTER_JUMP))),
+            ("exit outside", 24, outside(hfi(EXIT))),
+            ("set handler inside", 25, inside(hfi(SET_HANDLER))),
+            ("get base locked", 25, locked(hfi(GET_BASE))),
+            ("reset locked", 25, locked(hfi(RESET))),
+        ];
+        for (name, number, world) in broken {
+            self.run(&format!("{name}, budget 0"), world.clone(), 0, (21, 0), unchanged);
+            self.run(&format!("{name}, budget 1"), world.clone(), 1, (number, 0), unchanged);
+            self.run(&format!("{name}, budget f4241"), world.clone(), 1_000_001, (2, 0), unchanged);
+            self.step(&format!("{name}, not well formed"), world.clone().with(|m| m.fault.op = 4), 3, unchanged);
+            self.step(&format!("{name}, pc 42"), world.clone().with(|m| m.pc = 0x42), 10, unchanged);
+            let short = world.clone().length(0x43);
+            self.add(&format!("step: {name}, memory ends at 43"), Request::Step, short, (12, 0, 0x43), unchanged);
+            if number != 24 {
+                let barred = world.clone().with(|m| m.regions[2].permission = 0);
+                self.step(&format!("{name}, region 3 without execute"), barred, 11, |m| m.fault = fault(3, 3, 0x40));
+            }
+            if world.machine.options == 1 {
+                let exposed = world.clone().with(|m| m.regions[1].base = 0);
+                self.step(&format!("{name}, writable code"), exposed, 4, unchanged);
+            }
+            // A field that no row names.
+            let word = u32::from_le_bytes(world.bytes[0x40..0x44].try_into().unwrap());
+            let spare = if word >> 25 == GET_BASE { word | 1 << 15 } else { word | 1 << 7 };
+            self.step(&format!("{name}, a field not named"), world.put(0x40, spare), 13, unchanged);
+        }
+    }
+
+    /// The same within a run, after two steps: they count, and the machine is what they left.
+    fn rules_in_runs(&mut self) {
+        for (place, mode, options) in PLACES {
+            for funct7 in ENTER..=RESET {
+                let Some(number) = rule(funct7, mode, options) else { continue };
+                let base = outside(addi(10, 10, 1)).put(0x44, store(0, 10, 0, 0x400)).put(0x48, hfi(funct7));
+                let world = base.with(|m| (m.mode, m.options, m.x[5], m.x[6], m.selector) = (mode, options, 1, 0x80, 1));
+                let name = format!("two steps, then {} {place}", ROWS[funct7 as usize]);
+                self.run(&name, world, 50, (number, 2), |m| (m.x[10], m.pc) = (0x10b, 0x48)).stores(0x400, 1, 0x0b);
+            }
+        }
+    }
+
+    /// Runs in which an enter or a select before has made the rule apply.
+    fn rules_after_entering(&mut self) {
+        let entered = |m: &mut Machine, options: u64, pc: u64| {
+            (m.mode, m.options, m.pc) = (1, options, pc);
+            m.fault.occurred = 0;
+        };
+        self.run("outside, enters, enters again with operand 10", enters(1).put(0x44, hfi(ENTER)), 50, (23, 1), |m| entered(m, 1, 0x44));
+        for funct7 in SELECT..=RESET {
+            let world = enters(0).put(0x44, hfi(funct7));
+            let name = format!("outside, enters, {}", ROWS[funct7 as usize]);
+            // Operand 10 is no region; nothing is selected.
+            match funct7 {
+                SET_HANDLER => self.run(&name, world, 50, (25, 1), |m| entered(m, 0, 0x44)),
+                SELECT..=GET_PERMISSION => self.run(&name, world, 50, (14, 1), |m| entered(m, 0, 0x44)),
+                _ => continue,
+            };
+            let world = enters(1).put(0x44, hfi(funct7));
+            self.run(&format!("{name}, locked"), world, 50, (25, 1), |m| entered(m, 1, 0x44));
+        }
+        let unlocked = inside(hfi_fields(SELECT, 0, 1, 0)).with(|m| (m.x[1], m.options) = (2, 0));
+        let selects = unlocked.put(0x44, hfi(GET_BASE)).put(0x48, hfi(GET_HANDLER)).put(0x4c, hfi(SET_HANDLER));
+        self.run("unlocked, selects, gets base and handler, would set the handler", selects, 50, (25, 3), |m| {
+            (m.selector, m.x[7], m.pc) = (2, 0x2460, 0x4c);
+        });
+    }
+
+    /// Out by an exit, redirected or not, or by a call: then 24, and h-words keep 14.
+    fn rules_after_leaving(&mut self) {
+        let left = |m: &mut Machine, options: u64, reason: u64, pc: u64| {
+            (m.options, m.reason, m.exit_pc, m.pc) = (options, reason, 0x44, pc);
+            m.fault.occurred = 0;
+        };
+        let exits = |options: u64, word: u32| enters(options).put(0x44, hfi(EXIT)).put(0x48, word).put(0x80, word);
+        let calls = enters(2).put(0x44, ECALL).put(0x80, hfi(EXIT));
+        self.run("outside, enters, exits to the handler, exits again", exits(4, hfi(EXIT)), 50, (24, 2), |m| left(m, 4, 1, 0x80));
+        self.run("outside, enters locked, exits, exits again", exits(1, hfi(EXIT)), 50, (24, 2), |m| left(m, 1, 1, 0x48));
+        self.run("outside, enters, is redirected, exits", calls, 50, (24, 2), |m| left(m, 2, 2, 0x80));
+        self.run("outside, enters, exits, h-load", exits(1, hload(3, 7, 8)), 50, (14, 2), |m| left(m, 1, 1, 0x48));
+        self.run("outside, enters, exits to the handler, h-store", exits(5, hstore(3, 7, 8)), 50, (14, 2), |m| left(m, 5, 1, 0x80));
+        self.run("outside, enters locked, exits, sets the handler", exits(1, hfi(SET_HANDLER)), 3, (21, 3), |m| {
+            left(m, 1, 1, 0x4c);
+            m.handler = 0x10;
+        });
+    }
+
     /// "a run that began in HFI mode ends there with 20"
     fn runs_inside(&mut self) {
         let exit = || inside(addi(10, 0, 5)).with(|m| m.options = 0).put(0x44, hfi(EXIT)).put(0x48, ECALL);
@@ -1307,6 +1476,79 @@ impl List {
         self.run("inside, exits: 20, not ECALL's 18", exit(), 50, (20, 2), left);
         self.run("inside, exits with the last step: 20, not 21", exit(), 2, (20, 2), left);
         self.run("inside, budget used up before the exit", exit(), 1, (21, 1), |m| (m.pc, m.x[10]) = (0x44, 5));
+    }
+}
+
+/// The rows of opcode 5b by funct7.
+const ROWS: [&str; 13] = [
+    "enter",
+    "enter with jump",
+    "exit",
+    "select",
+    "set base",
+    "get base",
+    "set bound",
+    "get bound",
+    "set permission",
+    "get permission",
+    "set handler",
+    "get handler",
+    "reset",
+];
+
+/// Where a word can stand: name, mode and options.
+const PLACES: [(&str, u64, u64); 4] = [("outside", 0, 14), ("outside, lock bit set", 0, 1), ("inside, unlocked", 1, 14), ("inside, locked", 1, 1)];
+
+/// Job 6's rule that a row breaks in a mode with these options, whatever its operand.
+fn rule(funct7: u32, mode: u64, options: u64) -> Option<u64> {
+    let locked = options % 2 == 1;
+    match funct7 {
+        ENTER | ENTER_JUMP if mode == 1 => Some(23),
+        EXIT if mode == 0 => Some(24),
+        SET_HANDLER if mode == 1 => Some(25),
+        SELECT..=GET_PERMISSION | GET_HANDLER | RESET if mode == 1 && locked => Some(25),
+        _ => None,
+    }
+}
+
+/// The operands that a row is tried with: name, x5, x6, selector, and what it gets where no rule of Job 6 is broken.
+fn cases(funct7: u32) -> Vec<(&'static str, u64, u64, u64, Option<u64>)> {
+    let good = ("good operand", 1, 0x80, 2, None);
+    let unselected = |number: Option<u64>| ("nothing selected", 1, 0x80, 0, number);
+    match funct7 {
+        ENTER => vec![good, unselected(None), ("operand 10", 16, 0x80, 2, Some(14))],
+        ENTER_JUMP => vec![
+            good,
+            unselected(None),
+            ("operand 10", 16, 0x80, 2, Some(14)),
+            ("to 82", 1, 0x82, 2, Some(15)),
+            ("operand 10, to 82", 16, 0x82, 2, Some(14)),
+        ],
+        SELECT => vec![good, unselected(None), ("number 0", 0, 0x80, 2, Some(14)), ("number 4", 4, 0x80, 0, Some(14))],
+        SET_PERMISSION => vec![good, unselected(Some(14)), ("bit 2, which region 2 lacks", 4, 0x80, 2, Some(14))],
+        SET_BASE..=GET_PERMISSION => vec![good, unselected(Some(14))],
+        EXIT => vec![good], // others select nothing
+        _ => vec![good, unselected(None)],
+    }
+}
+
+/// Outside, about to enter with these options from x1; x5 is 10, and the handler is at 80.
+fn enters(options: u64) -> World {
+    outside(hfi_fields(ENTER, 0, 1, 0)).with(|m| (m.x[1], m.x[5], m.handler) = (options, 16, 0x80))
+}
+
+/// What a row that HFI allows does, with x5 and x6 as operands and x7 as rd; exits are redirected by option bit 2.
+fn row(m: &mut Machine, funct7: u32) {
+    match funct7 {
+        ENTER | ENTER_JUMP => {
+            (m.mode, m.options, m.pc) = (1, m.x[5], if funct7 == ENTER { 0x44 } else { m.x[6] });
+            m.fault.occurred = 0;
+        }
+        EXIT => {
+            let next = if m.options & 4 == 4 { m.handler } else { 0x44 };
+            (m.mode, m.reason, m.exit_pc, m.pc) = (0, 1, 0x40, next);
+        }
+        _ => region_word(m, funct7),
     }
 }
 
@@ -1550,6 +1792,7 @@ pub fn directed() -> Vec<Directed> {
     list.code_asked();
     list.enters_asked();
     list.code_in_runs();
+    list.which_rule();
     // A call that two subjects share stands once, under the first.
     let mut seen = std::collections::HashSet::new();
     list.all.retain(|row| seen.insert(row.call.unnamed()));
@@ -1557,13 +1800,16 @@ pub fn directed() -> Vec<Directed> {
 }
 
 /// Random calls: those of the base, then those with RV64M words, then those of
-/// Job 5. Of the first two some are refused by Job 5.
+/// Job 5, then those of Job 6. Of the first two some are refused by Job 5.
 pub fn random() -> Vec<Call> {
-    let (mut base, mut rv64m, mut supply) = (Supply::of_base(20), Supply::of_rv64m(21), Supply::new(22));
+    let (mut base, mut rv64m, mut code, mut supply) =
+        (Supply::of_base(20), Supply::of_rv64m(21), Supply::of_writable_code(22), Supply::new(23));
     let first = (0..RANDOM).map(|n| random_call(&mut base, n));
     let second = (0..RANDOM_M).map(|n| random_m_call(&mut rv64m, n));
-    let third = (0..RANDOM_CODE).map(|n| random_code_call(&mut supply, n));
-    first.chain(second).chain(third).enumerate().map(|(n, (request, machine, lent))| random_named(n, request, machine, &lent)).collect()
+    let third = (0..RANDOM_CODE).map(|n| random_code_call(&mut code, n));
+    let fourth = (0..RANDOM_RULES).map(|n| random_rule_call(&mut supply, n));
+    let all = first.chain(second).chain(third).chain(fourth).enumerate();
+    all.map(|(n, (request, machine, lent))| random_named(n, request, machine, &lent)).collect()
 }
 
 /// Runs that cross the mode, steps of one word, short runs and resumptions of
@@ -1628,6 +1874,20 @@ fn random_code_call(supply: &mut Supply, n: usize) -> (Request, Machine, Vec<u8>
     (call.request, call.machine, call.bytes)
 }
 
+/// Words of question 8 that get each of its numbers in turn, or none, as steps
+/// and within runs. Registers that the words do not name are 0, for want of room.
+fn random_rule_call(supply: &mut Supply, n: usize) -> (Request, Machine, Vec<u8>) {
+    let mut all = hfi_rules::aims();
+    all.retain(|aim| aim.told() == [23, 24, 25, 14, 0][n % 5]);
+    let [step, run] = hfi_rules::aimed_calls(supply, all[n / 5 * 5 % all.len()]);
+    let at = step.machine.pc as usize;
+    let word = u32::from_le_bytes(step.bytes[at..at + 4].try_into().unwrap());
+    let named = [word >> 7, word >> 15, word >> 20, 30].map(|field| field as usize % 32);
+    let mut call = if n % 2 == 0 { step } else { run };
+    (0..32).filter(|register| !named.contains(register)).for_each(|register| call.machine.x[register] = 0);
+    (call.request, call.machine, call.bytes)
+}
+
 fn random_named(n: usize, request: Request, machine: Machine, lent: &[u8]) -> Call {
     let length = lent.len();
     let mut bytes = vec![0; ROOM];
@@ -1655,7 +1915,8 @@ pub fn stored() -> (String, String) {
     (data, printed)
 }
 
-/// How many of the stored calls are random: of the base, with RV64M words, of Job 5.
+/// How many of the stored calls are random: of the base, with RV64M words, of Job 5, of Job 6.
 const RANDOM: usize = 160;
 const RANDOM_M: usize = 80;
 const RANDOM_CODE: usize = 80;
+const RANDOM_RULES: usize = 40;

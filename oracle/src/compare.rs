@@ -2,6 +2,7 @@
 
 use std::collections::BTreeMap;
 
+use crate::hfi_rules;
 use crate::instruction::{decode, encode, name, HfiKind, Instruction, LOAD_TABLE, M_WORDS, STORE_TABLE};
 use crate::m_words::{self, M_CLASSES, PAIRS};
 use crate::machine::Machine;
@@ -126,6 +127,8 @@ pub struct Counts {
     /// Aimed regions by what they are (`writable_code::CLASSES`), and the stops of the ways in which they were put.
     pub code_classes: writable_code::Met,
     pub code_stops: BTreeMap<u64, u64>,
+    /// Words of question 8 by where they stand and what else is wrong (`hfi_rules::Aim`): steps, runs, sheets.
+    pub rules: hfi_rules::Met,
     /// What happened in the runs that cross the mode, by kind.
     pub crossings: BTreeMap<&'static str, u64>,
     pub resume_stops: BTreeMap<u64, u64>,
@@ -184,6 +187,10 @@ impl Counts {
         for (class, met) in other.m_words {
             let entry = self.m_words.entry(class).or_default();
             (0..M_WORDS).for_each(|n| entry[n] += met[n]);
+        }
+        for (aim, met) in other.rules {
+            let entry = self.rules.entry(aim).or_default();
+            (0..3).for_each(|n| entry[n] += met[n]);
         }
         for (place, met) in other.long_refused {
             let entry = self.long_refused.entry(place).or_default();
@@ -725,6 +732,7 @@ pub fn count_crossings(machine: &Machine, memory: &[u8], budget: u64, counts: &m
             ("runs begun inside", true),
             ("runs begun inside that ended with 4", seen.stop == 4),
             ("runs begun inside that ended with 20", seen.stop == 20),
+            ("runs begun inside that ended with 23 or 25", seen.stop == 23 || seen.stop == 25),
         ]
     } else {
         vec![
@@ -736,6 +744,11 @@ pub fn count_crossings(machine: &Machine, memory: &[u8], budget: u64, counts: &m
             ("runs begun outside that ended with 11 or 16", seen.stop == 11 || seen.stop == 16),
             ("runs begun outside that ended with 22", seen.stop == 22),
             ("runs begun outside that entered and ended with 22", seen.stop == 22 && seen.entered > 0),
+            ("runs begun outside that entered and ended with 23", seen.stop == 23),
+            ("runs begun outside that ended with 24", seen.stop == 24),
+            ("runs begun outside that left and ended with 24", seen.stop == 24 && seen.left > 0),
+            ("runs begun outside that entered and ended with 25", seen.stop == 25),
+            ("runs begun outside that ended with 14", seen.stop == 14),
         ]
     };
     for (kind, _) in kinds.into_iter().filter(|(_, holds)| *holds) {
@@ -830,6 +843,7 @@ pub fn rounds(left: &dyn Engine, right: &dyn Engine, seed: u64, number: u64, cou
         h_words(left, right, &mut supply, round as usize, counts);
         m_word_pairs(left, right, &mut supply, round as usize, counts);
         writable_code::compare(left, right, &mut supply, counts);
+        hfi_rules::compare(left, right, &mut supply, round as usize, counts);
         for _ in 0..4 {
             steady_run(left, right, &mut supply, counts);
             crossing_run(left, right, &mut supply, counts);
@@ -1044,6 +1058,10 @@ fn print_classes(counts: &Counts) {
     for (class, refused, _) in CLASSES {
         let met = counts.code_classes.get(class).copied().unwrap_or_default();
         println!("  {class}, {}: {met}", if refused { "refused" } else { "not refused" });
+    }
+    println!("words of question 8, as steps, in runs, on sheets, by what they get (0: none of 14, 23, 24, 25):");
+    for (number, met) in hfi_rules::by_number(&counts.rules) {
+        println!("  {number}: {}", met.map(|count| count.to_string()).join(" "));
     }
     println!("RV64M words by operands: {}", m_words::names().join(" "));
     for (class, _, _) in M_CLASSES {

@@ -1,11 +1,12 @@
 //! A second implementation of the machine of document 01 as document 02 has
-//! changed it (Jobs 1 to 5), written from those and from the RISC-V unprivileged
+//! changed it (Jobs 1 to 6), written from those and from the RISC-V unprivileged
 //! specification alone. It is meant to be read side by side with them, so it
 //! prefers the plain form: whole numbers in u128 and i128, one byte at a time,
 //! one question after the other.
 
 pub mod calls;
 pub mod compare;
+pub mod hfi_rules;
 pub mod instruction;
 pub mod m_words;
 pub mod machine;

@@ -35,7 +35,7 @@ pub fn step(machine: &mut Machine, memory: &mut [u8]) -> (u64, u64) {
     step_asked(machine, memory)
 }
 
-/// Questions 4 to 13, with Job 5's after 8, and the effect.
+/// Questions 4 to 13, with Job 6's before 8 and Job 5's after it, and the effect.
 pub fn step_asked(machine: &mut Machine, memory: &mut [u8]) -> (u64, u64) {
     // 4. Is pc a multiple of 4?
     if machine.pc % 4 != 0 {
@@ -57,9 +57,10 @@ pub fn step_asked(machine: &mut Machine, memory: &mut [u8]) -> (u64, u64) {
         Some(instruction) => instruction,
         None => return (13, 0),
     };
-    // 8. Does HFI allow it?
-    if hfi_forbids(machine, &instruction) {
-        return (14, 0);
+    // 8. Does HFI allow it? With Job 6, 23, 24 and 25 before 14.
+    match hfi_refusal(machine, &instruction) {
+        0 => {}
+        number => return (number, 0),
     }
     // Job 5: would an enter begin locked HFI mode with such a byte?
     if enters_locked(machine, &instruction) && code_is_writable(machine) {
@@ -107,72 +108,82 @@ fn calls_redirected(machine: &Machine) -> bool {
     machine.mode == 1 && bit(machine.options, OPTION_REDIRECT_CALLS)
 }
 
-/// Question 8, item by item.
-pub fn hfi_forbids(machine: &Machine, instruction: &Instruction) -> bool {
-    let inside = machine.mode == 1;
-    match *instruction {
-        // an h-word outside HFI mode
-        Instruction::HLoad { .. } | Instruction::HStore { .. } => !inside,
-        Instruction::Hfi { kind, rs1, .. } => {
-            let operand = machine.get(rs1);
-            let forbidden_when_locked = match kind {
-                // funct7 3 to 9, 11 or 12
-                HfiKind::Select
-                | HfiKind::SetBase
-                | HfiKind::GetBase
-                | HfiKind::SetBound
-                | HfiKind::GetBound
-                | HfiKind::SetPermission
-                | HfiKind::GetPermission
-                | HfiKind::GetHandler
-                | HfiKind::Reset => true,
-                HfiKind::Enter | HfiKind::EnterJump | HfiKind::Exit | HfiKind::SetHandler => false,
-            };
-            let needs_selection = match kind {
-                // funct7 4 to 9
-                HfiKind::SetBase
-                | HfiKind::GetBase
-                | HfiKind::SetBound
-                | HfiKind::GetBound
-                | HfiKind::SetPermission
-                | HfiKind::GetPermission => true,
-                _ => false,
-            };
-            // enter in HFI mode
-            if inside && (kind == HfiKind::Enter || kind == HfiKind::EnterJump) {
-                return true;
-            }
-            // exit outside it
-            if !inside && kind == HfiKind::Exit {
-                return true;
-            }
-            // funct7 3 to 9, 11 or 12 in HFI mode when locked
-            if inside && machine.locked() && forbidden_when_locked {
-                return true;
-            }
-            // set handler in HFI mode, locked or unlocked
-            if inside && kind == HfiKind::SetHandler {
-                return true;
-            }
-            // an options operand above 15
-            if (kind == HfiKind::Enter || kind == HfiKind::EnterJump) && operand > 15 {
-                return true;
-            }
-            // a selected number not 1 to 3
-            if kind == HfiKind::Select && (operand < 1 || operand > REGIONS as u64) {
-                return true;
-            }
-            // funct7 4 to 9 with selector 0
-            if needs_selection && machine.selector == 0 {
-                return true;
-            }
-            // a permission bit the region lacks
-            if kind == HfiKind::SetPermission && !permission_fits(machine.selector as usize, operand) {
-                return true;
-            }
-            false
+/// Where a machine is, as the rules of HFI mode see it.
+#[derive(Clone, Copy, Debug, PartialEq, Eq)]
+pub enum Mode {
+    Outside,
+    Unlocked,
+    Locked,
+}
+
+/// Outside HFI mode the lock bit says nothing.
+pub fn mode_of(machine: &Machine) -> Mode {
+    match (machine.mode, machine.locked()) {
+        (0, _) => Mode::Outside,
+        (_, false) => Mode::Unlocked,
+        (_, true) => Mode::Locked,
+    }
+}
+
+/// Job 6: the number by which a word of opcode 5b is refused for where it
+/// stands alone: outside HFI mode, inside unlocked, inside locked. 0 where it
+/// may stand.
+pub const MODE_RULES: [(HfiKind, [u64; 3]); 13] = [
+    // 23, enter in HFI mode
+    (HfiKind::Enter, [0, 23, 23]),
+    (HfiKind::EnterJump, [0, 23, 23]),
+    // 24, exit outside it
+    (HfiKind::Exit, [24, 0, 0]),
+    // 25: funct7 3 to 9, 11 or 12 in HFI mode when locked
+    (HfiKind::Select, [0, 0, 25]),
+    (HfiKind::SetBase, [0, 0, 25]),
+    (HfiKind::GetBase, [0, 0, 25]),
+    (HfiKind::SetBound, [0, 0, 25]),
+    (HfiKind::GetBound, [0, 0, 25]),
+    (HfiKind::SetPermission, [0, 0, 25]),
+    (HfiKind::GetPermission, [0, 0, 25]),
+    // 25: set handler in HFI mode, locked or unlocked
+    (HfiKind::SetHandler, [0, 25, 25]),
+    (HfiKind::GetHandler, [0, 0, 25]),
+    (HfiKind::Reset, [0, 0, 25]),
+];
+
+/// Question 8 as Job 6 has split it: 23, 24 and 25, "asked just before 14",
+/// so whatever the operand is; then 14. 0 if HFI allows it.
+pub fn hfi_refusal(machine: &Machine, instruction: &Instruction) -> u64 {
+    match mode_refusal(machine, instruction) {
+        0 if operand_forbidden(machine, instruction) => 14,
+        number => number,
+    }
+}
+
+fn mode_refusal(machine: &Machine, instruction: &Instruction) -> u64 {
+    let Instruction::Hfi { kind, .. } = *instruction else { return 0 };
+    let row = MODE_RULES.iter().find(|row| row.0 == kind).expect("every kind has a row");
+    row.1[mode_of(machine) as usize]
+}
+
+/// What keeps 14, item by item: "Faults in an operand, an h-word outside HFI
+/// mode and a missing selection".
+fn operand_forbidden(machine: &Machine, instruction: &Instruction) -> bool {
+    let (kind, operand) = match *instruction {
+        Instruction::HLoad { .. } | Instruction::HStore { .. } => return mode_of(machine) == Mode::Outside,
+        Instruction::Hfi { kind, rs1, .. } => (kind, machine.get(rs1)),
+        _ => return false,
+    };
+    match kind {
+        // an options operand above 15
+        HfiKind::Enter | HfiKind::EnterJump => operand > 15,
+        // a selected number not 1 to 3
+        HfiKind::Select => operand < 1 || operand > REGIONS as u64,
+        // funct7 4 to 9 with selector 0, and a permission bit the region lacks
+        HfiKind::SetBase | HfiKind::GetBase | HfiKind::SetBound | HfiKind::GetBound | HfiKind::GetPermission => {
+            machine.selector == 0
         }
-        _ => false,
+        HfiKind::SetPermission => {
+            machine.selector == 0 || !permission_fits(machine.selector as usize, operand)
+        }
+        HfiKind::Exit | HfiKind::SetHandler | HfiKind::GetHandler | HfiKind::Reset => false,
     }
 }
 

@@ -90,21 +90,28 @@ pub struct Supply {
     rows: usize,
     /// Does it mostly keep writable bytes and code apart where they are locked?
     parts: bool,
+    /// Does it put words that question 8 refuses where runs cross the mode?
+    strays: bool,
 }
 
 impl Supply {
     pub fn new(seed: u64) -> Supply {
-        Supply { state: seed, rows: REGISTER_TABLE.len(), parts: true }
+        Supply { state: seed, rows: REGISTER_TABLE.len(), parts: true, strays: true }
     }
 
     /// As before Job 2, so that what was stored then stays as it was.
     pub fn of_base(seed: u64) -> Supply {
-        Supply { state: seed, rows: BASE_ROWS, parts: false }
+        Supply { state: seed, rows: BASE_ROWS, parts: false, strays: false }
     }
 
     /// As before Job 5, likewise.
     pub fn of_rv64m(seed: u64) -> Supply {
-        Supply { state: seed, rows: REGISTER_TABLE.len(), parts: false }
+        Supply { state: seed, rows: REGISTER_TABLE.len(), parts: false, strays: false }
+    }
+
+    /// As before Job 6, likewise.
+    pub fn of_writable_code(seed: u64) -> Supply {
+        Supply { state: seed, rows: REGISTER_TABLE.len(), parts: true, strays: false }
     }
 
     pub fn next(&mut self) -> u64 {
@@ -586,7 +593,23 @@ impl Supply {
         }
     }
 
+    /// A word of question 8: any of opcode 5b, with x20, x27 or another as its
+    /// operand, or an h-word.
+    fn stray(&mut self) -> Instruction {
+        let (kind, has_rd, has_rs1, has_rs2) = self.pick(&HFI_TABLE);
+        let keep = |has: bool, register: u64| if has { register } else { 0 };
+        let (rd, rs1, rs2) = (self.pick(&[0, 5, 6, 7]), self.pick(&[0, 5, 20, 27]), 23 + self.below(3));
+        match self.below(4) {
+            0 => Instruction::HLoad { kind: self.pick(&LOAD_TABLE).0, rd, rs1: 0, offset: 0 },
+            1 => Instruction::Hfi { kind: HfiKind::Exit, rd: 0, rs1: 0, rs2: 0 },
+            _ => Instruction::Hfi { kind, rd: keep(has_rd, rd), rs1: keep(has_rs1, rs1), rs2: keep(has_rs2, rs2) },
+        }
+    }
+
     fn outer_work(&mut self) -> Instruction {
+        if self.strays && self.once_in(40) {
+            return self.stray();
+        }
         let rd = self.pick(&[5, 6, 7, 9]);
         match self.below(24) {
             0 => Instruction::Hfi { kind: HfiKind::Select, rd: 0, rs1: 27, rs2: 0 },
@@ -603,6 +626,9 @@ impl Supply {
     }
 
     fn inner_work(&mut self) -> Instruction {
+        if self.strays && self.once_in(40) {
+            return self.stray();
+        }
         if self.once_in(60) {
             return self.steady_instruction();
         }

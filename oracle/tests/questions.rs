@@ -1,4 +1,5 @@
-//! Directed tests of questions 1 to 21, in the order of document 01.
+//! Directed tests of questions 1 to 21, in the order of document 01; question 8
+//! as Job 6 of document 02 has split it (tests/hfi_rules.rs has all of it).
 
 mod common;
 use common::*;
@@ -216,10 +217,10 @@ fn eight_enter_and_exit() {
     let jump = memory(64, 0, &[hfi(HfiKind::EnterJump, 0, 5, 6)]);
     let exit = memory(64, 0, &[hfi(HfiKind::Exit, 0, 0, 0)]);
     for options in 0..16 {
-        stops(Machine { options, ..inside() }, &enter, 14, 0);
-        stops(Machine { options, ..inside() }, &jump, 14, 0);
+        stops(Machine { options, ..inside() }, &enter, 23, 0);
+        stops(Machine { options, ..inside() }, &jump, 23, 0);
+        stops(Machine { options, ..outside() }, &exit, 24, 0);
     }
-    stops(outside(), &exit, 14, 0);
     // an options operand above 15, the whole register
     for operand in [16, 0x100, 0x1_0000_0001, ALL, 1 << 63] {
         let mut machine = outside();
@@ -228,6 +229,12 @@ fn eight_enter_and_exit() {
         stops(machine, &jump, 14, 0);
         machine.x[6] = 2; // 14 before 15
         stops(machine, &jump, 14, 0);
+        // in HFI mode 23 before both
+        let mut machine = inside();
+        (machine.x[5], machine.x[6]) = (operand, 2);
+        stops(machine, &enter, 23, 0);
+        stops(machine, &jump, 23, 0);
+        stops(Machine { options: 1, ..machine }, &jump, 23, 0);
     }
 }
 
@@ -258,22 +265,22 @@ fn eight_locked_and_unlocked() {
         let mut off = Machine { mode: 0, ..shut };
         match kind {
             HfiKind::Enter | HfiKind::EnterJump => {
-                stops(shut, &bytes, 14, 0);
-                stops(open, &bytes, 14, 0);
+                stops(shut, &bytes, 23, 0);
+                stops(open, &bytes, 23, 0);
                 assert_eq!(step(&mut off, &mut bytes.clone()), (0, 0));
             }
             HfiKind::Exit => {
                 assert_eq!(step(&mut shut, &mut bytes.clone()), (0, 0));
                 assert_eq!(step(&mut open, &mut bytes.clone()), (0, 0));
-                stops(off, &bytes, 14, 0);
+                stops(off, &bytes, 24, 0);
             }
             HfiKind::SetHandler => {
-                stops(shut, &bytes, 14, 0);
-                stops(open, &bytes, 14, 0);
+                stops(shut, &bytes, 25, 0);
+                stops(open, &bytes, 25, 0);
                 assert_eq!(step(&mut off, &mut bytes.clone()), (0, 0));
             }
             _ => {
-                stops(shut, &bytes, 14, 0);
+                stops(shut, &bytes, 25, 0);
                 assert_eq!(step(&mut open, &mut bytes.clone()), (0, 0));
                 assert_eq!(step(&mut off, &mut bytes.clone()), (0, 0));
             }
@@ -288,6 +295,10 @@ fn eight_selection() {
         let mut machine = outside();
         machine.x[5] = operand;
         stops(machine, &select, 14, 0);
+        let mut machine = locked();
+        machine.x[5] = operand;
+        stops(machine, &select, 25, 0);
+        stops(Machine { options: 14, ..machine }, &select, 14, 0);
     }
     for operand in 1..=3 {
         let mut machine = outside();
@@ -306,6 +317,7 @@ fn eight_selection() {
         let bytes = memory(64, 0, &[hfi(kind, rd, rs1, 0)]);
         stops(outside(), &bytes, 14, 0);
         stops(inside(), &bytes, 14, 0);
+        stops(locked(), &bytes, 25, 0);
         // a get into x0 still asks
         if rd != 0 {
             stops(outside(), &memory(64, 0, &[hfi(kind, 0, 0, 0)]), 14, 0);
@@ -335,6 +347,10 @@ fn eight_permission_bits() {
                 assert_eq!(after.regions[selector as usize - 1].permission, 1 << place);
             } else {
                 stops(machine, &bytes, 14, 0);
+                let mut machine = Machine { selector, ..locked() };
+                machine.x[5] = 1 << place;
+                stops(machine, &bytes, 25, 0);
+                stops(Machine { options: 0, ..machine }, &bytes, 14, 0);
             }
         }
     }

@@ -20,8 +20,12 @@ fn sheets() {
         printed.extend(format!("{name}\n").into_bytes());
         printed.extend(oracle::respond(&input));
     }
-    assert!(index.lines().count() >= 874);
-    assert_eq!(String::from_utf8(printed).unwrap(), text("crates/sheets/stdout"));
+    assert!(index.lines().count() >= 969);
+    let printed = String::from_utf8(printed).unwrap();
+    assert_eq!(printed, text("crates/sheets/stdout"));
+    // Of the numbers of question 8, no sheet comes to 24.
+    let met = |stop: &str| printed.lines().filter(|line| line.starts_with(stop) && line.split(',').count() == 9).count();
+    assert!(met("14,") >= 23 && met("23,") >= 40 && met("25,") >= 46 && met("24,") == 0);
 }
 
 /// The five programs of bench/ end as its table says.
@@ -58,7 +62,7 @@ fn index() {
         assert_eq!(lines[at + 1], first, "{name}");
         seen += 1;
     }
-    assert!(seen >= 674);
+    assert!(seen >= 769);
 }
 
 /// The stored calls are those that the oracle writes, and it answers the
@@ -68,7 +72,19 @@ fn calls() {
     let (data, printed) = oracle::calls::stored();
     assert_eq!(data, text("crates/calls/data/calls"));
     assert_eq!(printed, text("crates/calls/stdout"));
-    assert!(oracle::calls::directed().len() >= 1586);
+    assert!(oracle::calls::directed().len() >= 1863);
+    assert!(oracle::calls::random().len() >= 360);
+    // Each number of question 8 often, as a step and in a run.
+    let mut met = std::collections::BTreeMap::new();
+    let calls: Vec<&str> = data.lines().skip(1).step_by(5).collect();
+    for (call, answer) in calls.iter().zip(printed.lines().skip(1).step_by(5)) {
+        let (request, stop) = (call.split(',').nth(1).unwrap(), answer.split(',').nth(1).unwrap());
+        *met.entry((request, stop)).or_insert(0) += 1;
+    }
+    for (stop, steps, runs) in [("14", 137, 18), ("23", 48, 12), ("24", 23, 12), ("25", 69, 29)] {
+        let [step, run] = ["1", "2"].map(|request| met.get(&(request, stop)).copied().unwrap_or(0));
+        assert!(step >= steps && run >= runs, "{stop}: {step} steps, {run} runs");
+    }
 }
 
 fn authored(name: &str) -> String {

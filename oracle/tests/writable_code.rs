@@ -240,8 +240,8 @@ fn twenty_two_in_its_order() {
         // the options that the machine has do not count, only the operand
         machine.x[5] = 3;
         stops(Machine { options: 15, ..machine }, &at(enter), 22, 0);
-        // in HFI mode: 14, or 4 where it is locked
-        stops(Machine { mode: 1, options: 14, ..machine }, &at(enter), 14, 0);
+        // in HFI mode: 23, or 4 where it is locked
+        stops(Machine { mode: 1, options: 14, ..machine }, &at(enter), 23, 0);
         stops(Machine { mode: 1, options: 15, ..machine }, &at(enter), 4, 0);
         // 10, 12 and 13 come before
         stops(Machine { pc: 0x1002, ..machine }, &at(enter), 10, 0);
@@ -286,7 +286,7 @@ fn four_is_asked_once() {
     let widen = [hfi(HfiKind::Select, 0, 9, 0), hfi(HfiKind::SetBase, 0, 8, 0), store(StoreKind::Word, 7, 8, 12), 0, ECALL];
     let mut machine = of_two(region(0x2000, mask(12), 3));
     (machine.x[7], machine.x[8], machine.x[9]) = (EBREAK as u64, 0x1000, 2);
-    assert_eq!(run(&mut machine.clone(), &mut memory(0x3000, 0x1000, &widen), 50), (14, 0, 0));
+    assert_eq!(run(&mut machine.clone(), &mut memory(0x3000, 0x1000, &widen), 50), (25, 0, 0));
     machine.options = 0;
     let mut bytes = memory(0x3000, 0x1000, &widen);
     assert_eq!(run(&mut machine, &mut bytes, 50), (19, 3, 0));
@@ -406,15 +406,17 @@ fn every_class_of_regions_is_met() {
         compare(&Oracle, &Oracle, &mut Supply::new(seed), &mut counts);
         assert!(counts.differences.is_empty(), "{:?}", counts.differences);
     }
+    let mut all = Counts::default();
     for seed in 0..4 {
         let mut counts = Counts::default();
         rounds(&Oracle, &Oracle, 100 + seed, H_ROUNDS, &mut counts);
         assert!(counts.differences.is_empty(), "{:?}", counts.differences);
         assert_eq!(unmet(&counts.code_classes), Vec::<String>::new());
-        // most locked machines are not refused
-        let stops = |stop: u64| counts.isolation_stops.get(&stop).copied().unwrap_or_default();
-        assert!(stops(4) > 0 && stops(4) * 5 < counts.isolation_stops.values().sum(), "{:?}", counts.isolation_stops);
+        all.add(counts);
     }
+    // most locked machines are not refused
+    let stops = |stop: u64| all.isolation_stops.get(&stop).copied().unwrap_or_default();
+    assert!(stops(4) > 0 && stops(4) * 5 < all.isolation_stops.values().sum(), "{:?}", all.isolation_stops);
     assert_eq!(unmet(&Counts::default().code_classes).len(), CLASSES.len());
 }
 

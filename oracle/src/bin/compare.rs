@@ -68,7 +68,8 @@ fn main() {
         long_memories(&Oracle, under_test.as_ref(), seed, &mut counts);
         if many / threads >= H_ROUNDS {
             let words = [h_words_unmet(&counts), oracle::m_words::unmet(&counts.m_words)].concat();
-            let unmet = [words, oracle::writable_code::unmet(&counts.code_classes), long_sheets_unmet(&counts)].concat();
+            let rules = [oracle::writable_code::unmet(&counts.code_classes), oracle::hfi_rules::unmet(&counts.rules)].concat();
+            let unmet = [words, rules, long_sheets_unmet(&counts)].concat();
             unmet.into_iter().for_each(|text| counts.difference(text));
         }
         if many / threads >= EMPTY_TURNS {
