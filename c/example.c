@@ -1,6 +1,6 @@
-/* example: guest programs in a sandbox, as a controller runs them. Each result is printed as the sheet program
+/* example: guest programs in sandboxes, as a controller runs them. Each result is printed as the sheet program
  * prints it. The second program makes a system call; the controller answers it and goes on. A third sandbox grants a
- * byte of its code for writing too, and its run is refused. A fourth program tries to widen what it was granted. */
+ * byte of its code for writing too, and its run is refused. In a fourth the program tries to widen what it was granted. */
 #include "koubospar.h"
 
 #include <inttypes.h>

@@ -90,7 +90,7 @@ struct koubospar_machine {
 /* The number that ended a call. Of those that a call can answer, the first whose question is answered no. 4 is asked
  * after 3, of the regions alone: a byte below 2^48 counts whether or not memory has it, and a region that breaks its rule
  * does not. It is asked once a call; no step of a run can bring about what it refuses. What HFI forbids is asked after
- * 13 and before 15, in the order 23, 24, 25, 14, 22. */
+ * 13 and before 15, in the order 23, 24, 25, 14, 22; a caller to whom that is all one looks for all five. */
 enum {
     KOUBOSPAR_COMPLETED = 0,           /* a completed step, or a resumption */
     KOUBOSPAR_MEMORY_TOO_LONG = 1,     /* memory is longer than 16,777,216 bytes */
@@ -111,7 +111,7 @@ enum {
     KOUBOSPAR_BUDGET_SPENT = 21,       /* the budget has no step left */
     KOUBOSPAR_LOCK_WRITABLE_CODE = 22, /* an enter would begin what 4 refuses */
     KOUBOSPAR_ENTER_INSIDE = 23,       /* an enter in HFI mode */
-    KOUBOSPAR_EXIT_OUTSIDE = 24,       /* an exit outside it */
+    KOUBOSPAR_EXIT_OUTSIDE = 24,       /* an exit outside HFI mode */
     KOUBOSPAR_SETTING_FORBIDDEN = 25   /* a region or handler instruction that HFI mode forbids */
 };
 

@@ -254,7 +254,7 @@ int main(void)
         measure(PLACE);
     all[STEP].missed = 0x3cffc1b & ~all[STEP].stops; /* 0, 1, 3, 4, 10 to 19, 22 to 25 */
     all[RUN].missed = 0x3fffc1e & ~all[RUN].stops;   /* 1 to 4, 10 to 25 */
-    all[RESUME].missed = 0x9 & ~all[RESUME].stops;      /* 0 and 3 */
+    all[RESUME].missed = 0x9 & ~all[RESUME].stops;   /* 0 and 3 */
     int failed = 0;
     for (int n = 0; n < CALLS; n++) {
         int bad = all[n].most > all[n].said || all[n].missed != 0;

@@ -1,2 +1,2 @@
-// The words of opcode 5b.
+// Question 8, and the words of opcode 5b.
 pub mod word;

@@ -1,14 +1,14 @@
-// The words of opcode 5b.
+// Question 8, and the words of opcode 5b.
 ghost use mathlib.Core.Path.{_≡_};
 ghost use mathlib.Core.List.{List};
-ghost use mathlib.Core.Bool.{cond, not};
+ghost use mathlib.Core.Bool.{cond};
 ghost use Prim.Native.Nat.{ℕ, _<_};
 ghost use Rattle.instructions.specs.declared.kind.HfiKind.the-variants.{Enter, SetBase, SetPermission};
 ghost use Rattle.instructions.specs.declared.instruction.Instruction.the-variants.{Hfi};
-ghost use Rattle.model.specs.Machine.{inside as insideOf, redirectsExits, withBase, withBound, withPermission, zeroRegions, entered as enteredOf, exited as exitedOf, withSelector, withRegions, withHandler, machine};
+ghost use Rattle.model.specs.Machine.{redirectsExits, withBase, withBound, withPermission, zeroRegions, entered as enteredOf, exited as exitedOf, withSelector, withRegions, withHandler, machine};
 ghost use Rattle.model.specs.WellFormed.{clearHandler};
 ghost use Rattle.model.specs.Outcome.{completed as completedOf, aligned};
-ghost use Rattle.model.specs.Hfi.{firstBroken, wordRules, selected as selectedOf, changed as changedOf, hfiPerform};
+ghost use Rattle.model.specs.Hfi.{firstBroken, hWordRules, wordRules, selected as selectedOf, changed as changedOf, hfiPerform};
 ghost use Rattle.model.specs.Step.{executeInstruction};
 ghost use Rattle.hart.specs.Effect.{effectWith};
 use hart::effect::Effect;
@@ -42,7 +42,7 @@ fn rule(broken: bool, number: u64, later: u64) -> u64
 
 // The rule of an h-word.
 pub fn h_word_stop(h: HfiState) -> u64
-    ensures { λ r. ⌜ r ≡ cond (not (insideOf h)) 14 0 ⌝ }
+    ensures { λ r. ⌜ r ≡ firstBroken (hWordRules h) ⌝ }
 {
     rule(!inside(h), 14, 0)
 }
@@ -51,8 +51,8 @@ pub fn h_word_stop(h: HfiState) -> u64
 fn enter_stop(h: HfiState, options: u64) -> u64
     ensures { λ r. ⌜ r ≡ firstBroken (wordRules h Enter options) ⌝ }
 {
-    let lock = rule(exposes_code(entered(h, options)), 22, 0);
-    rule(inside(h), 23, rule(LARGEST_OPTIONS < options, 14, lock))
+    let later = rule(exposes_code(entered(h, options)), 22, 0);
+    rule(inside(h), 23, rule(LARGEST_OPTIONS < options, 14, later))
 }
 
 // The rules of a word for the selected region; they ask nothing of its operand.
@@ -66,8 +66,8 @@ fn selected_stop(h: HfiState) -> u64
 fn permission_stop(h: HfiState, p: u64) -> u64
     ensures { λ r. ⌜ r ≡ firstBroken (wordRules h SetPermission p) ⌝ }
 {
-    let lacks = rule(!permission_fits(h.selector, p), 14, 0);
-    rule(locked(h), 25, rule(h.selector == 0, 14, lacks))
+    let later = rule(!permission_fits(h.selector, p), 14, 0);
+    rule(locked(h), 25, rule(h.selector == 0, 14, later))
 }
 
 // Question 8 of a word of opcode 5b: the number of the first rule that it breaks, or 0. `a` is the register rs1.

@@ -4,10 +4,12 @@
 use mathlib.Core.Path.{_≡_, refl, ap, sym, _∙_}
 use mathlib.Core.Bool.{Bool, true, false, cond, not, _&&_, _||_, false≢true}
 use mathlib.Core.List.{List, [], _∷_}
+use mathlib.Core.Logic.{_⊎_, inl, inr}
 use Prim.Native.Nat.{ℕ, _%_, _<_, _≤_}
-use lib.Dec.{eqb, leb}
+use native.Mathlib.Omega.{arith}
+use lib.Dec.{eqb, leb, ltb}
 use lib.ListN.{length}
-use borrow.Author.Tests.{eqb-true, eqb-false, eq-eqb, ne-eqb, ltb-true, lt-ltb, ltb-false, le-ltb, not-true}
+use borrow.Author.Tests.{eqb-true, eqb-false, eq-eqb, ne-eqb, leb-false, lt-leb, ltb-true, lt-ltb, ltb-false, le-ltb, not-true}
 use Rattle.instructions.specs.Kinds.{hfiCode}
 use Rattle.instructions.specs.Decode.{decodeWord}
 use Rattle.instructions.specs.declared.kind.LoadKind.{LoadKind}
@@ -23,19 +25,24 @@ use Rattle.instructions.proofs.RoundTrip.{decoded-range}
 use Rattle.instructions.proofs.Tests.{and-both}
 use Rattle.model.specs.Machine.{bit, sum, reg, fetchOp, largestOptions, inside, locked, entered, lastRegion}
 use Rattle.model.specs.Regions.{permissionFits}
+use Rattle.model.specs.WellFormed.{wellFormed}
 use Rattle.model.specs.WritableCode.{WritableCode, writableCode, exposesCode}
 use Rattle.model.specs.Bytes.{value}
 use Rattle.model.specs.Access.{fetchAccess, verdict}
 use Rattle.model.specs.Outcome.{Outcome, stopped, allowed, settle}
-use Rattle.model.specs.Step.{perform, executeInstruction, executeWord, step}
+use Rattle.model.specs.Step.{perform, executeInstruction, executeWord, step, longest, stepCall}
+use Rattle.model.specs.Run.{Ended, ended, runCall}
 use Rattle.model.specs.Hfi.{firstBroken, wordRules, rules, hfiStop}
+use Rattle.model.specs.Isolation.{Locked}
 use Rattle.model.specs.declared.HfiState.{HfiState}
 use Rattle.model.specs.declared.Machine.{Machine}
 use Rattle.model.specs.declared.Verdict.{Verdict}
 use Rattle.model.specs.declared.Verdict.the-variants.{Passed, Refused, Absent}
 use Rattle.model.proofs.WritableCode.{code-tested, tested-code}
-use Rattle.model.proofs.Forbidden.{of-each, isHfiStop, stop-nonzero}
-use Rattle.model.proofs.Moves.{plainStops, isPlain, clash, perform-plain}
+use Rattle.model.proofs.Forbidden.{of-each, hfiStops, isHfiStop, stop-nonzero}
+use Rattle.model.proofs.Moves.{otherStops, isOther, clash, perform-other}
+use Rattle.model.proofs.Runs.{run-ind, call-ind, is-locked, locked-is}
+use Rattle.model.proofs.Exposed.{Exposed, exposed, exposes}
 
 -- ---- the clauses
 
@@ -52,28 +59,67 @@ lockable k = (leb 3 (hfiCode k) && leb (hfiCode k) 9) || (eqb (hfiCode k) 11 || 
 abbrev pub ofSelection : HfiKind → Bool
 ofSelection k = leb 4 (hfiCode k) && leb (hfiCode k) 9
 
--- the instruction, and the number
+-- HFI does not allow this instruction, and this is the number
 pub data Breaks (m : Machine) : Instruction → ℕ → Type 0 where
   -- "23, enter in HFI mode", whatever its operand
-  enters-inside : {k : HfiKind} {rd rs1 rs2 : ℕ} → Enters k → inside (m .hfi) ≡ true → Breaks m (Hfi k rd rs1 rs2) 23
+  enters-inside : {k : HfiKind} {rd rs1 rs2 : ℕ} → Enters k → m .hfi .mode ≡ 1 → Breaks m (Hfi k rd rs1 rs2) 23
   -- "24, exit outside it"
-  exits-outside : {rd rs1 rs2 : ℕ} → inside (m .hfi) ≡ false → Breaks m (Hfi Exit rd rs1 rs2) 24
-  -- "25, a region or handler instruction that HFI mode forbids", whatever its operand and whatever is selected
-  when-locked : {k : HfiKind} {rd rs1 rs2 : ℕ} → lockable k ≡ true → locked (m .hfi) ≡ true → Breaks m (Hfi k rd rs1 rs2) 25
-  sets-handler : {rd rs1 rs2 : ℕ} → inside (m .hfi) ≡ true → Breaks m (Hfi SetHandler rd rs1 rs2) 25
+  exits-outside : {rd rs1 rs2 : ℕ} → (m .hfi .mode ≡ 1 → ⊥) → Breaks m (Hfi Exit rd rs1 rs2) 24
+  -- "25, a region or handler instruction that HFI mode forbids", whatever its operand and whatever is selected: ".. in HFI mode when locked"
+  when-locked : {k : HfiKind} {rd rs1 rs2 : ℕ} → lockable k ≡ true → Locked m → Breaks m (Hfi k rd rs1 rs2) 25
+  -- and "set handler in HFI mode, locked or unlocked"
+  sets-handler : {rd rs1 rs2 : ℕ} → m .hfi .mode ≡ 1 → Breaks m (Hfi SetHandler rd rs1 rs2) 25
   -- "an h-word outside HFI mode"
-  h-load-outside : {k : LoadKind} {rd rs1 imm : ℕ} → inside (m .hfi) ≡ false → Breaks m (HLoad k rd rs1 imm) 14
-  h-store-outside : {k : StoreKind} {rs1 rs2 imm : ℕ} → inside (m .hfi) ≡ false → Breaks m (HStore k rs1 rs2 imm) 14
-  -- "Faults in an operand": "an options operand above 15; a selected number not 1 to 3; .. a permission bit the region lacks"
-  bad-options : {k : HfiKind} {rd rs1 rs2 : ℕ} → Enters k → inside (m .hfi) ≡ false → largestOptions < reg (m .x) rs1 → Breaks m (Hfi k rd rs1 rs2) 14
-  bad-number : {rd rs1 rs2 : ℕ} → locked (m .hfi) ≡ false → (leb 1 (reg (m .x) rs1) && leb (reg (m .x) rs1) lastRegion) ≡ false → Breaks m (Hfi SelectRegion rd rs1 rs2) 14
-  bad-permission : {rd rs1 rs2 : ℕ} → locked (m .hfi) ≡ false → (m .hfi .selector ≡ 0 → ⊥) → permissionFits (m .hfi .selector) (reg (m .x) rs1) ≡ false
+  h-load-outside : {k : LoadKind} {rd rs1 imm : ℕ} → (m .hfi .mode ≡ 1 → ⊥) → Breaks m (HLoad k rd rs1 imm) 14
+  h-store-outside : {k : StoreKind} {rs1 rs2 imm : ℕ} → (m .hfi .mode ≡ 1 → ⊥) → Breaks m (HStore k rs1 rs2 imm) 14
+  -- "Faults in an operand": "an options operand above 15"
+  bad-options : {k : HfiKind} {rd rs1 rs2 : ℕ} → Enters k → (m .hfi .mode ≡ 1 → ⊥) → largestOptions < reg (m .x) rs1
+      → Breaks m (Hfi k rd rs1 rs2) 14
+  -- "a selected number not 1 to 3"
+  bad-number : {rd rs1 rs2 : ℕ} → (Locked m → ⊥) → (reg (m .x) rs1 ≡ 0) ⊎ (lastRegion < reg (m .x) rs1)
+      → Breaks m (Hfi SelectRegion rd rs1 rs2) 14
+  -- "a permission bit the region lacks"
+  bad-permission : {rd rs1 rs2 : ℕ} → (Locked m → ⊥) → (m .hfi .selector ≡ 0 → ⊥) → permissionFits (m .hfi .selector) (reg (m .x) rs1) ≡ false
       → Breaks m (Hfi SetPermission rd rs1 rs2) 14
   -- "a missing selection": "funct7 4 to 9 with selector 0"
-  no-selection : {k : HfiKind} {rd rs1 rs2 : ℕ} → ofSelection k ≡ true → locked (m .hfi) ≡ false → m .hfi .selector ≡ 0 → Breaks m (Hfi k rd rs1 rs2) 14
+  no-selection : {k : HfiKind} {rd rs1 rs2 : ℕ} → ofSelection k ≡ true → (Locked m → ⊥) → m .hfi .selector ≡ 0 → Breaks m (Hfi k rd rs1 rs2) 14
   -- "22, for either enter form that would begin such a state": the operand is good and locks, and the regions as they are have writable code
-  begins : {k : HfiKind} {rd rs1 rs2 : ℕ} → Enters k → inside (m .hfi) ≡ false → reg (m .x) rs1 ≤ largestOptions → bit 0 (reg (m .x) rs1) ≡ true → WritableCode (m .hfi .regions)
-      → Breaks m (Hfi k rd rs1 rs2) 22
+  begins : {k : HfiKind} {rd rs1 rs2 : ℕ} → Enters k → (m .hfi .mode ≡ 1 → ⊥) → reg (m .x) rs1 ≤ largestOptions
+      → bit 0 (reg (m .x) rs1) ≡ true → WritableCode (m .hfi .regions) → Breaks m (Hfi k rd rs1 rs2) 22
+
+-- ---- the table's tests, in the words above
+
+is-inside : (m : Machine) → m .hfi .mode ≡ 1 → inside (m .hfi) ≡ true
+is-inside m = eq-eqb (m .hfi .mode) 1
+
+is-outside : (m : Machine) → (m .hfi .mode ≡ 1 → ⊥) → inside (m .hfi) ≡ false
+is-outside m = ne-eqb (m .hfi .mode) 1
+
+is-unlocked : (m : Machine) → (Locked m → ⊥) → locked (m .hfi) ≡ false
+is-unlocked m n = go (locked (m .hfi)) refl
+  where
+    go : (b : Bool) → locked (m .hfi) ≡ b → locked (m .hfi) ≡ false
+    go true e = absurd (n (locked-is m e))
+    go false e = e
+
+unlocked-is : (m : Machine) → locked (m .hfi) ≡ false → Locked m → ⊥
+unlocked-is m e k = clash e (is-locked m k)
+
+-- "not 1 to 3"
+no-number : (a : ℕ) → (a ≡ 0) ⊎ (lastRegion < a) → (leb 1 a && leb a lastRegion) ≡ false
+no-number a (inl e) = rw e refl
+no-number a (inr l) = go (leb 1 a)
+  where
+    go : (b : Bool) → (b && leb a lastRegion) ≡ false
+    go true = lt-leb a lastRegion l
+    go false = refl
+
+number-no : (a : ℕ) → (leb 1 a && leb a lastRegion) ≡ false → (a ≡ 0) ⊎ (lastRegion < a)
+number-no a e = go (leb 1 a) refl e
+  where
+    go : (b : Bool) → leb 1 a ≡ b → (b && leb a lastRegion) ≡ false → (a ≡ 0) ⊎ (lastRegion < a)
+    go true t u = inr (leb-false a lastRegion u)
+    go false t u = let z = leb-false 1 a t in inl (omega (arith, z))
 
 -- ---- each clause has its number
 
@@ -126,20 +172,20 @@ module _ (h : HfiState) (a : ℕ) where
 
 pub rule-number : (m : Machine) (i : Instruction) (n : ℕ) → Breaks m i n → hfiStop m i ≡ n
 unfolding hfiStop
-rule-number m i n (Breaks.enters-inside {k} {rd} {rs1} e o) = ap firstBroken (enter-forms (m .hfi) (reg (m .x) rs1) k e) ∙ rw o refl
-rule-number m i n (Breaks.exits-outside o) = rw o refl
-rule-number m i n (Breaks.when-locked {k} t l) = locked-25 (m .hfi) _ k t l
-rule-number m i n (Breaks.sets-handler o) = rw o refl
-rule-number m i n (Breaks.h-load-outside o) = rw o refl
-rule-number m i n (Breaks.h-store-outside o) = rw o refl
+rule-number m i n (Breaks.enters-inside {k} {rd} {rs1} e o) = ap firstBroken (enter-forms (m .hfi) (reg (m .x) rs1) k e) ∙ rw (is-inside m o) refl
+rule-number m i n (Breaks.exits-outside o) = rw (is-outside m o) refl
+rule-number m i n (Breaks.when-locked {k} t l) = locked-25 (m .hfi) _ k t (is-locked m l)
+rule-number m i n (Breaks.sets-handler o) = rw (is-inside m o) refl
+rule-number m i n (Breaks.h-load-outside o) = rw (is-outside m o) refl
+rule-number m i n (Breaks.h-store-outside o) = rw (is-outside m o) refl
 rule-number m i n (Breaks.bad-options {k} {rd} {rs1} e o l) =
-    ap firstBroken (enter-forms (m .hfi) (reg (m .x) rs1) k e) ∙ rw (o, lt-ltb largestOptions (reg (m .x) rs1) l) refl
-rule-number m i n (Breaks.bad-number l b) = rw (l, b) refl
-rule-number m i n (Breaks.bad-permission l s p) = rw (l, ne-eqb (m .hfi .selector) 0 s, p) refl
-rule-number m i n (Breaks.no-selection {k} t l s) = unselected-14 (m .hfi) _ k t l (eq-eqb _ _ s)
+    ap firstBroken (enter-forms (m .hfi) (reg (m .x) rs1) k e) ∙ rw (is-outside m o, lt-ltb largestOptions (reg (m .x) rs1) l) refl
+rule-number m i n (Breaks.bad-number {rd} {rs1} l b) = rw (is-unlocked m l, no-number (reg (m .x) rs1) b) refl
+rule-number m i n (Breaks.bad-permission l s p) = rw (is-unlocked m l, ne-eqb (m .hfi .selector) 0 s, p) refl
+rule-number m i n (Breaks.no-selection {k} t l s) = unselected-14 (m .hfi) _ k t (is-unlocked m l) (eq-eqb _ _ s)
 rule-number m i n (Breaks.begins {k} {rd} {rs1} e o l b w) =
     ap firstBroken (enter-forms (m .hfi) (reg (m .x) rs1) k e)
-    ∙ rw (o, le-ltb largestOptions (reg (m .x) rs1) l, begins-exposed (m .hfi) (reg (m .x) rs1) b w) refl
+    ∙ rw (is-outside m o, le-ltb largestOptions (reg (m .x) rs1) l, begins-exposed (m .hfi) (reg (m .x) rs1) b w) refl
 
 -- ---- and there are no others
 
@@ -163,33 +209,36 @@ module _ (m : Machine) (rd rs1 rs2 : ℕ) where
 
   enter-first : (k : HfiKind) → Enters k → First (P k) (wordRules (m .hfi) Enter (reg (m .x) rs1))
   enter-first k e = (
-    λ o. Breaks.enters-inside e o,
+    λ o. Breaks.enters-inside e (eqb-true _ _ o),
     λ o. (
-      λ l. Breaks.bad-options e o (ltb-true _ _ l),
-      λ l. (λ x. let p = exposed-begins (m .hfi) (reg (m .x) rs1) x in Breaks.begins e o (ltb-false _ _ l) (p .0) (p .1), λ x. tt),
+      λ l. Breaks.bad-options e (eqb-false _ _ o) (ltb-true _ _ l),
+      λ l. (λ x. let p = exposed-begins (m .hfi) (reg (m .x) rs1) x in Breaks.begins e (eqb-false _ _ o) (ltb-false _ _ l) (p .0) (p .1), λ x. tt),
     ),
   )
 
   selected-first : (k : HfiKind) → lockable k ≡ true → ofSelection k ≡ true → First (P k) (wordRules (m .hfi) SetBase (reg (m .x) rs1))
-  selected-first k t u = (λ l. Breaks.when-locked t l, λ l. (λ s. Breaks.no-selection u l (eqb-true _ _ s), λ s. tt))
+  selected-first k t u = (λ l. Breaks.when-locked t (locked-is m l), λ l. (λ s. Breaks.no-selection u (unlocked-is m l) (eqb-true _ _ s), λ s. tt))
 
   word-first : (k : HfiKind) → First (P k) (wordRules (m .hfi) k (reg (m .x) rs1))
   word-first Enter = enter-first Enter Enters.plain
   word-first EnterJump = enter-first EnterJump Enters.jump
-  word-first Exit = (λ o. Breaks.exits-outside (not-true _ o), λ o. tt)
-  word-first SelectRegion = (λ l. Breaks.when-locked refl l, λ l. (λ b. Breaks.bad-number l (not-true _ b), λ b. tt))
+  word-first Exit = (λ o. Breaks.exits-outside (eqb-false _ _ (not-true _ o)), λ o. tt)
+  word-first SelectRegion = (λ l. Breaks.when-locked refl (locked-is m l), λ l. (λ b. Breaks.bad-number (unlocked-is m l) (number-no _ (not-true _ b)), λ b. tt))
   word-first SetBase = selected-first SetBase refl refl
   word-first GetBase = selected-first GetBase refl refl
   word-first SetBound = selected-first SetBound refl refl
   word-first GetBound = selected-first GetBound refl refl
   word-first SetPermission = (
-    λ l. Breaks.when-locked refl l,
-    λ l. (λ s. Breaks.no-selection refl l (eqb-true _ _ s), λ s. (λ b. Breaks.bad-permission l (eqb-false _ _ s) (not-true _ b), λ b. tt)),
+    λ l. Breaks.when-locked refl (locked-is m l),
+    λ l. (
+      λ s. Breaks.no-selection refl (unlocked-is m l) (eqb-true _ _ s),
+      λ s. (λ b. Breaks.bad-permission (unlocked-is m l) (eqb-false _ _ s) (not-true _ b), λ b. tt),
+    ),
   )
   word-first GetPermission = selected-first GetPermission refl refl
-  word-first SetHandler = (λ o. Breaks.sets-handler o, λ o. tt)
-  word-first GetHandler = (λ l. Breaks.when-locked refl l, λ l. tt)
-  word-first ResetRegions = (λ l. Breaks.when-locked refl l, λ l. tt)
+  word-first SetHandler = (λ o. Breaks.sets-handler (eqb-true _ _ o), λ o. tt)
+  word-first GetHandler = (λ l. Breaks.when-locked refl (locked-is m l), λ l. tt)
+  word-first ResetRegions = (λ l. Breaks.when-locked refl (locked-is m l), λ l. tt)
 
 instruction-first : (m : Machine) (i : Instruction) → First (Breaks m i) (rules m i)
 instruction-first m (Upper k rd imm) = tt
@@ -206,8 +255,8 @@ instruction-first m (Register k rd rs1 rs2) = tt
 instruction-first m (RegisterWord k rd rs1 rs2) = tt
 instruction-first m (Fence fm pred succ rs1 rd) = tt
 instruction-first m (System k) = tt
-instruction-first m (HLoad k rd rs1 imm) = (λ o. Breaks.h-load-outside (not-true _ o), λ o. tt)
-instruction-first m (HStore k rs1 rs2 imm) = (λ o. Breaks.h-store-outside (not-true _ o), λ o. tt)
+instruction-first m (HLoad k rd rs1 imm) = (λ o. Breaks.h-load-outside (eqb-false _ _ (not-true _ o)), λ o. tt)
+instruction-first m (HStore k rs1 rs2 imm) = (λ o. Breaks.h-store-outside (eqb-false _ _ (not-true _ o)), λ o. tt)
 instruction-first m (Hfi k rd rs1 rs2) = word-first m rd rs1 rs2 k
 
 pub number-rule : (m : Machine) (i : Instruction) → (hfiStop m i ≡ 0 → ⊥) → Breaks m i (hfiStop m i)
@@ -217,26 +266,26 @@ number-rule m i n = first (Breaks m i) (rules m i) (instruction-first m i) (ne-e
 -- ---- of a whole step
 
 -- no other question has one of these numbers
-plain-other : (n : ℕ) → isPlain n ≡ true → isHfiStop n ≡ true → ⊥
-plain-other n p = clash (not-true (isHfiStop n) (of-each (λ k. not (isHfiStop k)) plainStops n refl p))
+other-numbers : (n : ℕ) → isOther n ≡ true → isHfiStop n ≡ true → ⊥
+other-numbers n p = clash (not-true (isHfiStop n) (of-each (λ k. not (isHfiStop k)) otherStops n refl p))
 
-numbered-clause : (m : Machine) (i : Instruction) (n : ℕ) → Breaks m i n → isHfiStop n ≡ true
-numbered-clause m i n (Breaks.enters-inside e o) = refl
-numbered-clause m i n (Breaks.exits-outside o) = refl
-numbered-clause m i n (Breaks.when-locked t l) = refl
-numbered-clause m i n (Breaks.sets-handler o) = refl
-numbered-clause m i n (Breaks.h-load-outside o) = refl
-numbered-clause m i n (Breaks.h-store-outside o) = refl
-numbered-clause m i n (Breaks.bad-options e o l) = refl
-numbered-clause m i n (Breaks.bad-number l b) = refl
-numbered-clause m i n (Breaks.bad-permission l s p) = refl
-numbered-clause m i n (Breaks.no-selection t l s) = refl
-numbered-clause m i n (Breaks.begins e o l b w) = refl
+clause-listed : (m : Machine) (i : Instruction) (n : ℕ) → Breaks m i n → isHfiStop n ≡ true
+clause-listed m i n (Breaks.enters-inside e o) = refl
+clause-listed m i n (Breaks.exits-outside o) = refl
+clause-listed m i n (Breaks.when-locked t l) = refl
+clause-listed m i n (Breaks.sets-handler o) = refl
+clause-listed m i n (Breaks.h-load-outside o) = refl
+clause-listed m i n (Breaks.h-store-outside o) = refl
+clause-listed m i n (Breaks.bad-options e o l) = refl
+clause-listed m i n (Breaks.bad-number l b) = refl
+clause-listed m i n (Breaks.bad-permission l s p) = refl
+clause-listed m i n (Breaks.no-selection t l s) = refl
+clause-listed m i n (Breaks.begins e o l b w) = refl
 
 module _ (m : Machine) (mem : List ℕ) (next : ℕ) (i : Instruction) where
   pub instruction-stops : (n : ℕ) → Breaks m i n → executeInstruction m mem next i ≡ stopped n m mem
   unfolding executeInstruction allowed
-  instruction-stops n b = rw (rule-number m i n b) (rw (stop-nonzero n (numbered-clause m i n b)) refl)
+  instruction-stops n b = rw (rule-number m i n b) (rw (stop-nonzero n (clause-listed m i n b)) refl)
 
   pub instruction-stopped : inRange i ≡ true → isHfiStop (executeInstruction m mem next i .result .stop) ≡ true
       → Breaks m i (executeInstruction m mem next i .result .stop)
@@ -245,7 +294,7 @@ module _ (m : Machine) (mem : List ℕ) (next : ℕ) (i : Instruction) where
     where
       go : (b : Bool) → eqb (hfiStop m i) 0 ≡ b → isHfiStop (cond b (perform m mem next i) (stopped (hfiStop m i) m mem) .result .stop) ≡ true
           → Breaks m i (cond b (perform m mem next i) (stopped (hfiStop m i) m mem) .result .stop)
-      go true e q = absurd (plain-other (perform m mem next i .result .stop) (perform-plain m mem next i h e) q)
+      go true e q = absurd (other-numbers (perform m mem next i .result .stop) (perform-other m mem next i h e) q)
       go false e q = number-rule m i (eqb-false _ _ e)
 
 -- the instruction that a step comes to: questions 4 to 7 are answered yes
@@ -287,3 +336,58 @@ step-stopped m mem q = go (eqb (m .pc % 4) 0) refl (verdict (m .hfi .mode) (leng
     go true p Passed r (Legal i) t q =
         let f : Fetches m mem i = record { multiple = eqb-true _ _ p; passed = r; legal = t } in
         comes i f (rw (ap (λ (o : Outcome). o .result .stop) (fetched-step m mem i f)) q)
+
+-- ---- of the calls
+
+-- 1, 3 and 4 are asked before
+pub record Comes (m : Machine) (mem : List ℕ) : Type 0 where
+  pub short : length mem ≤ longest
+  pub formed : wellFormed m ≡ true
+  pub safe : Exposed m → ⊥
+
+pub call-stops : (m : Machine) (mem : List ℕ) (n : ℕ) → Comes m mem → Forbids m mem n → stepCall m mem ≡ stopped n m mem
+unfolding stepCall
+call-stops m mem n c f =
+    rw (le-ltb longest (length mem) (c .short), c .formed, unexposed) (step-stops m mem (f .instruction) n (f .fetched) (f .rule))
+  where
+    unexposed : exposesCode (m .hfi) ≡ false
+    unexposed = go (exposesCode (m .hfi)) refl
+      where
+        go : (b : Bool) → exposesCode (m .hfi) ≡ b → exposesCode (m .hfi) ≡ false
+        go true e = absurd (c .safe (exposed m e))
+        go false e = e
+
+pub call-stopped : (m : Machine) (mem : List ℕ) → isHfiStop (stepCall m mem .result .stop) ≡ true → Comes m mem × Forbids m mem (stepCall m mem .result .stop)
+unfolding stepCall
+call-stopped m mem q = go (ltb longest (length mem)) (wellFormed m) (exposesCode (m .hfi)) refl refl refl q
+  where
+    go : (a c d : Bool) → ltb longest (length mem) ≡ a → wellFormed m ≡ c → exposesCode (m .hfi) ≡ d
+        → isHfiStop (cond a (stopped 1 m mem) (cond c (cond d (stopped 4 m mem) (step m mem)) (stopped 3 m mem)) .result .stop) ≡ true
+        → Comes m mem × Forbids m mem (cond a (stopped 1 m mem) (cond c (cond d (stopped 4 m mem) (step m mem)) (stopped 3 m mem)) .result .stop)
+    go true c d l w x q = absurd (false≢true q)
+    go false false d l w x q = absurd (false≢true q)
+    go false true true l w x q = absurd (false≢true q)
+    go false true false l w x q = (record { short = ltb-false _ _ l; formed = w; safe = λ e. clash x (exposes m e) }, step-stopped m mem q)
+
+-- what is left at such a stop is what the step call is stopped over
+abbrev Left : Ended → Type 0
+Left e = isHfiStop (e .result .stop) ≡ true → Forbids (e .result .machine) (e .memory) (e .result .stop)
+
+refused-left : (m : Machine) (mem : List ℕ) (stop : ℕ) → 1 ≤ stop → stop ≤ 4 → Left (ended stop 0 0 m mem)
+refused-left m mem stop l u q = let z = ltb-true 4 stop (of-each (ltb 4) hfiStops stop refl q) in absurd (omega (arith, z, u))
+
+step-left : (m : Machine) (mem : List ℕ) → isHfiStop (step m mem .result .stop) ≡ true
+    → Forbids (step m mem .result .machine) (step m mem .memory) (step m mem .result .stop)
+step-left m mem q =
+    let f = step-stopped m mem q in
+    let e = step-stops m mem (f .instruction) _ (f .fetched) (f .rule) in
+    rw (ap (λ (o : Outcome). o .result .machine) e, ap (λ (o : Outcome). o .memory) e) f
+
+-- a run that ends so: machine and memory are as they were when that instruction was come to, and pc is at its word
+pub run-stopped : (m : Machine) (mem : List ℕ) (budget : ℕ) → isHfiStop (runCall m mem budget .result .stop) ≡ true
+    → Forbids (runCall m mem budget .result .machine) (runCall m mem budget .memory) (runCall m mem budget .result .stop)
+run-stopped m mem budget =
+    call-ind Left m mem budget (refused-left m mem)
+    (λ w x.
+    run-ind (inside (m .hfi)) (λ n k l s e. Left e) (λ k l s q. absurd (false≢true q)) (λ n k l s z. step-left l s) (λ n k l s q. absurd (false≢true q))
+    (λ n k l s e i h. h) budget 0 m mem)

@@ -2,15 +2,15 @@
 -- inside a run that began without it. Which words stop with 22 is in Broken.antt.
 -- Assumes nothing.
 use mathlib.Core.Path.{_≡_, refl}
-use mathlib.Core.Bool.{Bool, true, false, cond, false≢true}
+use mathlib.Core.Bool.{Bool, true, false, cond}
 use mathlib.Core.List.{List}
 use Prim.Native.Nat.{ℕ, _≤_}
 use native.Mathlib.Omega.{arith}
 use lib.Dec.{ltb}
 use lib.ListN.{length}
-use borrow.Author.Tests.{eqb-true, ltb-false, le-ltb}
+use borrow.Author.Tests.{ltb-false, le-ltb}
 use Rattle.instructions.proofs.Tests.{and-both}
-use Rattle.model.specs.Machine.{bit, inside, locked}
+use Rattle.model.specs.Machine.{inside, locked}
 use Rattle.model.specs.WellFormed.{wellFormed}
 use Rattle.model.specs.WritableCode.{WritableCode, writableCode, exposesCode}
 use Rattle.model.specs.Outcome.{stopped}
@@ -20,7 +20,7 @@ use Rattle.model.specs.Isolation.{Locked}
 use Rattle.model.specs.declared.Machine.{Machine}
 use Rattle.model.proofs.WritableCode.{code-tested, tested-code}
 use Rattle.model.proofs.Moves.{clash}
-use Rattle.model.proofs.Runs.{is-locked, run-not-refused, step-not-refused, run-unexposed}
+use Rattle.model.proofs.Runs.{is-locked, locked-is, run-not-refused, step-not-refused, run-unexposed}
 
 -- ---- the state
 
@@ -33,11 +33,7 @@ pub exposed : (m : Machine) → exposesCode (m .hfi) ≡ true → Exposed m
 unfolding exposesCode
 exposed m t =
     let p = and-both (locked (m .hfi)) (writableCode (m .hfi .regions)) t in
-    record { lock = go (inside (m .hfi)) refl (p .0); code = tested-code (m .hfi .regions) (p .1) }
-  where
-    go : (b : Bool) → inside (m .hfi) ≡ b → cond b (bit 0 (m .hfi .options)) false ≡ true → Locked m
-    go true e l = record { mode = eqb-true _ _ e; lock = eqb-true _ _ l }
-    go false e l = absurd (false≢true l)
+    record { lock = locked-is m (p .0); code = tested-code (m .hfi .regions) (p .1) }
 
 pub exposes : (m : Machine) → Exposed m → exposesCode (m .hfi) ≡ true
 unfolding exposesCode

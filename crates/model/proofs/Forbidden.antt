@@ -6,7 +6,7 @@ use mathlib.Core.Bool.{Bool, true, false, cond, not, _&&_, false≢true}
 use mathlib.Core.List.{List, [], _∷_}
 use Prim.Native.Nat.{ℕ}
 use lib.Dec.{eqb}
-use borrow.Author.Tests.{eqb-true}
+use borrow.Author.Tests.{eqb-true, not-true}
 use Rattle.instructions.specs.declared.kind.HfiKind.{HfiKind}
 use Rattle.instructions.specs.declared.kind.HfiKind.the-variants.{Enter, EnterJump, Exit, SelectRegion, SetBase, GetBase, SetBound, GetBound, SetPermission, GetPermission, SetHandler, GetHandler, ResetRegions}
 use Rattle.instructions.specs.declared.instruction.Instruction.{Instruction}
@@ -36,6 +36,7 @@ of-each p (a ∷ ns) n h e =
 
 -- ---- the stops of question 8
 
+-- in the order in which they are asked
 abbrev pub hfiStops : List ℕ
 hfiStops = 23 ∷ 24 ∷ 25 ∷ 14 ∷ 22 ∷ []
 
@@ -43,63 +44,62 @@ abbrev pub isHfiStop : ℕ → Bool
 isHfiStop n = among n hfiStops
 
 -- the table has no other numbers
-abbrev Numbered : List (Bool × ℕ) → Bool
-Numbered = every (λ rule. isHfiStop (rule .1))
+abbrev listed : List (Bool × ℕ) → Bool
+listed = every (λ rule. isHfiStop (rule .1))
 
-word-numbered : (h : HfiState) (k : HfiKind) (a : ℕ) → Numbered (wordRules h k a) ≡ true
-word-numbered h Enter a = refl
-word-numbered h EnterJump a = refl
-word-numbered h Exit a = refl
-word-numbered h SelectRegion a = refl
-word-numbered h SetBase a = refl
-word-numbered h GetBase a = refl
-word-numbered h SetBound a = refl
-word-numbered h GetBound a = refl
-word-numbered h SetPermission a = refl
-word-numbered h GetPermission a = refl
-word-numbered h SetHandler a = refl
-word-numbered h GetHandler a = refl
-word-numbered h ResetRegions a = refl
+word-listed : (h : HfiState) (k : HfiKind) (a : ℕ) → listed (wordRules h k a) ≡ true
+word-listed h Enter a = refl
+word-listed h EnterJump a = refl
+word-listed h Exit a = refl
+word-listed h SelectRegion a = refl
+word-listed h SetBase a = refl
+word-listed h GetBase a = refl
+word-listed h SetBound a = refl
+word-listed h GetBound a = refl
+word-listed h SetPermission a = refl
+word-listed h GetPermission a = refl
+word-listed h SetHandler a = refl
+word-listed h GetHandler a = refl
+word-listed h ResetRegions a = refl
 
-numbered : (m : Machine) (i : Instruction) → Numbered (rules m i) ≡ true
-numbered m (Upper k rd imm) = refl
-numbered m (Jal rd offset) = refl
-numbered m (Jalr rd rs1 imm) = refl
-numbered m (Branch k rs1 rs2 offset) = refl
-numbered m (Load k rd rs1 imm) = refl
-numbered m (Store k rs1 rs2 imm) = refl
-numbered m (Immediate k rd rs1 imm) = refl
-numbered m (Shift k rd rs1 amount) = refl
-numbered m (Addiw rd rs1 imm) = refl
-numbered m (ShiftWord k rd rs1 amount) = refl
-numbered m (Register k rd rs1 rs2) = refl
-numbered m (RegisterWord k rd rs1 rs2) = refl
-numbered m (Fence fm pred succ rs1 rd) = refl
-numbered m (System k) = refl
-numbered m (HLoad k rd rs1 imm) = refl
-numbered m (HStore k rs1 rs2 imm) = refl
-numbered m (Hfi k rd rs1 rs2) = word-numbered (m .hfi) k _
+all-listed : (m : Machine) (i : Instruction) → listed (rules m i) ≡ true
+all-listed m (Upper k rd imm) = refl
+all-listed m (Jal rd offset) = refl
+all-listed m (Jalr rd rs1 imm) = refl
+all-listed m (Branch k rs1 rs2 offset) = refl
+all-listed m (Load k rd rs1 imm) = refl
+all-listed m (Store k rs1 rs2 imm) = refl
+all-listed m (Immediate k rd rs1 imm) = refl
+all-listed m (Shift k rd rs1 amount) = refl
+all-listed m (Addiw rd rs1 imm) = refl
+all-listed m (ShiftWord k rd rs1 amount) = refl
+all-listed m (Register k rd rs1 rs2) = refl
+all-listed m (RegisterWord k rd rs1 rs2) = refl
+all-listed m (Fence fm pred succ rs1 rd) = refl
+all-listed m (System k) = refl
+all-listed m (HLoad k rd rs1 imm) = refl
+all-listed m (HStore k rs1 rs2 imm) = refl
+all-listed m (Hfi k rd rs1 rs2) = word-listed (m .hfi) k _
 
 -- so that 0 says that no rule is broken
 pub stop-nonzero : (n : ℕ) → isHfiStop n ≡ true → eqb n 0 ≡ false
-stop-nonzero n e = flipped (eqb n 0) (of-each (λ n. not (eqb n 0)) hfiStops n refl e)
-  where
-    flipped : (b : Bool) → not b ≡ true → b ≡ false
-    flipped true e = sym e
-    flipped false e = refl
+stop-nonzero n e = not-true (eqb n 0) (of-each (λ n. not (eqb n 0)) hfiStops n refl e)
 
-unbroken : (rs : List (Bool × ℕ)) → Numbered rs ≡ true → eqb (firstBroken rs) 0 ≡ true → every (λ rule. not (rule .0)) rs ≡ true
+abbrev pub breaksNone : List (Bool × ℕ) → Bool
+breaksNone = every (λ rule. not (rule .0))
+
+unbroken : (rs : List (Bool × ℕ)) → listed rs ≡ true → eqb (firstBroken rs) 0 ≡ true → breaksNone rs ≡ true
 unbroken [] h e = refl
-unbroken (r ∷ rs) h e = let p = and-both (isHfiStop (r .1)) (Numbered rs) h in go (r .0) (p .0) (λ u. unbroken rs (p .1) u) e
+unbroken (r ∷ rs) h e = let p = and-both (isHfiStop (r .1)) (listed rs) h in go (r .0) (p .0) (λ u. unbroken rs (p .1) u) e
   where
-    go : (b : Bool) → isHfiStop (r .1) ≡ true → (eqb (firstBroken rs) 0 ≡ true → every (λ rule. not (rule .0)) rs ≡ true)
-        → eqb (cond b (r .1) (firstBroken rs)) 0 ≡ true → (not b && every (λ rule. not (rule .0)) rs) ≡ true
+    go : (b : Bool) → isHfiStop (r .1) ≡ true → (eqb (firstBroken rs) 0 ≡ true → breaksNone rs ≡ true)
+        → eqb (cond b (r .1) (firstBroken rs)) 0 ≡ true → (not b && breaksNone rs) ≡ true
     go true n f u = sym (stop-nonzero (r .1) n) ∙ u
     go false n f u = f u
 
-first-numbered : (rs : List (Bool × ℕ)) → Numbered rs ≡ true → eqb (firstBroken rs) 0 ≡ false → isHfiStop (firstBroken rs) ≡ true
-first-numbered [] h e = sym e
-first-numbered (r ∷ rs) h e = let p = and-both (isHfiStop (r .1)) (Numbered rs) h in go (r .0) (p .0) (λ u. first-numbered rs (p .1) u) e
+first-listed : (rs : List (Bool × ℕ)) → listed rs ≡ true → eqb (firstBroken rs) 0 ≡ false → isHfiStop (firstBroken rs) ≡ true
+first-listed [] h e = sym e
+first-listed (r ∷ rs) h e = let p = and-both (isHfiStop (r .1)) (listed rs) h in go (r .0) (p .0) (λ u. first-listed rs (p .1) u) e
   where
     go : (b : Bool) → isHfiStop (r .1) ≡ true → (eqb (firstBroken rs) 0 ≡ false → isHfiStop (firstBroken rs) ≡ true)
         → eqb (cond b (r .1) (firstBroken rs)) 0 ≡ false → isHfiStop (cond b (r .1) (firstBroken rs)) ≡ true
@@ -107,10 +107,10 @@ first-numbered (r ∷ rs) h e = let p = and-both (isHfiStop (r .1)) (Numbered rs
     go false n f u = f u
 
 -- an instruction that HFI allows breaks no rule; one that it does not allow gets one of these stops
-pub allowed-breaks-none : (m : Machine) (i : Instruction) → eqb (hfiStop m i) 0 ≡ true → every (λ rule. not (rule .0)) (rules m i) ≡ true
+pub allowed-breaks-none : (m : Machine) (i : Instruction) → eqb (hfiStop m i) 0 ≡ true → breaksNone (rules m i) ≡ true
 unfolding hfiStop
-allowed-breaks-none m i = unbroken (rules m i) (numbered m i)
+allowed-breaks-none m i = unbroken (rules m i) (all-listed m i)
 
-pub forbidden-numbered : (m : Machine) (i : Instruction) → eqb (hfiStop m i) 0 ≡ false → isHfiStop (hfiStop m i) ≡ true
+pub forbidden-listed : (m : Machine) (i : Instruction) → eqb (hfiStop m i) 0 ≡ false → isHfiStop (hfiStop m i) ≡ true
 unfolding hfiStop
-forbidden-numbered m i = first-numbered (rules m i) (numbered m i)
+forbidden-listed m i = first-listed (rules m i) (all-listed m i)

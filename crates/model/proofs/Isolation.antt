@@ -27,7 +27,7 @@ use Rattle.model.specs.declared.Verdict.{Verdict}
 use Rattle.model.specs.declared.Verdict.the-variants.{Passed, Refused, Absent}
 use Rattle.model.proofs.Bytes.{value-same, written-same}
 use Rattle.model.proofs.Cleared.{passing}
-use Rattle.model.proofs.Moves.{Settings, Move, enact, Word, word-moves}
+use Rattle.model.proofs.Moves.{Settings, Move, enact, Executed, word-executed}
 use Rattle.model.proofs.Runs.{step-length, step-settings, run-length, locked-unwritten, locked-executable}
 
 -- what a step does over s and over t
@@ -65,11 +65,11 @@ module _ (m : Machine) (s t : List ℕ) (l : Locked m) (g : Agree m s t) where
       (λ h. record { result = refl; agreeing = λ b e. written-same (a .count) 0 s t (a .first) v b (g .lengths) e }))
 
   word-related : (w : ℕ) → Related s t (executeWord m s (decodeWord w)) (executeWord m t (decodeWord w))
-  word-related w = go (word-moves m w)
+  word-related w = go (word-executed m w)
     where
-      go : {f : List ℕ → Outcome} → Word m f → Related s t (f s) (f t)
-      go (Word.forbidden stop h same) = rw (same s, same t) (quiet s t stop 0 m)
-      go (Word.moves v) = rw (v .same s, v .same t) (move-related (v .move))
+      go : {f : List ℕ → Outcome} → Executed m f → Related s t (f s) (f t)
+      go (Executed.forbidden stop h same) = rw (same s, same t) (quiet s t stop 0 m)
+      go (Executed.moves v) = rw (v .same s, v .same t) (move-related (v .move))
 
   step-related : Related s t (step m s) (step m t)
   unfolding step

@@ -1,5 +1,6 @@
 -- What a step can do, once for all instructions: memory is as it was, or is written at the bytes of one passed access of at
--- most 8; and what happens to the machine. The only proof that goes through the instructions; all others cite it.
+-- most 8; and what happens to the machine. The only proof that goes through what the instructions do; all others cite it. Question 8's table has its own,
+-- Forbidden.antt.
 -- Assumes nothing.
 use mathlib.Core.Path.{_≡_, refl, ap, sym, _∙_}
 use mathlib.Core.Bool.{Bool, true, false, cond, not, _&&_, _||_}
@@ -9,6 +10,7 @@ use Prim.Native.Nat.{ℕ, _%_, _≤_}
 use native.Mathlib.Omega.{arith}
 use lib.Dec.{eqb, leb, ltb}
 use lib.ListN.{length}
+use borrow.Author.Tests.{not-true, not-false}
 use Rattle.instructions.specs.Decode.{decodeWord}
 use Rattle.instructions.specs.Encode.{inRange}
 use Rattle.instructions.specs.declared.kind.UpperKind.the-variants.{Lui, Auipc}
@@ -38,7 +40,7 @@ use Rattle.model.specs.declared.HfiState.{HfiState}
 use Rattle.model.specs.declared.Machine.{Machine}
 use Rattle.model.specs.declared.Verdict.{Verdict}
 use Rattle.model.specs.declared.Verdict.the-variants.{Passed, Refused, Absent}
-use Rattle.model.proofs.Forbidden.{every, isHfiStop, allowed-breaks-none, forbidden-numbered}
+use Rattle.model.proofs.Forbidden.{every, isHfiStop, breaksNone, allowed-breaks-none, forbidden-listed}
 use Rattle.model.proofs.Formed.{Good, good, formed, zero-kept, changed-fits, selected-fits, entered-fits, exited-fits, handler-fits, regions-fit, fault-fits}
 use Rattle.model.proofs.WritableCode.{or-second}
 use Rattle.model.proofs.Reach.{load-width, store-width, encodes}
@@ -71,16 +73,16 @@ pub record Kept (m k : Machine) : Type 0 where
 
 -- ---- the answer of a step
 
--- the numbers of a step's other questions, and 0: 1 to 4 are the calls' own, and 20 and 21 the run's
-abbrev pub plainStops : List ℕ
-plainStops = 0 ∷ 10 ∷ 11 ∷ 12 ∷ 13 ∷ 15 ∷ 16 ∷ 17 ∷ 18 ∷ 19 ∷ []
+-- the numbers of a step's questions other than 8, and 0: 1 to 4 are the calls' own, and 20 and 21 the run's
+abbrev pub otherStops : List ℕ
+otherStops = 0 ∷ 10 ∷ 11 ∷ 12 ∷ 13 ∷ 15 ∷ 16 ∷ 17 ∷ 18 ∷ 19 ∷ []
 
-abbrev pub isPlain : ℕ → Bool
-isPlain stop = among stop plainStops
+abbrev pub isOther : ℕ → Bool
+isOther stop = among stop otherStops
 
 -- a step's numbers
 abbrev pub isStop : ℕ → Bool
-isStop stop = isPlain stop || isHfiStop stop
+isStop stop = isOther stop || isHfiStop stop
 
 -- "12 and 17 also give the first absent address .. all others give 0 there"
 abbrev pub isAddress : ℕ → ℕ → Bool
@@ -105,7 +107,7 @@ abbrev pub Writes : Machine → Access → Type 0
 Writes m a = Reaches a (Writable (m .hfi .regions))
 
 pub data Move (m : Machine) : Type 0 where
-  quiet : (stop at : ℕ) (k : Machine) → proper isPlain stop at ≡ true → Kept m k → Move m
+  quiet : (stop at : ℕ) (k : Machine) → proper isOther stop at ≡ true → Kept m k → Move m
   loads : (next : ℕ) (a : Access) (k : LoadKind) (rd : ℕ) → Reads m a → Move m
   stores : (next : ℕ) (a : Access) (v : ℕ) → Writes m a → Move m
 
@@ -127,28 +129,27 @@ asked : (b c : Bool) → cond b c false ≡ true → b ≡ true
 asked true c e = refl
 asked false c e = e
 
-locked-inside : (h : HfiState) → locked h ≡ true → inside h ≡ true
+pub locked-inside : (h : HfiState) → locked h ≡ true → inside h ≡ true
 locked-inside h = asked (inside h) _
+
+-- so is the redirection of calls
+calls-inside : (h : HfiState) → redirectsCalls h ≡ true → inside h ≡ true
+calls-inside h = asked (inside h) _
 
 -- what is not locked is not refused for writable code
 unlocked-safe : (h : HfiState) → locked h ≡ false → exposesCode h ≡ false
 unfolding exposesCode
 unlocked-safe h n = rw n refl
 
--- and so is the redirection of calls
-calls-inside : (h : HfiState) → redirectsCalls h ≡ true → inside h ≡ true
-calls-inside h = asked (inside h) _
-
 -- the fault region of a byte that the implicit regions refuse is none or one of them
-abbrev Numbered : List ℕ → Bool
-Numbered [] = true
-Numbered (n ∷ ns) = leb n lastRegion && Numbered ns
+abbrev regionNumbers : List ℕ → Bool
+regionNumbers = every (λ n. leb n lastRegion)
 
-match-numbered : (rs : List Region) (ns : List ℕ) (a : ℕ) → Numbered ns ≡ true → leb (firstMatch rs ns a) lastRegion ≡ true
+match-numbered : (rs : List Region) (ns : List ℕ) (a : ℕ) → regionNumbers ns ≡ true → leb (firstMatch rs ns a) lastRegion ≡ true
 unfolding firstMatch
 match-numbered rs [] a h = refl
 match-numbered rs (n ∷ ns) a h =
-    let p = and-both (leb n lastRegion) (Numbered ns) h in
+    let p = and-both (leb n lastRegion) (regionNumbers ns) h in
     go (matches (region rs n) a) (p .0) (match-numbered rs ns a (p .1))
   where
     go : (b : Bool) → leb n lastRegion ≡ true → leb (firstMatch rs ns a) lastRegion ≡ true → leb (cond b n (firstMatch rs ns a)) lastRegion ≡ true
@@ -183,7 +184,7 @@ module _ (m : Machine) where
 
   -- ---- the moves that there are
 
-  stop : (n : ℕ) → proper isPlain n 0 ≡ true → Moves m (λ mem. outcome n 0 m mem)
+  stop : (n : ℕ) → proper isOther n 0 ≡ true → Moves m (λ mem. outcome n 0 m mem)
   stop n p = record { move = Move.quiet n 0 m p same-kept; same = λ mem. refl }
 
   onward : (x : List ℕ) (pc : ℕ) → (reg (m .x) 0 ≡ 0 → reg x 0 ≡ 0) → Moves m (λ mem. outcome 0 0 (machine x pc (m .hfi)) mem)
@@ -202,18 +203,9 @@ module _ (m : Machine) where
 
 -- ---- the words of opcode 5b
 
--- a rule that is not broken is kept
-kept-rule : (b : Bool) → not b ≡ true → b ≡ false
-kept-rule true e = sym e
-kept-rule false e = refl
-
-not-not : (b : Bool) → not b ≡ false → b ≡ true
-not-not true e = refl
-not-not false e = sym e
-
--- the first rule of a list that are all kept, and the rest
-kept-first : (b c : Bool) → (not b && c) ≡ true → (b ≡ false) × (c ≡ true)
-kept-first b c e = let p = and-both (not b) c e in (kept-rule b (p .0), p .1)
+-- where no rule of a list is broken the first is not, nor any of the rest
+unbroken-first : (b c : Bool) → (not b && c) ≡ true → (b ≡ false) × (c ≡ true)
+unbroken-first b c e = let p = and-both (not b) c e in (not-true b (p .0), p .1)
 
 module _ (m : Machine) where
   -- a word that changes the state outside a lock: mode and options are as they were
@@ -272,46 +264,46 @@ module _ (m : Machine) where
       }
 
   -- the rules of an enter, and of a word that sets a part of the selected region
-  enter-moves : (pc a : ℕ) → every (λ rule. not (rule .0)) (wordRules (m .hfi) Enter a) ≡ true → Moves m (λ mem. outcome 0 0 (machine (m .x) pc (entered (m .hfi) a)) mem)
+  enter-moves : (pc a : ℕ) → breaksNone (wordRules (m .hfi) Enter a) ≡ true → Moves m (λ mem. outcome 0 0 (machine (m .x) pc (entered (m .hfi) a)) mem)
   enter-moves pc a e =
-      let p = kept-first (inside (m .hfi)) _ e in
-      let q = kept-first (ltb largestOptions a) _ (p .1) in
-      entering pc a (p .0) (q .0) (kept-first (exposesCode (entered (m .hfi) a)) true (q .1) .0)
+      let p = unbroken-first (inside (m .hfi)) _ e in
+      let q = unbroken-first (ltb largestOptions a) _ (p .1) in
+      entering pc a (p .0) (q .0) (unbroken-first (exposesCode (entered (m .hfi) a)) true (q .1) .0)
 
-  set-moves : (pc : ℕ) (r : Region) → every (λ rule. not (rule .0)) (wordRules (m .hfi) SetBase 0) ≡ true
+  set-moves : (pc : ℕ) (r : Region) → breaksNone (wordRules (m .hfi) SetBase 0) ≡ true
       → (Good m → eqb (m .hfi .selector) 0 ≡ false → permissionFits (m .hfi .selector) (r .permission) ≡ true)
       → Moves m (λ mem. outcome 0 0 (machine (m .x) pc (changed (m .hfi) r)) mem)
   set-moves pc r e f =
-      let p = kept-first (locked (m .hfi)) _ e in
-      let s = kept-first (eqb (m .hfi .selector) 0) true (p .1) .0 in
+      let p = unbroken-first (locked (m .hfi)) _ e in
+      let s = unbroken-first (eqb (m .hfi .selector) 0) true (p .1) .0 in
       changes pc r (p .0) s (λ g. f g s)
 
   -- the words that HFI allows
-  hfi-moves : (next : ℕ) (k : HfiKind) (rd rs1 rs2 : ℕ) → every (λ rule. not (rule .0)) (wordRules (m .hfi) k (reg (m .x) rs1)) ≡ true
+  hfi-moves : (next : ℕ) (k : HfiKind) (rd rs1 rs2 : ℕ) → breaksNone (wordRules (m .hfi) k (reg (m .x) rs1)) ≡ true
       → Moves m (λ mem. hfiPerform m mem next k rd rs1 rs2)
   unfolding hfiPerform
   hfi-moves next Enter rd rs1 rs2 e = enter-moves next (reg (m .x) rs1) e
   hfi-moves next EnterJump rd rs1 rs2 e = aligns m (reg (m .x) rs2) (enter-moves (reg (m .x) rs2) (reg (m .x) rs1) e)
-  hfi-moves next Exit rd rs1 rs2 e = leaving _ 1 (not-not _ (kept-first _ true e .0)) refl
+  hfi-moves next Exit rd rs1 rs2 e = leaving _ 1 (not-false _ (unbroken-first _ true e .0)) refl
   hfi-moves next SelectRegion rd rs1 rs2 e =
       let a = reg (m .x) rs1 in
-      let p = kept-first _ _ e in
+      let p = unbroken-first _ _ e in
       unlocked next _ (p .0) refl refl
-      (λ g. record { zero = g .zero; state = regions-fit (m .hfi) (g .state) a (m .hfi .regions) (and-both (leb 1 a) (leb a lastRegion) (not-not _ (kept-first _ true (p .1) .0)) .1) (g .state .permissions) })
+      (λ g. record { zero = g .zero; state = regions-fit (m .hfi) (g .state) a (m .hfi .regions) (and-both (leb 1 a) (leb a lastRegion) (not-false _ (unbroken-first _ true (p .1) .0)) .1) (g .state .permissions) })
   hfi-moves next SetBase rd rs1 rs2 e = set-moves next _ e (λ g s. selected-fits (m .hfi) (g .state) s)
   hfi-moves next GetBase rd rs1 rs2 e = assigns m next rd _
   hfi-moves next SetBound rd rs1 rs2 e = set-moves next _ e (λ g s. selected-fits (m .hfi) (g .state) s)
   hfi-moves next GetBound rd rs1 rs2 e = assigns m next rd _
   hfi-moves next SetPermission rd rs1 rs2 e =
-      let p = kept-first (locked (m .hfi)) _ e in
-      let q = kept-first (eqb (m .hfi .selector) 0) _ (p .1) in
-      changes next _ (p .0) (q .0) (λ g. not-not _ (kept-first _ true (q .1) .0))
+      let p = unbroken-first (locked (m .hfi)) _ e in
+      let q = unbroken-first (eqb (m .hfi .selector) 0) _ (p .1) in
+      changes next _ (p .0) (q .0) (λ g. not-false _ (unbroken-first _ true (q .1) .0))
   hfi-moves next GetPermission rd rs1 rs2 e = assigns m next rd _
   hfi-moves next SetHandler rd rs1 rs2 e =
-      unlocked next _ (outside (kept-first _ true e .0)) refl refl (λ g. record { zero = g .zero; state = handler-fits (m .hfi) (g .state) (reg (m .x) rs1) })
+      unlocked next _ (outside (unbroken-first _ true e .0)) refl refl (λ g. record { zero = g .zero; state = handler-fits (m .hfi) (g .state) (reg (m .x) rs1) })
   hfi-moves next GetHandler rd rs1 rs2 e = assigns m next rd _
   hfi-moves next ResetRegions rd rs1 rs2 e =
-      unlocked next _ (kept-first _ true e .0) refl refl (λ g. record { zero = g .zero; state = regions-fit (m .hfi) (g .state) 0 zeroRegions refl refl })
+      unlocked next _ (unbroken-first _ true e .0) refl refl (λ g. record { zero = g .zero; state = regions-fit (m .hfi) (g .state) 0 zeroRegions refl refl })
 
   -- ---- the instructions
 
@@ -353,28 +345,28 @@ module _ (m : Machine) where
       (record { few = store-width k; reach = λ b p. Writable.byHStore _ (m .x) k rs1 rs2 imm (encodes _ h) p; numbered = λ i. refl })
   perform-moves next (Hfi k rd rs1 rs2) h e = hfi-moves next k rd rs1 rs2 (allowed-breaks-none m (Hfi k rd rs1 rs2) e)
 
--- what a word does, whatever memory it is done over: any stop of question 8, which leaves all as it was, or a move
-pub data Word (m : Machine) (f : List ℕ → Outcome) : Type 0 where
-  forbidden : (stop : ℕ) → isHfiStop stop ≡ true → ((mem : List ℕ) → f mem ≡ stopped stop m mem) → Word m f
-  moves : Moves m f → Word m f
+-- what an instruction comes to, whatever memory it is done over: any stop of question 8, which leaves all as it was, or a move
+pub data Executed (m : Machine) (f : List ℕ → Outcome) : Type 0 where
+  forbidden : (stop : ℕ) → isHfiStop stop ≡ true → ((mem : List ℕ) → f mem ≡ stopped stop m mem) → Executed m f
+  moves : Moves m f → Executed m f
 
 module _ (m : Machine) where
-  pub instruction-moves : (next : ℕ) (i : Instruction) → inRange i ≡ true → Word m (λ mem. executeInstruction m mem next i)
+  pub instruction-executed : (next : ℕ) (i : Instruction) → inRange i ≡ true → Executed m (λ mem. executeInstruction m mem next i)
   unfolding executeInstruction allowed
-  instruction-moves next i h = go (eqb (hfiStop m i) 0) refl
+  instruction-executed next i h = go (eqb (hfiStop m i) 0) refl
     where
-      go : (b : Bool) → eqb (hfiStop m i) 0 ≡ b → Word m (λ mem. cond b (perform m mem next i) (stopped (hfiStop m i) m mem))
-      go true e = Word.moves (let p = perform-moves m next i h e in record { move = p .move; same = p .same })
-      go false e = Word.forbidden (hfiStop m i) (forbidden-numbered m i e) (λ mem. refl)
+      go : (b : Bool) → eqb (hfiStop m i) 0 ≡ b → Executed m (λ mem. cond b (perform m mem next i) (stopped (hfiStop m i) m mem))
+      go true e = Executed.moves (let p = perform-moves m next i h e in record { move = p .move; same = p .same })
+      go false e = Executed.forbidden (hfiStop m i) (forbidden-listed m i e) (λ mem. refl)
 
   -- a word's instruction is in range
-  pub word-moves : (w : ℕ) → Word m (λ mem. executeWord m mem (decodeWord w))
+  pub word-executed : (w : ℕ) → Executed m (λ mem. executeWord m mem (decodeWord w))
   unfolding executeWord
-  word-moves w = go (decodeWord w) refl
+  word-executed w = go (decodeWord w) refl
     where
-      go : (d : Decoded) → decodeWord w ≡ d → Word m (λ mem. executeWord m mem d)
-      go (Legal i) e = instruction-moves _ i (decoded-range w i e)
-      go Illegal e = Word.moves (stop m 13 refl)
+      go : (d : Decoded) → decodeWord w ≡ d → Executed m (λ mem. executeWord m mem d)
+      go (Legal i) e = instruction-executed _ i (decoded-range w i e)
+      go Illegal e = Executed.moves (stop m 13 refl)
 
 -- ---- the law
 
@@ -415,7 +407,7 @@ module _ (m : Machine) (mem : List ℕ) where
   settles op refused absent (Absent at) o l p q f d = record { kept = same-kept m; stop = q at; memory = inl refl }
   settles op refused absent Passed o l p q f d = d refl
 
-  enacted : (v : Move m) → Does isPlain m mem (enact m mem v)
+  enacted : (v : Move m) → Does isOther m mem (enact m mem v)
   unfolding load store
   enacted (Move.quiet stop at k p c) = record { kept = c; stop = p; memory = inl refl }
   enacted (Move.loads next a k rd r) =
@@ -425,24 +417,24 @@ module _ (m : Machine) (mem : List ℕ) where
       settles storeOp 16 17 _ _ refl refl (λ at. refl) (faults (m .hfi .mode) (length mem) a (w .numbered))
       (λ e. record { kept = still m (m .x) next (λ z. z); stop = refl; memory = inr (record { access = a; stored = v; may = w; passed = e; bytes = refl }) })
 
-  does : {f : List ℕ → Outcome} → Moves m f → Does isPlain m mem (f mem)
+  does : {f : List ℕ → Outcome} → Moves m f → Does isOther m mem (f mem)
   does p = rw (p .same mem) (enacted (p .move))
 
   -- an instruction that HFI allows has none of the stops of question 8
-  pub perform-plain : (next : ℕ) (i : Instruction) → inRange i ≡ true → eqb (hfiStop m i) 0 ≡ true → isPlain (perform m mem next i .result .stop) ≡ true
-  perform-plain next i h e = and-both (isPlain (perform m mem next i .result .stop)) _ (does (perform-moves m next i h e) .stop) .0
+  pub perform-other : (next : ℕ) (i : Instruction) → inRange i ≡ true → eqb (hfiStop m i) 0 ≡ true → isOther (perform m mem next i .result .stop) ≡ true
+  perform-other next i h e = and-both (isOther (perform m mem next i .result .stop)) _ (does (perform-moves m next i h e) .stop) .0
 
-  any-stop : {o : Outcome} → Does isPlain m mem o → Does isStop m mem o
+  any-stop : {o : Outcome} → Does isOther m mem o → Does isStop m mem o
   any-stop {o} d =
-      let p = and-both (isPlain (o .result .stop)) _ (d .stop) in
+      let p = and-both (isOther (o .result .stop)) _ (d .stop) in
       record { kept = d .kept; stop = rw (p .0) (p .1); memory = d .memory }
 
-  word-does : {f : List ℕ → Outcome} → Word m f → Does isStop m mem (f mem)
-  word-does (Word.forbidden n h same) = rw (same mem) (record { kept = same-kept m; stop = rw (or-second (isPlain n) (isHfiStop n) h) (no-address n); memory = inl refl })
+  executed-does : {f : List ℕ → Outcome} → Executed m f → Does isStop m mem (f mem)
+  executed-does (Executed.forbidden n h same) = rw (same mem) (record { kept = same-kept m; stop = rw (or-second (isOther n) (isHfiStop n) h) (zero-address n); memory = inl refl })
     where
-      no-address : (n : ℕ) → isAddress n 0 ≡ true
-      no-address n = or-second (eqb n 12) _ (or-second (eqb n 17) true refl)
-  word-does (Word.moves p) = any-stop (does p)
+      zero-address : (n : ℕ) → isAddress n 0 ≡ true
+      zero-address n = or-second (eqb n 12) _ (or-second (eqb n 17) true refl)
+  executed-does (Executed.moves p) = any-stop (does p)
 
   pub step-does : Does isStop m mem (step m mem)
   unfolding step
@@ -451,7 +443,7 @@ module _ (m : Machine) (mem : List ℕ) where
       fetched : Does isStop m mem (settle m mem fetchOp 11 12 (verdict (m .hfi .mode) (length mem) (fetchAccess (m .hfi .regions) (m .pc))) (executeWord m mem (decodeWord (value mem (m .pc) 0 4))))
       fetched =
           settles fetchOp 11 12 _ _ refl refl (λ at. refl) (faults (m .hfi .mode) (length mem) _ (λ i. match-numbered _ codeRegions _ refl))
-          (λ e. word-does (word-moves m (value mem (m .pc) 0 4)))
+          (λ e. executed-does (word-executed m (value mem (m .pc) 0 4)))
 
       go : (b : Bool) → Does isStop m mem (cond b (settle m mem fetchOp 11 12 (verdict (m .hfi .mode) (length mem) (fetchAccess (m .hfi .regions) (m .pc))) (executeWord m mem (decodeWord (value mem (m .pc) 0 4)))) (outcome 10 0 m mem))
       go true = fetched

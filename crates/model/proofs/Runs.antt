@@ -23,7 +23,7 @@ use Rattle.model.proofs.Bytes.{length-written, written-other}
 use Rattle.model.proofs.Cleared.{passing}
 use Rattle.model.proofs.WritableCode.{either, not-both}
 use Rattle.model.proofs.Forbidden.{every, of-each, hfiStops, isHfiStop}
-use Rattle.model.proofs.Moves.{Settings, settings, Stored, clash, plainStops, isPlain, isStop, isAddress, step-does}
+use Rattle.model.proofs.Moves.{locked-inside, Settings, settings, Stored, clash, otherStops, isOther, isStop, isAddress, step-does}
 
 -- ---- for the loop
 
@@ -68,7 +68,7 @@ module _ (began : Bool) (Q : ℕ → ℕ → Machine → List ℕ → Ended → 
     (goes-on : (n k : ℕ) (m : Machine) (mem : List ℕ) (e : Ended) → (began ≡ true → inside (step m mem .result .machine .hfi) ≡ true)
     → Q n (suc k) (step m mem .result .machine) (step m mem .memory) e → Q (suc n) k m mem e)
   where
-    run-ind : (n k : ℕ) (m : Machine) (mem : List ℕ) → Q n k m mem (run began n k m mem)
+    pub run-ind : (n k : ℕ) (m : Machine) (mem : List ℕ) → Q n k m mem (run began n k m mem)
     unfolding runBy
     run-ind zero k m mem = spent k m mem
     run-ind (suc n) k m mem =
@@ -89,7 +89,7 @@ module _ (began : Bool) (Q : ℕ → ℕ → Machine → List ℕ → Ended → 
         go false q c d h = stops n k m mem (eqb-false _ 0 q)
 
 -- what holds of a refusal and of the run holds of the call
-call-ind : (Q : Ended → Type 0) (m : Machine) (mem : List ℕ) (budget : ℕ) → ((stop : ℕ) → 1 ≤ stop → stop ≤ 4 → Q (ended stop 0 0 m mem))
+pub call-ind : (Q : Ended → Type 0) (m : Machine) (mem : List ℕ) (budget : ℕ) → ((stop : ℕ) → 1 ≤ stop → stop ≤ 4 → Q (ended stop 0 0 m mem))
     → (wellFormed m ≡ true → exposesCode (m .hfi) ≡ false → Q (run (inside (m .hfi)) budget 0 m mem)) → Q (runCall m mem budget)
 unfolding runCall
 call-ind Q m mem budget refused r = go (ltb longest (length mem)) (ltb largestBudget budget) (wellFormed m) (exposesCode (m .hfi)) refl refl
@@ -130,15 +130,15 @@ module _ (m : Machine) (mem : List ℕ) where
   proper-parts = and-both (isStop stop) _ (step-does m mem .stop)
 
   -- a number of its other questions, or any stop of question 8
-  pub step-number : (isPlain stop ≡ true) ⊎ (isHfiStop stop ≡ true)
-  step-number = either (isPlain stop) (isHfiStop stop) (proper-parts .0)
+  pub step-number : (isOther stop ≡ true) ⊎ (isHfiStop stop ≡ true)
+  step-number = either (isOther stop) (isHfiStop stop) (proper-parts .0)
 
   -- so what holds of all those numbers holds of it
-  of-its-own : (p : ℕ → Bool) → every p plainStops ≡ true → every p hfiStops ≡ true → p stop ≡ true
+  of-its-own : (p : ℕ → Bool) → every p otherStops ≡ true → every p hfiStops ≡ true → p stop ≡ true
   of-its-own p f g = go step-number
     where
-      go : (isPlain stop ≡ true) ⊎ (isHfiStop stop ≡ true) → p stop ≡ true
-      go (inl e) = of-each p plainStops stop f e
+      go : (isOther stop ≡ true) ⊎ (isHfiStop stop ≡ true) → p stop ≡ true
+      go (inl e) = of-each p otherStops stop f e
       go (inr e) = of-each p hfiStops stop g e
 
   -- "all others give 0 there"
@@ -226,8 +226,14 @@ pub run-options : (m : Machine) (mem : List ℕ) (budget : ℕ) → inside (m .h
 run-options m mem budget on =
     run-keeps m (λ l s. l .hfi .options ≡ m .hfi .options) (λ l s i e. step-does l s .kept .options (i on) ∙ e) mem budget refl
 
+-- the test of the lock, both ways
 pub is-locked : (m : Machine) → Locked m → locked (m .hfi) ≡ true
 is-locked m k = rw (eq-eqb _ 1 (k .mode)) (eq-eqb _ _ (k .lock))
+
+pub locked-is : (m : Machine) → locked (m .hfi) ≡ true → Locked m
+locked-is m l =
+    let i = locked-inside (m .hfi) l in
+    record { mode = eqb-true _ _ i; lock = eqb-true _ _ (rw i at l) }
 
 -- nor do a locked machine's regions, options, handler or selector
 pub step-settings : (m : Machine) (mem : List ℕ) → Locked m → settings (step m mem .result .machine) ≡ settings m

@@ -19,8 +19,8 @@ use Rattle.model.specs.declared.Region.{Region}
 use Rattle.model.specs.declared.HfiState.{HfiState}
 use Rattle.model.specs.declared.Machine.{Machine}
 
--- ---- question 8: "8. Does HFI allow it? No: **14**: ..". Document 02 gives three of its rules numbers of their own, "all three are asked
--- just before 14" (Job 6), and adds 22, "asked after 14 and before 15" (Job 5)
+-- ---- question 8: "8. Does HFI allow it? No: 14: ..". Document 02 gives some of its rules the numbers 23 to 25, "all three are asked just
+-- before 14" (Job 6), and adds 22, "asked after 14 and before 15" (Job 5)
 
 -- the number of the first rule that is broken, or 0
 abbrev pub firstBroken : List (Bool × ℕ) → ℕ
@@ -50,7 +50,11 @@ wordRules h SetHandler a = (inside h, 25) ∷ []
 wordRules h GetHandler a = (locked h, 25) ∷ []
 wordRules h ResetRegions a = (locked h, 25) ∷ []
 
--- and those of every instruction
+-- "an h-word outside it": "an h-word outside HFI mode .. keep 14"
+abbrev pub hWordRules : HfiState → List (Bool × ℕ)
+hWordRules h = (not (inside h), 14) ∷ []
+
+-- The rules of every instruction. Of most the paragraph says nothing
 abbrev pub rules : Machine → Instruction → List (Bool × ℕ)
 rules m (Upper k rd imm) = []
 rules m (Jal rd offset) = []
@@ -66,9 +70,8 @@ rules m (Register k rd rs1 rs2) = []
 rules m (RegisterWord k rd rs1 rs2) = []
 rules m (Fence fm pred succ rs1 rd) = []
 rules m (System k) = []
--- "an h-word outside it": "an h-word outside HFI mode .. keep 14"
-rules m (HLoad k rd rs1 imm) = (not (inside (m .hfi)), 14) ∷ []
-rules m (HStore k rs1 rs2 imm) = (not (inside (m .hfi)), 14) ∷ []
+rules m (HLoad k rd rs1 imm) = hWordRules (m .hfi)
+rules m (HStore k rs1 rs2 imm) = hWordRules (m .hfi)
 rules m (Hfi k rd rs1 rs2) = wordRules (m .hfi) k (reg (m .x) rs1)
 
 -- question 8's number for an instruction, or 0 where HFI allows it

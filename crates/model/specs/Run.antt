@@ -28,8 +28,9 @@ ranWith r mem = record { result = r; memory = mem }
 
 -- with a budget of `remaining` steps still, after `count` completed steps of a run that began in HFI mode or not.
 -- "Before each step of a run: does the budget have a step left? No: 21." "After a step of a run that began in HFI mode: is the
--- mode still on? No: 20." "For 10 to 19 the stopping step isn't counted .. 20 counts its step."; nor for 22 to 25 (02, Jobs 5 and 6). "A step leaves the
--- sandbox when mode is 1 before it and 0 after it; a run that began in HFI mode ends there with 20."
+-- mode still on? No: 20." "For 10 to 19 the stopping step isn't counted .. 20 counts its step." So for 22 to 25: "22 what 14 leaves", "Nothing else about
+-- these stops changes" (02, Jobs 5 and 6). "A step leaves the sandbox when mode is 1 before it and 0 after it; a run that began in HFI mode ends there
+-- with 20."
 -- `one` makes a step: the step itself or, which makes the same run (proofs/Runs.antt), the step call
 unfoldable pub runBy : (Machine → List ℕ → Outcome) → Bool → ℕ → ℕ → Machine → List ℕ → Ended
 runBy one began zero count m mem = ended 21 count 0 m mem
