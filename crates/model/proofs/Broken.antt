@@ -24,7 +24,7 @@ use Rattle.instructions.specs.declared.instruction.Instruction.the-variants.{Up
 use Rattle.instructions.proofs.RoundTrip.{decoded-range}
 use Rattle.instructions.proofs.Tests.{and-both}
 use Rattle.model.specs.Machine.{bit, sum, reg, fetchOp, largestOptions, inside, locked, entered, lastRegion}
-use Rattle.model.specs.Regions.{permissionFits}
+use Rattle.model.specs.Regions.{among, regionKind}
 use Rattle.model.specs.WellFormed.{wellFormed}
 use Rattle.model.specs.WritableCode.{WritableCode, writableCode, exposesCode}
 use Rattle.model.specs.Bytes.{value}
@@ -39,10 +39,11 @@ use Rattle.model.specs.declared.Machine.{Machine}
 use Rattle.model.specs.declared.Verdict.{Verdict}
 use Rattle.model.specs.declared.Verdict.the-variants.{Passed, Refused, Absent}
 use Rattle.model.proofs.WritableCode.{code-tested, tested-code}
+use Rattle.model.proofs.Permissions.{fitting, permissions-fitting}
 use Rattle.model.proofs.Forbidden.{of-each, hfiStops, isHfiStop, stop-nonzero}
 use Rattle.model.proofs.Moves.{otherStops, isOther, clash, perform-other}
 use Rattle.model.proofs.Runs.{run-ind, call-ind, is-locked, locked-is}
-use Rattle.model.proofs.Exposed.{Exposed, exposed, exposes}
+use Rattle.model.proofs.Exposed.{Comes, exposes, step-made}
 
 -- ---- the clauses
 
@@ -78,8 +79,8 @@ pub data Breaks (m : Machine) : Instruction → ℕ → Type 0 where
   -- "a selected number not 1 to 3"
   bad-number : {rd rs1 rs2 : ℕ} → (Locked m → ⊥) → (reg (m .x) rs1 ≡ 0) ⊎ (lastRegion < reg (m .x) rs1)
       → Breaks m (Hfi SelectRegion rd rs1 rs2) 14
-  -- "a permission bit the region lacks"
-  bad-permission : {rd rs1 rs2 : ℕ} → (Locked m → ⊥) → (m .hfi .selector ≡ 0 → ⊥) → permissionFits (m .hfi .selector) (reg (m .x) rs1) ≡ false
+  -- "a permission bit the region lacks" (Permissions.antt)
+  bad-permission : {rd rs1 rs2 : ℕ} → (Locked m → ⊥) → (m .hfi .selector ≡ 0 → ⊥) → among (reg (m .x) rs1) (fitting (regionKind (m .hfi .selector))) ≡ false
       → Breaks m (Hfi SetPermission rd rs1 rs2) 14
   -- "a missing selection": "funct7 4 to 9 with selector 0"
   no-selection : {k : HfiKind} {rd rs1 rs2 : ℕ} → ofSelection k ≡ true → (Locked m → ⊥) → m .hfi .selector ≡ 0 → Breaks m (Hfi k rd rs1 rs2) 14
@@ -181,7 +182,8 @@ rule-number m i n (Breaks.h-store-outside o) = rw (is-outside m o) refl
 rule-number m i n (Breaks.bad-options {k} {rd} {rs1} e o l) =
     ap firstBroken (enter-forms (m .hfi) (reg (m .x) rs1) k e) ∙ rw (is-outside m o, lt-ltb largestOptions (reg (m .x) rs1) l) refl
 rule-number m i n (Breaks.bad-number {rd} {rs1} l b) = rw (is-unlocked m l, no-number (reg (m .x) rs1) b) refl
-rule-number m i n (Breaks.bad-permission l s p) = rw (is-unlocked m l, ne-eqb (m .hfi .selector) 0 s, p) refl
+rule-number m i n (Breaks.bad-permission {rd} {rs1} l s p) =
+    rw (is-unlocked m l, ne-eqb (m .hfi .selector) 0 s, permissions-fitting (m .hfi .selector) (reg (m .x) rs1), p) refl
 rule-number m i n (Breaks.no-selection {k} t l s) = unselected-14 (m .hfi) _ k t (is-unlocked m l) (eq-eqb _ _ s)
 rule-number m i n (Breaks.begins {k} {rd} {rs1} e o l b w) =
     ap firstBroken (enter-forms (m .hfi) (reg (m .x) rs1) k e)
@@ -232,7 +234,7 @@ module _ (m : Machine) (rd rs1 rs2 : ℕ) where
     λ l. Breaks.when-locked refl (locked-is m l),
     λ l. (
       λ s. Breaks.no-selection refl (unlocked-is m l) (eqb-true _ _ s),
-      λ s. (λ b. Breaks.bad-permission (unlocked-is m l) (eqb-false _ _ s) (not-true _ b), λ b. tt),
+      λ s. (λ b. Breaks.bad-permission (unlocked-is m l) (eqb-false _ _ s) (sym (permissions-fitting (m .hfi .selector) (reg (m .x) rs1)) ∙ not-true _ b), λ b. tt),
     ),
   )
   word-first GetPermission = selected-first GetPermission refl refl
@@ -282,8 +284,12 @@ clause-listed m i n (Breaks.bad-permission l s p) = refl
 clause-listed m i n (Breaks.no-selection t l s) = refl
 clause-listed m i n (Breaks.begins e o l b w) = refl
 
+-- "Nothing else about these stops changes": the stop alone is told, the address is 0, and machine and memory are as they were
+abbrev pub told : ℕ → Machine → List ℕ → Outcome
+told n m mem = record { result = record { stop = n; address = 0; machine = m }; memory = mem }
+
 module _ (m : Machine) (mem : List ℕ) (next : ℕ) (i : Instruction) where
-  pub instruction-stops : (n : ℕ) → Breaks m i n → executeInstruction m mem next i ≡ stopped n m mem
+  pub instruction-stops : (n : ℕ) → Breaks m i n → executeInstruction m mem next i ≡ told n m mem
   unfolding executeInstruction allowed
   instruction-stops n b = rw (rule-number m i n b) (rw (stop-nonzero n (clause-listed m i n b)) refl)
 
@@ -307,8 +313,7 @@ fetched-step : (m : Machine) (mem : List ℕ) (i : Instruction) → Fetches m me
 unfolding step settle executeWord
 fetched-step m mem i f = rw (f .multiple, f .passed, f .legal) refl
 
--- "Nothing else about these stops changes": "the stopping step isn't counted and changes nothing", and its address is 0
-pub step-stops : (m : Machine) (mem : List ℕ) (i : Instruction) (n : ℕ) → Fetches m mem i → Breaks m i n → step m mem ≡ stopped n m mem
+pub step-stops : (m : Machine) (mem : List ℕ) (i : Instruction) (n : ℕ) → Fetches m mem i → Breaks m i n → step m mem ≡ told n m mem
 step-stops m mem i n f b = fetched-step m mem i f ∙ instruction-stops m mem _ i n b
 
 -- a step with such a stop
@@ -339,23 +344,8 @@ step-stopped m mem q = go (eqb (m .pc % 4) 0) refl (verdict (m .hfi .mode) (leng
 
 -- ---- of the calls
 
--- 1, 3 and 4 are asked before
-pub record Comes (m : Machine) (mem : List ℕ) : Type 0 where
-  pub short : length mem ≤ longest
-  pub formed : wellFormed m ≡ true
-  pub safe : Exposed m → ⊥
-
-pub call-stops : (m : Machine) (mem : List ℕ) (n : ℕ) → Comes m mem → Forbids m mem n → stepCall m mem ≡ stopped n m mem
-unfolding stepCall
-call-stops m mem n c f =
-    rw (le-ltb longest (length mem) (c .short), c .formed, unexposed) (step-stops m mem (f .instruction) n (f .fetched) (f .rule))
-  where
-    unexposed : exposesCode (m .hfi) ≡ false
-    unexposed = go (exposesCode (m .hfi)) refl
-      where
-        go : (b : Bool) → exposesCode (m .hfi) ≡ b → exposesCode (m .hfi) ≡ false
-        go true e = absurd (c .safe (exposed m e))
-        go false e = e
+pub call-stops : (m : Machine) (mem : List ℕ) (n : ℕ) → Comes m mem → Forbids m mem n → stepCall m mem ≡ told n m mem
+call-stops m mem n c f = step-made m mem c ∙ step-stops m mem (f .instruction) n (f .fetched) (f .rule)
 
 pub call-stopped : (m : Machine) (mem : List ℕ) → isHfiStop (stepCall m mem .result .stop) ≡ true → Comes m mem × Forbids m mem (stepCall m mem .result .stop)
 unfolding stepCall

@@ -254,6 +254,10 @@ locking =
     ∷ goes (outside 0 ++ ((selector, 1) ∷ (x 5, 8) ∷ [])) setPermission ((permission 1, 8) ∷ [])
     ∷ [])
 
+-- nothing here is as a stop might leave it that does more than stop
+abbrev pub calm : List (ℕ × ℕ)
+calm = (x 10, 5) ∷ (reason, 1) ∷ (epc, 0) ∷ (occurred, 0) ∷ (faultRegion, 0) ∷ (op, 0) ∷ (faulting, 0) ∷ []
+
 -- "If the operand is bad as well, the new number is given."
 unfoldable pub numbering : List Row
 numbering =
@@ -298,7 +302,23 @@ numbering =
     ∷ forbidden 14 (inside 0xe ++ ((selector, 0) ∷ [])) getPermission
     ∷ forbidden 14 (outside 1 ++ ((selector, 0) ∷ [])) getBase
     ∷ forbidden 14 (outside 1 ++ operands 0 0) select
-    -- "Nothing else about these stops changes": in a run the stopping step isn't counted and changes nothing
+    -- all bits of a permission are asked, and no other region's
+    ∷ forbidden 14 (outside 0 ++ ((selector, 1) ∷ (x 5, 0x20) ∷ [])) setPermission
+    ∷ forbidden 14 (outside 0 ++ ((selector, 1) ∷ (x 5, 2 ^ 32 + 1) ∷ [])) setPermission
+    ∷ forbidden 14 (inside 0 ++ ((selector, 3) ∷ (x 5, 8) ∷ [])) setPermission
+    -- what HFI allows it does not stop otherwise: every number and every selection, and a fence when locked
+    ∷ goes (inside 0 ++ operands 1 0) select ((selector, 1) ∷ [])
+    ∷ goes (inside 0 ++ operands 2 0) select []
+    ∷ goes (inside 0 ++ ((selector, 1) ∷ [])) getPermission ((x 6, 3) ∷ [])
+    ∷ goes (inside 0 ++ ((selector, 3) ∷ [])) getPermission ((x 6, 4) ∷ [])
+    ∷ goes (inside 1) 0x0ff0000f []
+    -- "Nothing else about these stops changes"
+    ∷ forbidden 23 (inside 1 ++ calm) enter
+    ∷ forbidden 24 (outside 0 ++ calm) exit
+    ∷ forbidden 25 (inside 1 ++ calm) reset
+    ∷ forbidden 14 (outside 0 ++ calm) hlb
+    ∷ forbidden 14 (inside 0 ++ calm ++ ((selector, 0) ∷ [])) getBase
+    -- in a run the stopping step isn't counted and changes nothing
     ∷ runs (inside 0) (seven ∷ enter ∷ []) 9 23 1 0 ((pc, 4) ∷ (x 7, 7) ∷ [])
     ∷ runs (outside 0) (seven ∷ exit ∷ []) 9 24 1 0 ((pc, 4) ∷ (x 7, 7) ∷ [])
     ∷ runs (inside 1) (seven ∷ getHandler ∷ []) 9 25 1 0 ((pc, 4) ∷ (x 7, 7) ∷ [])

@@ -81,6 +81,27 @@ only-step m mem q = go (ltb longest (length mem)) (wellFormed m) (exposesCode (m
     go false true true l w x e = record { short = ltb-false _ _ l; formed = w; exposed = exposed m x }
     go false true false l w x e = absurd (step-not-refused m mem (omega (arith, e)) (omega (arith, e)))
 
+-- a call that 1 to 4 let pass makes its step, or its run, and adds nothing to it
+pub record Comes (m : Machine) (mem : List ℕ) : Type 0 where
+  pub short : length mem ≤ longest
+  pub formed : wellFormed m ≡ true
+  pub safe : Exposed m → ⊥
+
+unexposed : (m : Machine) → (Exposed m → ⊥) → exposesCode (m .hfi) ≡ false
+unexposed m n = go (exposesCode (m .hfi)) refl
+  where
+    go : (b : Bool) → exposesCode (m .hfi) ≡ b → exposesCode (m .hfi) ≡ false
+    go true e = absurd (n (exposed m e))
+    go false e = e
+
+pub step-made : (m : Machine) (mem : List ℕ) → Comes m mem → stepCall m mem ≡ step m mem
+unfolding stepCall
+step-made m mem c = rw (le-ltb longest (length mem) (c .short), c .formed, unexposed m (c .safe)) refl
+
+pub run-made : (m : Machine) (mem : List ℕ) (budget : ℕ) → Comes m mem → budget ≤ largestBudget → runCall m mem budget ≡ run (inside (m .hfi)) budget 0 m mem
+unfolding runCall
+run-made m mem budget c b = rw (le-ltb longest (length mem) (c .short), le-ltb largestBudget budget b, c .formed, unexposed m (c .safe)) refl
+
 -- "From then on": 4 cannot arise inside a run that began without it. A run asks it once, and its steps are those of the step call, which asks
 -- it every time (run-is-step-calls in Runs.antt); and what a run leaves, after whatever budget, is no such machine
 pub never-arises : (m : Machine) (mem : List ℕ) (budget : ℕ) → (Exposed m → ⊥) → Exposed (runCall m mem budget .result .machine) → ⊥

@@ -50,16 +50,16 @@ settle-related m s t op refused absent Passed o p r = r refl
 
 module _ (m : Machine) (s t : List ℕ) (l : Locked m) (g : Agree m s t) where
   -- the three doors to memory: what is read is readable, what is written is the same, and all else does not see it
-  move-related : (v : Move m) → Related s t (enact m s v) (enact m t v)
+  move-related : {ns : List ℕ} (v : Move ns m) → Related s t (enact m s v) (enact m t v)
   unfolding load store
   move-related (Move.quiet stop at k p c) = quiet s t stop at k
-  move-related (Move.loads next a k rd r) =
+  move-related (Move.loads next a k rd i r) =
       rw (sym (g .lengths))
       (settle-related m s t loadOp 16 17 (verdict (m .hfi .mode) (length s) a) _ _
       (λ h.
       rw (value-same s t (a .first) (a .count) 0 (λ j p q. g .readable (byteOf (a .first) j) (r .reach _ (passing (m .hfi .mode) (length s) a (l .mode) h j (omega arith)))))
       (quiet s t 0 0 _)))
-  move-related (Move.stores next a v w) =
+  move-related (Move.stores next a v i w) =
       rw (sym (g .lengths))
       (settle-related m s t storeOp 16 17 (verdict (m .hfi .mode) (length s) a) _ _
       (λ h. record { result = refl; agreeing = λ b e. written-same (a .count) 0 s t (a .first) v b (g .lengths) e }))
@@ -69,7 +69,7 @@ module _ (m : Machine) (s t : List ℕ) (l : Locked m) (g : Agree m s t) where
     where
       go : {f : List ℕ → Outcome} → Executed m f → Related s t (f s) (f t)
       go (Executed.forbidden stop h same) = rw (same s, same t) (quiet s t stop 0 m)
-      go (Executed.moves v) = rw (v .same s, v .same t) (move-related (v .move))
+      go (Executed.moves ns h v) = rw (v .same s, v .same t) (move-related (v .move))
 
   step-related : Related s t (step m s) (step m t)
   unfolding step

@@ -15,6 +15,7 @@ pub mod Witness
 pub mod Runs
 pub mod Exposed
 pub mod Forbidden
+pub mod Permissions
 pub mod Broken
 pub mod Formed
 pub mod Moves

@@ -11,6 +11,7 @@ use native.Mathlib.Omega.{arith}
 use lib.Dec.{eqb, leb, ltb}
 use lib.ListN.{length}
 use borrow.Author.Tests.{not-true, not-false}
+use Rattle.instructions.specs.Kinds.{hfiCode}
 use Rattle.instructions.specs.Decode.{decodeWord}
 use Rattle.instructions.specs.Encode.{inRange}
 use Rattle.instructions.specs.declared.kind.UpperKind.the-variants.{Lui, Auipc}
@@ -40,7 +41,7 @@ use Rattle.model.specs.declared.HfiState.{HfiState}
 use Rattle.model.specs.declared.Machine.{Machine}
 use Rattle.model.specs.declared.Verdict.{Verdict}
 use Rattle.model.specs.declared.Verdict.the-variants.{Passed, Refused, Absent}
-use Rattle.model.proofs.Forbidden.{every, isHfiStop, breaksNone, allowed-breaks-none, forbidden-listed}
+use Rattle.model.proofs.Forbidden.{every, of-each, isHfiStop, breaksNone, allowed-breaks-none, forbidden-listed}
 use Rattle.model.proofs.Formed.{Good, good, formed, zero-kept, changed-fits, selected-fits, entered-fits, exited-fits, handler-fits, regions-fit, fault-fits}
 use Rattle.model.proofs.WritableCode.{or-second}
 use Rattle.model.proofs.Reach.{load-width, store-width, encodes}
@@ -92,6 +93,32 @@ isAddress stop at = eqb stop 12 || (eqb stop 17 || eqb at 0)
 abbrev pub proper : (ℕ → Bool) → ℕ → ℕ → Bool
 proper S stop at = S stop && isAddress stop at
 
+-- the numbers of questions 9 to 13 that may stop an instruction: a jump's target, the bytes of an access, ECALL, EBREAK; and no others
+abbrev pub laterStops : Instruction → List ℕ
+laterStops (Upper k rd imm) = []
+laterStops (Jal rd offset) = 15 ∷ []
+laterStops (Jalr rd rs1 imm) = 15 ∷ []
+laterStops (Branch k rs1 rs2 offset) = 15 ∷ []
+laterStops (Load k rd rs1 imm) = 16 ∷ 17 ∷ []
+laterStops (Store k rs1 rs2 imm) = 16 ∷ 17 ∷ []
+laterStops (Immediate k rd rs1 imm) = []
+laterStops (Shift k rd rs1 amount) = []
+laterStops (Addiw rd rs1 imm) = []
+laterStops (ShiftWord k rd rs1 amount) = []
+laterStops (Register k rd rs1 rs2) = []
+laterStops (RegisterWord k rd rs1 rs2) = []
+laterStops (Fence fm pred succ rs1 rd) = []
+laterStops (System Ecall) = 18 ∷ []
+laterStops (System Ebreak) = 19 ∷ []
+laterStops (HLoad k rd rs1 imm) = 16 ∷ 17 ∷ []
+laterStops (HStore k rs1 rs2 imm) = 16 ∷ 17 ∷ []
+-- of the words of opcode 5b the enter with jump alone
+laterStops (Hfi k rd rs1 rs2) = cond (eqb (hfiCode k) 1) (15 ∷ []) []
+
+-- 0 or one of these
+abbrev pub oneOf : List ℕ → ℕ → Bool
+oneOf ns stop = among stop (0 ∷ ns)
+
 -- ---- what an instruction does, whatever memory it is done over
 
 -- an access of at most 8 bytes, each of which, where it passes its region, is one of the bytes R
@@ -106,19 +133,24 @@ Reads m a = Reaches a (Readable (m .hfi .regions))
 abbrev pub Writes : Machine → Access → Type 0
 Writes m a = Reaches a (Writable (m .hfi .regions))
 
-pub data Move (m : Machine) : Type 0 where
-  quiet : (stop at : ℕ) (k : Machine) → proper isOther stop at ≡ true → Kept m k → Move m
-  loads : (next : ℕ) (a : Access) (k : LoadKind) (rd : ℕ) → Reads m a → Move m
-  stores : (next : ℕ) (a : Access) (v : ℕ) → Writes m a → Move m
+-- the stops of an access are among ns
+abbrev Accesses : List ℕ → Type 0
+Accesses ns = (among 16 ns ≡ true) × (among 17 ns ≡ true)
 
-abbrev pub enact : (m : Machine) → List ℕ → Move m → Outcome
+-- with a stop among ns, or none
+pub data Move (ns : List ℕ) (m : Machine) : Type 0 where
+  quiet : (stop at : ℕ) (k : Machine) → proper (oneOf ns) stop at ≡ true → Kept m k → Move ns m
+  loads : (next : ℕ) (a : Access) (k : LoadKind) (rd : ℕ) → Accesses ns → Reads m a → Move ns m
+  stores : (next : ℕ) (a : Access) (v : ℕ) → Accesses ns → Writes m a → Move ns m
+
+abbrev pub enact : {ns : List ℕ} (m : Machine) → List ℕ → Move ns m → Outcome
 enact m mem (Move.quiet stop at k p c) = outcome stop at k mem
-enact m mem (Move.loads next a k rd r) = load m mem next a k rd
-enact m mem (Move.stores next a v w) = store m mem next a v
+enact m mem (Move.loads next a k rd i r) = load m mem next a k rd
+enact m mem (Move.stores next a v i w) = store m mem next a v
 
 -- one move for every memory
-pub record Moves (m : Machine) (f : List ℕ → Outcome) : Type 0 where
-  pub move : Move m
+pub record Moves (ns : List ℕ) (m : Machine) (f : List ℕ → Outcome) : Type 0 where
+  pub move : Move ns m
   pub same : (mem : List ℕ) → f mem ≡ enact m mem move
 
 pub clash : {b : Bool} → b ≡ false → b ≡ true → ⊥
@@ -184,22 +216,22 @@ module _ (m : Machine) where
 
   -- ---- the moves that there are
 
-  stop : (n : ℕ) → proper isOther n 0 ≡ true → Moves m (λ mem. outcome n 0 m mem)
+  stop : {ns : List ℕ} (n : ℕ) → proper (oneOf ns) n 0 ≡ true → Moves ns m (λ mem. outcome n 0 m mem)
   stop n p = record { move = Move.quiet n 0 m p same-kept; same = λ mem. refl }
 
-  onward : (x : List ℕ) (pc : ℕ) → (reg (m .x) 0 ≡ 0 → reg x 0 ≡ 0) → Moves m (λ mem. outcome 0 0 (machine x pc (m .hfi)) mem)
+  onward : {ns : List ℕ} (x : List ℕ) (pc : ℕ) → (reg (m .x) 0 ≡ 0 → reg x 0 ≡ 0) → Moves ns m (λ mem. outcome 0 0 (machine x pc (m .hfi)) mem)
   onward x pc z = record { move = Move.quiet 0 0 _ refl (still x pc z); same = λ mem. refl }
 
-  assigns : (pc rd v : ℕ) → Moves m (λ mem. outcome 0 0 (machine (setReg (m .x) rd v) pc (m .hfi)) mem)
+  assigns : {ns : List ℕ} (pc rd v : ℕ) → Moves ns m (λ mem. outcome 0 0 (machine (setReg (m .x) rd v) pc (m .hfi)) mem)
   assigns pc rd v = onward _ pc (zero-kept (m .x) rd v)
 
-  by-test : (b : Bool) {f g : List ℕ → Outcome} → (b ≡ true → Moves m f) → (b ≡ false → Moves m g) → Moves m (λ mem. cond b (f mem) (g mem))
+  by-test : {ns : List ℕ} (b : Bool) {f g : List ℕ → Outcome} → (b ≡ true → Moves ns m f) → (b ≡ false → Moves ns m g) → Moves ns m (λ mem. cond b (f mem) (g mem))
   by-test true p q = let t = p refl in record { move = t .move; same = t .same }
   by-test false p q = let t = q refl in record { move = t .move; same = t .same }
 
-  aligns : (target : ℕ) {f : List ℕ → Outcome} → Moves m f → Moves m (λ mem. aligned m mem target (f mem))
+  aligns : {ns : List ℕ} (target : ℕ) {f : List ℕ → Outcome} → proper (oneOf ns) 15 0 ≡ true → Moves ns m f → Moves ns m (λ mem. aligned m mem target (f mem))
   unfolding aligned
-  aligns target p = by-test (eqb (target % 4) 0) (λ e. p) (λ e. stop 15 refl)
+  aligns target h p = by-test (eqb (target % 4) 0) (λ e. p) (λ e. stop 15 h)
 
 -- ---- the words of opcode 5b
 
@@ -209,8 +241,8 @@ unbroken-first b c e = let p = and-both (not b) c e in (not-true b (p .0), p .1)
 
 module _ (m : Machine) where
   -- a word that changes the state outside a lock: mode and options are as they were
-  unlocked : (pc : ℕ) (h : HfiState) → locked (m .hfi) ≡ false → h .mode ≡ m .hfi .mode → h .options ≡ m .hfi .options
-      → (Good m → Good (machine (m .x) pc h)) → Moves m (λ mem. outcome 0 0 (machine (m .x) pc h) mem)
+  unlocked : {ns : List ℕ} (pc : ℕ) (h : HfiState) → locked (m .hfi) ≡ false → h .mode ≡ m .hfi .mode → h .options ≡ m .hfi .options
+      → (Good m → Good (machine (m .x) pc h)) → Moves ns m (λ mem. outcome 0 0 (machine (m .x) pc h) mem)
   unlocked pc h n e o g =
       record {
         move = Move.quiet 0 0 (machine (m .x) pc h) refl (record {
@@ -232,12 +264,12 @@ module _ (m : Machine) where
       go false e = e
 
   -- a word that changes the selected region
-  changes : (pc : ℕ) (r : Region) → locked (m .hfi) ≡ false → eqb (m .hfi .selector) 0 ≡ false
-      → (Good m → permissionFits (m .hfi .selector) (r .permission) ≡ true) → Moves m (λ mem. outcome 0 0 (machine (m .x) pc (changed (m .hfi) r)) mem)
+  changes : {ns : List ℕ} (pc : ℕ) (r : Region) → locked (m .hfi) ≡ false → eqb (m .hfi .selector) 0 ≡ false
+      → (Good m → permissionFits (m .hfi .selector) (r .permission) ≡ true) → Moves ns m (λ mem. outcome 0 0 (machine (m .x) pc (changed (m .hfi) r)) mem)
   changes pc r n e p = unlocked pc _ n refl refl (λ g. record { zero = g .zero; state = changed-fits (m .hfi) (g .state) r e (p g) })
 
-  entering : (pc a : ℕ) → inside (m .hfi) ≡ false → ltb largestOptions a ≡ false → exposesCode (entered (m .hfi) a) ≡ false
-      → Moves m (λ mem. outcome 0 0 (machine (m .x) pc (entered (m .hfi) a)) mem)
+  entering : {ns : List ℕ} (pc a : ℕ) → inside (m .hfi) ≡ false → ltb largestOptions a ≡ false → exposesCode (entered (m .hfi) a) ≡ false
+      → Moves ns m (λ mem. outcome 0 0 (machine (m .x) pc (entered (m .hfi) a)) mem)
   entering pc a n e x =
       record {
         move = Move.quiet 0 0 _ refl (record {
@@ -250,7 +282,7 @@ module _ (m : Machine) where
         same = λ mem. refl;
       }
 
-  leaving : (pc reason : ℕ) → inside (m .hfi) ≡ true → leb reason 2 ≡ true → Moves m (λ mem. outcome 0 0 (machine (m .x) pc (exited (m .hfi) reason (m .pc))) mem)
+  leaving : {ns : List ℕ} (pc reason : ℕ) → inside (m .hfi) ≡ true → leb reason 2 ≡ true → Moves ns m (λ mem. outcome 0 0 (machine (m .x) pc (exited (m .hfi) reason (m .pc))) mem)
   leaving pc reason i r =
       record {
         move = Move.quiet 0 0 _ refl (record {
@@ -264,15 +296,15 @@ module _ (m : Machine) where
       }
 
   -- the rules of an enter, and of a word that sets a part of the selected region
-  enter-moves : (pc a : ℕ) → breaksNone (wordRules (m .hfi) Enter a) ≡ true → Moves m (λ mem. outcome 0 0 (machine (m .x) pc (entered (m .hfi) a)) mem)
+  enter-moves : {ns : List ℕ} (pc a : ℕ) → breaksNone (wordRules (m .hfi) Enter a) ≡ true → Moves ns m (λ mem. outcome 0 0 (machine (m .x) pc (entered (m .hfi) a)) mem)
   enter-moves pc a e =
       let p = unbroken-first (inside (m .hfi)) _ e in
       let q = unbroken-first (ltb largestOptions a) _ (p .1) in
       entering pc a (p .0) (q .0) (unbroken-first (exposesCode (entered (m .hfi) a)) true (q .1) .0)
 
-  set-moves : (pc : ℕ) (r : Region) → breaksNone (wordRules (m .hfi) SetBase 0) ≡ true
+  set-moves : {ns : List ℕ} (pc : ℕ) (r : Region) → breaksNone (wordRules (m .hfi) SetBase 0) ≡ true
       → (Good m → eqb (m .hfi .selector) 0 ≡ false → permissionFits (m .hfi .selector) (r .permission) ≡ true)
-      → Moves m (λ mem. outcome 0 0 (machine (m .x) pc (changed (m .hfi) r)) mem)
+      → Moves ns m (λ mem. outcome 0 0 (machine (m .x) pc (changed (m .hfi) r)) mem)
   set-moves pc r e f =
       let p = unbroken-first (locked (m .hfi)) _ e in
       let s = unbroken-first (eqb (m .hfi .selector) 0) true (p .1) .0 in
@@ -280,10 +312,10 @@ module _ (m : Machine) where
 
   -- the words that HFI allows
   hfi-moves : (next : ℕ) (k : HfiKind) (rd rs1 rs2 : ℕ) → breaksNone (wordRules (m .hfi) k (reg (m .x) rs1)) ≡ true
-      → Moves m (λ mem. hfiPerform m mem next k rd rs1 rs2)
+      → Moves (laterStops (Hfi k rd rs1 rs2)) m (λ mem. hfiPerform m mem next k rd rs1 rs2)
   unfolding hfiPerform
   hfi-moves next Enter rd rs1 rs2 e = enter-moves next (reg (m .x) rs1) e
-  hfi-moves next EnterJump rd rs1 rs2 e = aligns m (reg (m .x) rs2) (enter-moves (reg (m .x) rs2) (reg (m .x) rs1) e)
+  hfi-moves next EnterJump rd rs1 rs2 e = aligns m (reg (m .x) rs2) refl (enter-moves (reg (m .x) rs2) (reg (m .x) rs1) e)
   hfi-moves next Exit rd rs1 rs2 e = leaving _ 1 (not-false _ (unbroken-first _ true e .0)) refl
   hfi-moves next SelectRegion rd rs1 rs2 e =
       let a = reg (m .x) rs1 in
@@ -307,20 +339,20 @@ module _ (m : Machine) where
 
   -- ---- the instructions
 
-  loading : (next : ℕ) (a : Access) (k : LoadKind) (rd : ℕ) → Reads m a → Moves m (λ mem. load m mem next a k rd)
-  loading next a k rd r = record { move = Move.loads next a k rd r; same = λ mem. refl }
+  loading : (next : ℕ) (a : Access) (k : LoadKind) (rd : ℕ) → Reads m a → Moves (16 ∷ 17 ∷ []) m (λ mem. load m mem next a k rd)
+  loading next a k rd r = record { move = Move.loads next a k rd (refl, refl) r; same = λ mem. refl }
 
-  storing : (next : ℕ) (a : Access) (v : ℕ) → Writes m a → Moves m (λ mem. store m mem next a v)
-  storing next a v w = record { move = Move.stores next a v w; same = λ mem. refl }
+  storing : (next : ℕ) (a : Access) (v : ℕ) → Writes m a → Moves (16 ∷ 17 ∷ []) m (λ mem. store m mem next a v)
+  storing next a v w = record { move = Move.stores next a v (refl, refl) w; same = λ mem. refl }
 
-  pub perform-moves : (next : ℕ) (i : Instruction) → inRange i ≡ true → eqb (hfiStop m i) 0 ≡ true → Moves m (λ mem. perform m mem next i)
+  pub perform-moves : (next : ℕ) (i : Instruction) → inRange i ≡ true → eqb (hfiStop m i) 0 ≡ true → Moves (laterStops i) m (λ mem. perform m mem next i)
   unfolding perform jump branch
   perform-moves next (Upper Lui rd imm) h e = assigns m next rd _
   perform-moves next (Upper Auipc rd imm) h e = assigns m next rd _
-  perform-moves next (Jal rd offset) h e = aligns m _ (assigns m _ rd next)
-  perform-moves next (Jalr rd rs1 imm) h e = aligns m _ (assigns m _ rd next)
+  perform-moves next (Jal rd offset) h e = aligns m _ refl (assigns m _ rd next)
+  perform-moves next (Jalr rd rs1 imm) h e = aligns m _ refl (assigns m _ rd next)
   perform-moves next (Branch k rs1 rs2 offset) h e =
-      by-test m (taken k (reg (m .x) rs1) (reg (m .x) rs2)) (λ t. aligns m _ (onward m (m .x) _ (λ z. z))) (λ t. onward m (m .x) next (λ z. z))
+      by-test m (taken k (reg (m .x) rs1) (reg (m .x) rs2)) (λ t. aligns m _ refl (onward m (m .x) _ (λ z. z))) (λ t. onward m (m .x) next (λ z. z))
   perform-moves next (Load k rd rs1 imm) h e =
       loading next (loadAccess (m .hfi .regions) (m .x) k rs1 imm) k rd
       (record { few = load-width k; reach = λ b p. Readable.byLoad _ (m .x) k rd rs1 imm (encodes _ h) p; numbered = λ i. match-numbered _ dataRegions _ refl })
@@ -348,7 +380,31 @@ module _ (m : Machine) where
 -- what an instruction comes to, whatever memory it is done over: any stop of question 8, which leaves all as it was, or a move
 pub data Executed (m : Machine) (f : List ℕ → Outcome) : Type 0 where
   forbidden : (stop : ℕ) → isHfiStop stop ≡ true → ((mem : List ℕ) → f mem ≡ stopped stop m mem) → Executed m f
-  moves : Moves m f → Executed m f
+  moves : (ns : List ℕ) → every isOther ns ≡ true → Moves ns m f → Executed m f
+
+later-other : (i : Instruction) → every isOther (laterStops i) ≡ true
+later-other (Upper k rd imm) = refl
+later-other (Jal rd offset) = refl
+later-other (Jalr rd rs1 imm) = refl
+later-other (Branch k rs1 rs2 offset) = refl
+later-other (Load k rd rs1 imm) = refl
+later-other (Store k rs1 rs2 imm) = refl
+later-other (Immediate k rd rs1 imm) = refl
+later-other (Shift k rd rs1 amount) = refl
+later-other (Addiw rd rs1 imm) = refl
+later-other (ShiftWord k rd rs1 amount) = refl
+later-other (Register k rd rs1 rs2) = refl
+later-other (RegisterWord k rd rs1 rs2) = refl
+later-other (Fence fm pred succ rs1 rd) = refl
+later-other (System Ecall) = refl
+later-other (System Ebreak) = refl
+later-other (HLoad k rd rs1 imm) = refl
+later-other (HStore k rs1 rs2 imm) = refl
+later-other (Hfi k rd rs1 rs2) = go (eqb (hfiCode k) 1)
+  where
+    go : (b : Bool) → every isOther (cond b (15 ∷ []) []) ≡ true
+    go true = refl
+    go false = refl
 
 module _ (m : Machine) where
   pub instruction-executed : (next : ℕ) (i : Instruction) → inRange i ≡ true → Executed m (λ mem. executeInstruction m mem next i)
@@ -356,7 +412,7 @@ module _ (m : Machine) where
   instruction-executed next i h = go (eqb (hfiStop m i) 0) refl
     where
       go : (b : Bool) → eqb (hfiStop m i) 0 ≡ b → Executed m (λ mem. cond b (perform m mem next i) (stopped (hfiStop m i) m mem))
-      go true e = Executed.moves (let p = perform-moves m next i h e in record { move = p .move; same = p .same })
+      go true e = Executed.moves (laterStops i) (later-other i) (let p = perform-moves m next i h e in record { move = p .move; same = p .same })
       go false e = Executed.forbidden (hfiStop m i) (forbidden-listed m i e) (λ mem. refl)
 
   -- a word's instruction is in range
@@ -366,7 +422,7 @@ module _ (m : Machine) where
     where
       go : (d : Decoded) → decodeWord w ≡ d → Executed m (λ mem. executeWord m mem d)
       go (Legal i) e = instruction-executed _ i (decoded-range w i e)
-      go Illegal e = Executed.moves (stop m 13 refl)
+      go Illegal e = Executed.moves (13 ∷ []) refl (stop m 13 refl)
 
 -- ---- the law
 
@@ -407,34 +463,38 @@ module _ (m : Machine) (mem : List ℕ) where
   settles op refused absent (Absent at) o l p q f d = record { kept = same-kept m; stop = q at; memory = inl refl }
   settles op refused absent Passed o l p q f d = d refl
 
-  enacted : (v : Move m) → Does isOther m mem (enact m mem v)
+  enacted : {ns : List ℕ} (v : Move ns m) → Does (oneOf ns) m mem (enact m mem v)
   unfolding load store
   enacted (Move.quiet stop at k p c) = record { kept = c; stop = p; memory = inl refl }
-  enacted (Move.loads next a k rd r) =
-      settles loadOp 16 17 _ _ refl refl (λ at. refl) (faults (m .hfi .mode) (length mem) a (r .numbered))
+  enacted (Move.loads next a k rd i r) =
+      settles loadOp 16 17 _ _ refl (rw (i .0) refl) (λ at. rw (i .1) refl) (faults (m .hfi .mode) (length mem) a (r .numbered))
       (λ e. record { kept = still m _ next (zero-kept (m .x) rd _); stop = refl; memory = inl refl })
-  enacted (Move.stores next a v w) =
-      settles storeOp 16 17 _ _ refl refl (λ at. refl) (faults (m .hfi .mode) (length mem) a (w .numbered))
+  enacted (Move.stores next a v i w) =
+      settles storeOp 16 17 _ _ refl (rw (i .0) refl) (λ at. rw (i .1) refl) (faults (m .hfi .mode) (length mem) a (w .numbered))
       (λ e. record { kept = still m (m .x) next (λ z. z); stop = refl; memory = inr (record { access = a; stored = v; may = w; passed = e; bytes = refl }) })
 
-  does : {f : List ℕ → Outcome} → Moves m f → Does isOther m mem (f mem)
+  does : {ns : List ℕ} {f : List ℕ → Outcome} → Moves ns m f → Does (oneOf ns) m mem (f mem)
   does p = rw (p .same mem) (enacted (p .move))
 
-  -- an instruction that HFI allows has none of the stops of question 8
-  pub perform-other : (next : ℕ) (i : Instruction) → inRange i ≡ true → eqb (hfiStop m i) 0 ≡ true → isOther (perform m mem next i .result .stop) ≡ true
-  perform-other next i h e = and-both (isOther (perform m mem next i .result .stop)) _ (does (perform-moves m next i h e) .stop) .0
+  -- an instruction that HFI allows is stopped by its own later questions alone
+  pub perform-stop : (next : ℕ) (i : Instruction) → inRange i ≡ true → eqb (hfiStop m i) 0 ≡ true → oneOf (laterStops i) (perform m mem next i .result .stop) ≡ true
+  perform-stop next i h e = and-both (oneOf (laterStops i) (perform m mem next i .result .stop)) _ (does (perform-moves m next i h e) .stop) .0
 
-  any-stop : {o : Outcome} → Does isOther m mem o → Does isStop m mem o
-  any-stop {o} d =
-      let p = and-both (isOther (o .result .stop)) _ (d .stop) in
-      record { kept = d .kept; stop = rw (p .0) (p .1); memory = d .memory }
+  -- so by none of question 8's
+  pub perform-other : (next : ℕ) (i : Instruction) → inRange i ≡ true → eqb (hfiStop m i) 0 ≡ true → isOther (perform m mem next i .result .stop) ≡ true
+  perform-other next i h e = of-each isOther (0 ∷ laterStops i) (perform m mem next i .result .stop) (later-other i) (perform-stop next i h e)
+
+  any-stop : (ns : List ℕ) {o : Outcome} → every isOther ns ≡ true → Does (oneOf ns) m mem o → Does isStop m mem o
+  any-stop ns {o} h d =
+      let p = and-both (oneOf ns (o .result .stop)) _ (d .stop) in
+      record { kept = d .kept; stop = rw (of-each isOther (0 ∷ ns) (o .result .stop) h (p .0)) (p .1); memory = d .memory }
 
   executed-does : {f : List ℕ → Outcome} → Executed m f → Does isStop m mem (f mem)
   executed-does (Executed.forbidden n h same) = rw (same mem) (record { kept = same-kept m; stop = rw (or-second (isOther n) (isHfiStop n) h) (zero-address n); memory = inl refl })
     where
       zero-address : (n : ℕ) → isAddress n 0 ≡ true
       zero-address n = or-second (eqb n 12) _ (or-second (eqb n 17) true refl)
-  executed-does (Executed.moves p) = any-stop (does p)
+  executed-does (Executed.moves ns h p) = any-stop ns h (does p)
 
   pub step-does : Does isStop m mem (step m mem)
   unfolding step
@@ -447,4 +507,4 @@ module _ (m : Machine) (mem : List ℕ) where
 
       go : (b : Bool) → Does isStop m mem (cond b (settle m mem fetchOp 11 12 (verdict (m .hfi .mode) (length mem) (fetchAccess (m .hfi .regions) (m .pc))) (executeWord m mem (decodeWord (value mem (m .pc) 0 4)))) (outcome 10 0 m mem))
       go true = fetched
-      go false = any-stop (does (stop m 10 refl))
+      go false = any-stop (10 ∷ []) refl (does {ns = 10 ∷ []} (stop m 10 refl))

@@ -6,9 +6,9 @@ use mathlib.Core.List.{List}
 use mathlib.Core.Logic.{_⊎_, inl, inr}
 use Prim.Native.Nat.{ℕ, zero, suc, _+_, _-_, _<_, _≤_}
 use native.Mathlib.Omega.{arith}
-use lib.Dec.{eqb, ltb, lit≤}
+use lib.Dec.{eqb, leb, ltb, lit≤}
 use lib.ListN.{length, getD}
-use borrow.Author.Tests.{eqb-true, eq-eqb, ne-eqb, eqb-false, ltb-true, not-true}
+use borrow.Author.Tests.{eqb-true, eq-eqb, ne-eqb, eqb-false, leb-true, ltb-true, not-true}
 use Rattle.instructions.proofs.Tests.{and-both}
 use Rattle.model.specs.Machine.{inside, locked}
 use Rattle.model.specs.WellFormed.{wellFormed}
@@ -129,17 +129,28 @@ module _ (m : Machine) (mem : List ℕ) where
   proper-parts : (isStop stop ≡ true) × (isAddress stop (step m mem .result .address) ≡ true)
   proper-parts = and-both (isStop stop) _ (step-does m mem .stop)
 
-  -- a number of its other questions, or any stop of question 8
-  pub step-number : (isOther stop ≡ true) ⊎ (isHfiStop stop ≡ true)
-  step-number = either (isOther stop) (isHfiStop stop) (proper-parts .0)
-
-  -- so what holds of all those numbers holds of it
+  -- it is of question 8 or of another; so what holds of all those numbers holds of it
   of-its-own : (p : ℕ → Bool) → every p otherStops ≡ true → every p hfiStops ≡ true → p stop ≡ true
-  of-its-own p f g = go step-number
+  of-its-own p f g = go (either (isOther stop) (isHfiStop stop) (proper-parts .0))
     where
       go : (isOther stop ≡ true) ⊎ (isHfiStop stop ≡ true) → p stop ≡ true
       go (inl e) = of-each p otherStops stop f e
       go (inr e) = of-each p hfiStops stop g e
+
+  pub step-number : (stop ≡ 0) ⊎ (((10 ≤ stop) × (stop ≤ 19)) ⊎ ((22 ≤ stop) × (stop ≤ 25)))
+  step-number = first (either (eqb stop 0) _ (of-its-own (λ n. eqb n 0 || ((leb 10 n && leb n 19) || (leb 22 n && leb n 25))) refl refl))
+    where
+      within : (a b : ℕ) → (leb a stop && leb stop b) ≡ true → (a ≤ stop) × (stop ≤ b)
+      within a b t = let u = and-both (leb a stop) (leb stop b) t in (leb-true a stop (u .0), leb-true stop b (u .1))
+
+      second : ((leb 10 stop && leb stop 19) ≡ true) ⊎ ((leb 22 stop && leb stop 25) ≡ true) → ((10 ≤ stop) × (stop ≤ 19)) ⊎ ((22 ≤ stop) × (stop ≤ 25))
+      second (inl t) = inl (within 10 19 t)
+      second (inr t) = inr (within 22 25 t)
+
+      first : (eqb stop 0 ≡ true) ⊎ (((leb 10 stop && leb stop 19) || (leb 22 stop && leb stop 25)) ≡ true)
+          → (stop ≡ 0) ⊎ (((10 ≤ stop) × (stop ≤ 19)) ⊎ ((22 ≤ stop) × (stop ≤ 25)))
+      first (inl t) = inl (eqb-true stop 0 t)
+      first (inr t) = inr (second (either (leb 10 stop && leb stop 19) _ t))
 
   -- "all others give 0 there"
   pub step-address : (stop ≡ 12 → ⊥) → (stop ≡ 17 → ⊥) → step m mem .result .address ≡ 0

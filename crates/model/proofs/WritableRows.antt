@@ -21,7 +21,7 @@ use Rattle.model.specs.declared.Region.{Region}
 use Rattle.model.proofs.Rows.{Row, found, stated, x, pc, mode, options, selector, base, bound, permission, occurred, regionOf, bytes}
 use Rattle.model.proofs.Rows.Question.{exposing}
 use Rattle.model.proofs.Rows.Answer.{told}
-use Rattle.model.proofs.Clauses.{enter, enterJump, setBase, setBound, setPermission, seven, ld, sd, outside, inside, operands, stepsOver, steps, goes, forbidden, writes, runs, resumes}
+use Rattle.model.proofs.Clauses.{enter, enterJump, setBase, setBound, setPermission, seven, ld, sd, outside, inside, calm, operands, stepsOver, steps, goes, forbidden, writes, runs, resumes}
 
 -- ---- the test, of regions 1 and 2 against the sixteen bytes from 100 on as region 3, and against others
 
@@ -146,6 +146,7 @@ asking =
     ∷ steps (outside 0 ++ writing ++ operands 1 0x102) enterJump 22 []
     ∷ steps (outside 0xf ++ writing ++ operands 3 0x101) enterJump 22 []
     ∷ steps (outside 0 ++ writing ++ operands 0 0x102) enterJump 15 []
+    ∷ steps (outside 0 ++ calm ++ writing ++ operands 1 0) enter 22 []
     -- "22 what 14 leaves": in a run the stopping step isn't counted and changes nothing
     ∷ runs (outside 0 ++ writing ++ operands 1 0) (seven ∷ enter ∷ []) 9 22 1 0 ((pc, 4) ∷ (x 7, 7) ∷ [])
     ∷ []
