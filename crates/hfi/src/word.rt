@@ -51,23 +51,37 @@ pub fn h_word_stop(h: HfiState) -> u64
 fn enter_stop(h: HfiState, options: u64) -> u64
     ensures { λ r. ⌜ r ≡ firstBroken (wordRules h Enter options) ⌝ }
 {
-    let later = rule(exposes_code(entered(h, options)), 22, 0);
-    rule(inside(h), 23, rule(LARGEST_OPTIONS < options, 14, later))
+    if inside(h) {
+        return 23;
+    }
+    if LARGEST_OPTIONS < options {
+        return 14;
+    }
+    rule(exposes_code(entered(h, options)), 22, 0)
 }
 
 // The rules of a word for the selected region; they ask nothing of its operand.
 fn selected_stop(h: HfiState) -> u64
     ensures { λ r. ⌜ r ≡ firstBroken (wordRules h SetBase 0) ⌝ }
 {
-    rule(locked(h), 25, rule(h.selector == 0, 14, 0))
+    if locked(h) {
+        return 25;
+    }
+    rule(h.selector == 0, 14, 0)
 }
 
 // The rules of set permission: `p` is to fit the selected region.
 fn permission_stop(h: HfiState, p: u64) -> u64
     ensures { λ r. ⌜ r ≡ firstBroken (wordRules h SetPermission p) ⌝ }
 {
-    let later = rule(!permission_fits(h.selector, p), 14, 0);
-    rule(locked(h), 25, rule(h.selector == 0, 14, later))
+    if locked(h) {
+        return 25;
+    }
+    rule(
+        h.selector == 0,
+        14,
+        rule(!permission_fits(h.selector, p), 14, 0),
+    )
 }
 
 // Question 8 of a word of opcode 5b: the number of the first rule that it breaks, or 0. `a` is the register rs1.

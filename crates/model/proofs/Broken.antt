@@ -8,8 +8,9 @@ use mathlib.Core.Logic.{_⊎_, inl, inr}
 use Prim.Native.Nat.{ℕ, _%_, _<_, _≤_}
 use native.Mathlib.Omega.{arith}
 use lib.Dec.{eqb, leb, ltb}
-use lib.ListN.{length}
+use lib.ListN.{length, getD}
 use borrow.Author.Tests.{eqb-true, eqb-false, eq-eqb, ne-eqb, leb-false, lt-leb, ltb-true, lt-ltb, ltb-false, le-ltb, not-true}
+use Rattle.words.specs.Word.{field}
 use Rattle.instructions.specs.Kinds.{hfiCode}
 use Rattle.instructions.specs.Decode.{decodeWord}
 use Rattle.instructions.specs.declared.kind.LoadKind.{LoadKind}
@@ -86,7 +87,11 @@ pub data Breaks (m : Machine) : Instruction → ℕ → Type 0 where
   no-selection : {k : HfiKind} {rd rs1 rs2 : ℕ} → ofSelection k ≡ true → (Locked m → ⊥) → m .hfi .selector ≡ 0 → Breaks m (Hfi k rd rs1 rs2) 14
   -- "22, for either enter form that would begin such a state": the operand is good and locks, and the regions as they are have writable code
   begins : {k : HfiKind} {rd rs1 rs2 : ℕ} → Enters k → (m .hfi .mode ≡ 1 → ⊥) → reg (m .x) rs1 ≤ largestOptions
-      → bit 0 (reg (m .x) rs1) ≡ true → WritableCode (m .hfi .regions) → Breaks m (Hfi k rd rs1 rs2) 22
+      → field (reg (m .x) rs1) 0 1 ≡ 1 → WritableCode (m .hfi .regions) → Breaks m (Hfi k rd rs1 rs2) 22
+
+-- an operand is the whole register that the word names, as it stands
+pub operand-read : (x : List ℕ) (rs1 : ℕ) → reg x rs1 ≡ getD x rs1 0
+operand-read x rs1 = refl
 
 -- ---- the table's tests, in the words above
 
@@ -124,13 +129,13 @@ number-no a e = go (leb 1 a) refl e
 
 -- ---- each clause has its number
 
-begins-exposed : (h : HfiState) (a : ℕ) → bit 0 a ≡ true → WritableCode (h .regions) → exposesCode (entered h a) ≡ true
+begins-exposed : (h : HfiState) (a : ℕ) → field a 0 1 ≡ 1 → WritableCode (h .regions) → exposesCode (entered h a) ≡ true
 unfolding exposesCode
-begins-exposed h a l w = rw l (code-tested (h .regions) w)
+begins-exposed h a l w = rw (eq-eqb (field a 0 1) 1 l) (code-tested (h .regions) w)
 
-exposed-begins : (h : HfiState) (a : ℕ) → exposesCode (entered h a) ≡ true → (bit 0 a ≡ true) × WritableCode (h .regions)
+exposed-begins : (h : HfiState) (a : ℕ) → exposesCode (entered h a) ≡ true → (field a 0 1 ≡ 1) × WritableCode (h .regions)
 unfolding exposesCode
-exposed-begins h a t = let p = and-both (bit 0 a) (writableCode (h .regions)) t in (p .0, tested-code (h .regions) (p .1))
+exposed-begins h a t = let p = and-both (bit 0 a) (writableCode (h .regions)) t in (eqb-true _ _ (p .0), tested-code (h .regions) (p .1))
 
 module _ (h : HfiState) (a : ℕ) where
   abbrev stop : HfiKind → ℕ
@@ -315,6 +320,16 @@ fetched-step m mem i f = rw (f .multiple, f .passed, f .legal) refl
 
 pub step-stops : (m : Machine) (mem : List ℕ) (i : Instruction) (n : ℕ) → Fetches m mem i → Breaks m i n → step m mem ≡ told n m mem
 step-stops m mem i n f b = fetched-step m mem i f ∙ instruction-stops m mem _ i n b
+
+-- where no rule is broken the step does what the instruction does, and asks nothing more of HFI
+pub step-allowed : (m : Machine) (mem : List ℕ) (i : Instruction) → Fetches m mem i → ((n : ℕ) → Breaks m i n → ⊥)
+    → step m mem ≡ perform m mem (sum (m .pc) 4) i
+unfolding executeInstruction allowed
+step-allowed m mem i f n = fetched-step m mem i f ∙ go (eqb (hfiStop m i) 0) refl
+  where
+    go : (b : Bool) → eqb (hfiStop m i) 0 ≡ b → cond (eqb (hfiStop m i) 0) (perform m mem (sum (m .pc) 4) i) (stopped (hfiStop m i) m mem) ≡ perform m mem (sum (m .pc) 4) i
+    go true e = rw e refl
+    go false e = absurd (n (hfiStop m i) (number-rule m i (eqb-false _ _ e)))
 
 -- a step with such a stop
 pub record Forbids (m : Machine) (mem : List ℕ) (n : ℕ) : Type 0 where

@@ -4,11 +4,11 @@
 use mathlib.Core.Path.{_≡_, refl}
 use mathlib.Core.Bool.{Bool, true, false, cond}
 use mathlib.Core.List.{List}
-use Prim.Native.Nat.{ℕ, _≤_}
+use Prim.Native.Nat.{ℕ, _<_, _≤_}
 use native.Mathlib.Omega.{arith}
 use lib.Dec.{ltb}
 use lib.ListN.{length}
-use borrow.Author.Tests.{ltb-false, le-ltb}
+use borrow.Author.Tests.{ltb-false, lt-ltb, le-ltb}
 use Rattle.instructions.proofs.Tests.{and-both}
 use Rattle.model.specs.Machine.{inside, locked}
 use Rattle.model.specs.WellFormed.{wellFormed}
@@ -80,6 +80,15 @@ only-step m mem q = go (ltb longest (length mem)) (wellFormed m) (exposesCode (m
     go false false d l w x e = absurd (omega (arith, e))
     go false true true l w x e = record { short = ltb-false _ _ l; formed = w; exposed = exposed m x }
     go false true false l w x e = absurd (step-not-refused m mem (omega (arith, e)) (omega (arith, e)))
+
+-- 1 and 3 come before it
+pub step-too-long : (m : Machine) (mem : List ℕ) → longest < length mem → stepCall m mem ≡ stopped 1 m mem
+unfolding stepCall
+step-too-long m mem l = rw (lt-ltb longest (length mem) l) refl
+
+pub step-unformed : (m : Machine) (mem : List ℕ) → length mem ≤ longest → wellFormed m ≡ false → stepCall m mem ≡ stopped 3 m mem
+unfolding stepCall
+step-unformed m mem l w = rw (le-ltb longest (length mem) l, w) refl
 
 -- a call that 1 to 4 let pass makes its step, or its run, and adds nothing to it
 pub record Comes (m : Machine) (mem : List ℕ) : Type 0 where
