@@ -70,8 +70,8 @@ struct koubospar_machine {
 /* ---- stack and cost -------------------------------------------------------------------------------------------- */
 
 /* The bytes of stack that a call takes, what it is called with included: measured by painting, over every stop and every
- * kind of word, and rounded up. `c/try` measures them again and fails where a call takes more. Measured were 2,808 for a
- * step, 2,440 for a run, 16 for a resumption, 68,264 for a sheet, 336 and 384 for decoding and encoding, 432 for the
+ * kind of word, and rounded up. `c/try` measures them again and fails where a call takes more. Measured were 2,712 for a
+ * step, 2,344 for a run, 16 for a resumption, 68,168 for a sheet, 336 and 384 for decoding and encoding, 432 for the
  * probe and 552 for a place. No call's stack grows with the memory, the budget or the sheet. */
 #define KOUBOSPAR_STACK_STEP 3072
 #define KOUBOSPAR_STACK_RUN 2560
@@ -82,8 +82,8 @@ struct koubospar_machine {
 #define KOUBOSPAR_STACK_PROBE 512
 #define KOUBOSPAR_STACK_PLACE 768
 
-/* A step call is a run of one step: of a locked machine it costs 853 instructions more than a step inside a run, which
- * costs 128 to 248 on the programs of bench/ (bench/README.md). Make runs, and steps only where one must look in between. */
+/* A step call is a run of one step: of a locked machine it costs 852 instructions more than a step inside a run, which
+ * costs 129 to 248 on the programs of bench/ (bench/README.md). Make runs, and steps only where one must look in between. */
 
 /* ---- the calls on a machine ----------------------------------------------------------------------------------- */
 

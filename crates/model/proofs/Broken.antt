@@ -290,11 +290,11 @@ clause-listed m i n (Breaks.no-selection t l s) = refl
 clause-listed m i n (Breaks.begins e o l b w) = refl
 
 -- "Nothing else about these stops changes": the stop alone is told, the address is 0, and machine and memory are as they were
-abbrev pub told : ℕ → Machine → List ℕ → Outcome
-told n m mem = record { result = record { stop = n; address = 0; machine = m }; memory = mem }
+abbrev pub stopAlone : ℕ → Machine → List ℕ → Outcome
+stopAlone n m mem = record { result = record { stop = n; address = 0; machine = m }; memory = mem }
 
 module _ (m : Machine) (mem : List ℕ) (next : ℕ) (i : Instruction) where
-  pub instruction-stops : (n : ℕ) → Breaks m i n → executeInstruction m mem next i ≡ told n m mem
+  pub instruction-stops : (n : ℕ) → Breaks m i n → executeInstruction m mem next i ≡ stopAlone n m mem
   unfolding executeInstruction allowed
   instruction-stops n b = rw (rule-number m i n b) (rw (stop-nonzero n (clause-listed m i n b)) refl)
 
@@ -318,7 +318,7 @@ fetched-step : (m : Machine) (mem : List ℕ) (i : Instruction) → Fetches m me
 unfolding step settle executeWord
 fetched-step m mem i f = rw (f .multiple, f .passed, f .legal) refl
 
-pub step-stops : (m : Machine) (mem : List ℕ) (i : Instruction) (n : ℕ) → Fetches m mem i → Breaks m i n → step m mem ≡ told n m mem
+pub step-stops : (m : Machine) (mem : List ℕ) (i : Instruction) (n : ℕ) → Fetches m mem i → Breaks m i n → step m mem ≡ stopAlone n m mem
 step-stops m mem i n f b = fetched-step m mem i f ∙ instruction-stops m mem _ i n b
 
 -- where no rule is broken the step does what the instruction does, and asks nothing more of HFI
@@ -359,7 +359,7 @@ step-stopped m mem q = go (eqb (m .pc % 4) 0) refl (verdict (m .hfi .mode) (leng
 
 -- ---- of the calls
 
-pub call-stops : (m : Machine) (mem : List ℕ) (n : ℕ) → Comes m mem → Forbids m mem n → stepCall m mem ≡ told n m mem
+pub call-stops : (m : Machine) (mem : List ℕ) (n : ℕ) → Comes m mem → Forbids m mem n → stepCall m mem ≡ stopAlone n m mem
 call-stops m mem n c f = step-made m mem c ∙ step-stops m mem (f .instruction) n (f .fetched) (f .rule)
 
 pub call-stopped : (m : Machine) (mem : List ℕ) → isHfiStop (stepCall m mem .result .stop) ≡ true → Comes m mem × Forbids m mem (stepCall m mem .result .stop)
