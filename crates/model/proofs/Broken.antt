@@ -270,6 +270,20 @@ pub number-rule : (m : Machine) (i : Instruction) → (hfiStop m i ≡ 0 → ⊥
 unfolding hfiStop
 number-rule m i n = first (Breaks m i) (rules m i) (instruction-first m i) (ne-eqb _ 0 n)
 
+-- a locked guest is told 23 or 25 and nothing else: 14 and 22 come outside HFI mode or unlocked, 24 outside it
+pub locked-numbers : (m : Machine) (i : Instruction) (n : ℕ) → Locked m → Breaks m i n → (n ≡ 23) ⊎ (n ≡ 25)
+locked-numbers m i n k (Breaks.enters-inside e o) = inl refl
+locked-numbers m i n k (Breaks.exits-outside o) = absurd (o (k .mode))
+locked-numbers m i n k (Breaks.when-locked t l) = inr refl
+locked-numbers m i n k (Breaks.sets-handler o) = inr refl
+locked-numbers m i n k (Breaks.h-load-outside o) = absurd (o (k .mode))
+locked-numbers m i n k (Breaks.h-store-outside o) = absurd (o (k .mode))
+locked-numbers m i n k (Breaks.bad-options e o l) = absurd (o (k .mode))
+locked-numbers m i n k (Breaks.bad-number l b) = absurd (l k)
+locked-numbers m i n k (Breaks.bad-permission l s p) = absurd (l k)
+locked-numbers m i n k (Breaks.no-selection t l s) = absurd (l k)
+locked-numbers m i n k (Breaks.begins e o l b w) = absurd (o (k .mode))
+
 -- ---- of a whole step
 
 -- no other question has one of these numbers
