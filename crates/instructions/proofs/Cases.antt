@@ -1,7 +1,8 @@
 -- Words and their instructions, as lists of rows, each covered by one computed check. A definition and a code that agree on
 -- a wrong table of codes, or on a wrong place of a bit, would be proved of each other; these rows refuse both.
 -- The words of `rows` were made by `riscv64-linux-gnu-as -march=rv64im` (GNU Binutils 2.40) from the text beside them, not by
--- this crate; `.insn` lays out the words of opcodes 0b, 2b and 5b, which only document 01 has.
+-- this crate; `.insn` lays out the words of opcodes 0b, 2b and 5b, which only document 01 has. Some are of another assembler,
+-- which is named above them.
 -- Assumes nothing.
 use mathlib.Core.Path.{_≡_, refl}
 use mathlib.Core.List.{List, [], _∷_, map}
@@ -32,7 +33,7 @@ abbrev pub rows : List (ℕ × Instruction)
 rows =
     -- document 01, cases A and B; C is in the table of opcode 5b
     (0x00500513, Immediate Addi 10 0 5)  -- addi x10, x0, 5 (A)
-    ∷ (0x00a001ab, HStore Sb 0 10 3)  -- .insn s 0x2b, 0, x10, 3(x0) (B)
+    ∷ (0x00a001ab, HStore Sb 1 0 10 3)  -- .insn s 0x2b, 0, x10, 3(x0) (B)
     -- "RV32I Base Instruction Set"; SLLI, SRLI and SRAI with the six bits of RV64I
     ∷ (0x12345537, Upper Lui 10 0x12345000)  -- lui x10, 0x12345
     ∷ (0xedcba897, Upper Auipc 17 (2 ^ 64 - 0x12346000))  -- auipc x17, 0xedcba
@@ -101,18 +102,28 @@ rows =
     ∷ (0x02a1d43b, RegisterWord Divuw 8 3 10)  -- divuw x8, x3, x10
     ∷ (0x03c867bb, RegisterWord Remw 15 16 28)  -- remw x15, x16, x28
     ∷ (0x02fdfb3b, RegisterWord Remuw 22 27 15)  -- remuw x22, x27, x15
-    -- h-loads and h-stores
-    ∷ (0x35b0860b, HLoad Lb 12 1 0x35b)  -- .insn i 0x0b, 0, x12, x1, 0x35b
-    ∷ (0xca56998b, HLoad Lh 19 13 (2 ^ 64 - 0x35b))  -- .insn i 0x0b, 1, x19, x13, -0x35b
-    ∷ (0x4d2cad0b, HLoad Lw 26 25 0x4d2)  -- .insn i 0x0b, 2, x26, x25, 0x4d2
-    ∷ (0xb2e3310b, HLoad Ld 2 6 (2 ^ 64 - 0x4d2))  -- .insn i 0x0b, 3, x2, x6, -0x4d2
-    ∷ (0x6a99448b, HLoad Lbu 9 18 0x6a9)  -- .insn i 0x0b, 4, x9, x18, 0x6a9
-    ∷ (0x957f580b, HLoad Lhu 16 30 (2 ^ 64 - 0x6a9))  -- .insn i 0x0b, 5, x16, x30, -0x6a9
-    ∷ (0x2e75eb8b, HLoad Lwu 23 11 0x2e7)  -- .insn i 0x0b, 6, x23, x11, 0x2e7
-    ∷ (0xd17f0cab, HStore Sb 30 23 (2 ^ 64 - 0x2e7))  -- .insn s 0x2b, 0, x23, -0x2e7(x30)
-    ∷ (0x2e4313ab, HStore Sh 6 4 0x2e7)  -- .insn s 0x2b, 1, x4, 0x2e7(x6)
-    ∷ (0x9506abab, HStore Sw 13 16 (2 ^ 64 - 0x6a9))  -- .insn s 0x2b, 2, x16, -0x6a9(x13)
-    ∷ (0x6bca34ab, HStore Sd 20 28 0x6a9)  -- .insn s 0x2b, 3, x28, 0x6a9(x20)
+    -- h-loads and h-stores: what the assembler takes for a register is 16 times a bit of the choice, and the register
+    ∷ (0x35b0860b, HLoad Lb 1 12 1 0x35b)  -- .insn i 0x0b, 0, x12, x1, 0x35b
+    ∷ (0xca56998b, HLoad Lh 4 3 13 (2 ^ 64 - 0x35b))  -- .insn i 0x0b, 1, x19, x13, -0x35b
+    ∷ (0x4d2cad0b, HLoad Lw 6 10 9 0x4d2)  -- .insn i 0x0b, 2, x26, x25, 0x4d2
+    ∷ (0xb2e3310b, HLoad Ld 1 2 6 (2 ^ 64 - 0x4d2))  -- .insn i 0x0b, 3, x2, x6, -0x4d2
+    ∷ (0x6a99448b, HLoad Lbu 5 9 2 0x6a9)  -- .insn i 0x0b, 4, x9, x18, 0x6a9
+    ∷ (0x957f580b, HLoad Lhu 6 0 14 (2 ^ 64 - 0x6a9))  -- .insn i 0x0b, 5, x16, x30, -0x6a9
+    ∷ (0x2e75eb8b, HLoad Lwu 4 7 11 0x2e7)  -- .insn i 0x0b, 6, x23, x11, 0x2e7
+    ∷ (0xd17f0cab, HStore Sb 6 14 7 (2 ^ 64 - 0x2e7))  -- .insn s 0x2b, 0, x23, -0x2e7(x30)
+    ∷ (0x2e4313ab, HStore Sh 1 6 4 0x2e7)  -- .insn s 0x2b, 1, x4, 0x2e7(x6)
+    ∷ (0x9506abab, HStore Sw 4 13 0 (2 ^ 64 - 0x6a9))  -- .insn s 0x2b, 2, x16, -0x6a9(x13)
+    ∷ (0x6bca34ab, HStore Sd 6 4 12 0x6a9)  -- .insn s 0x2b, 3, x28, 0x6a9(x20)
+    -- .. at the ends of both, every region; these words are of `llvm-mc -triple=riscv64` (LLVM 14.0.6)
+    ∷ (0x7ff7d78b, HLoad Lhu 1 15 15 0x7ff)  -- .insn i 0x0b, 5, x15, x15, 0x7ff
+    ∷ (0x5557b80b, HLoad Ld 4 0 15 0x555)  -- .insn i 0x0b, 3, x16, x15, 0x555
+    ∷ (0xaaa8478b, HLoad Lbu 5 15 0 (2 ^ 64 - 0x556))  -- .insn i 0x0b, 4, x15, x16, -0x556
+    ∷ (0xffffef8b, HLoad Lwu 6 15 15 (2 ^ 64 - 1))  -- .insn i 0x0b, 6, x31, x31, -1
+    ∷ (0x54f7baab, HStore Sd 1 15 15 0x555)  -- .insn s 0x2b, 3, x15, 0x555(x15)
+    ∷ (0x81f7a02b, HStore Sw 4 15 15 (2 ^ 64 - 0x800))  -- .insn s 0x2b, 2, x31, -0x800(x15)
+    ∷ (0x7ef81fab, HStore Sh 5 0 15 0x7ff)  -- .insn s 0x2b, 1, x15, 0x7ff(x16)
+    ∷ (0xd07e8cab, HStore Sb 5 13 7 (2 ^ 64 - 0x2e7))  -- .insn s 0x2b, 0, x7, -0x2e7(x29)
+    ∷ (0xab08352b, HStore Sd 6 0 0 (2 ^ 64 - 0x556))  -- .insn s 0x2b, 3, x16, -0x556(x16)
     -- opcode 5b
     ∷ (0x0004805b, Hfi Enter 0 9 0)  -- .insn r 0x5b, 0, 0, x0, x9, x0
     ∷ (0x026a805b, Hfi EnterJump 0 21 6)  -- .insn r 0x5b, 0, 1, x0, x21, x6
@@ -196,7 +207,7 @@ rows =
     ∷ (0x8330000f, Fence 8 3 3 0 0)  -- fence.tso
     ∷ (0x0100000f, Fence 0 1 0 0 0)  -- .insn i 0x0f, 0, x0, x0, 0x10 (pause)
     ∷ (0xa6350a8f, Fence 10 6 3 10 21)  -- .insn i 0x0f, 0, x21, x10, -0x59d
-    ∷ (0xfff0350b, HLoad Ld 10 0 (2 ^ 64 - 1))  -- .insn i 0x0b, 3, x10, x0, -1
+    ∷ (0xfff0350b, HLoad Ld 1 10 0 (2 ^ 64 - 1))  -- .insn i 0x0b, 3, x10, x0, -1
     ∷ []
 
 -- each word is decoded to the instruction beside it
@@ -303,8 +314,20 @@ refused =
     ∷ Jal 0 (2 ^ 20)
     ∷ Jal 0 1
     ∷ Store Sb 0 0 (2 ^ 64 - 2049)
-    ∷ HLoad Lb 0 0 2048
-    ∷ HStore Sb 0 32 0
+    ∷ HLoad Lb 1 0 0 2048
+    ∷ HStore Sb 1 0 32 0
+    ∷ HLoad Lb 0 0 0 0  -- regions that no h-word chooses
+    ∷ HLoad Lb 2 0 0 0
+    ∷ HLoad Lb 3 0 0 0
+    ∷ HLoad Lb 7 0 0 0
+    ∷ HStore Sb 0 0 0 0
+    ∷ HStore Sb 2 0 0 0
+    ∷ HStore Sb 3 0 0 0
+    ∷ HStore Sb 7 0 0 0
+    ∷ HLoad Lb 1 16 0 0  -- a register that an h-word cannot name
+    ∷ HLoad Lb 6 0 16 0
+    ∷ HStore Sb 1 16 0 0
+    ∷ HStore Sb 6 0 16 0
     ∷ Fence 16 0 0 0 0
     ∷ Fence 0 0 16 0 0
     ∷ ShiftWord Slliw 0 0 32

@@ -12,6 +12,7 @@ use Rattle.instructions.specs.InWord.{InWord}
 use Rattle.instructions.specs.Opcodes.{LUI, AUIPC, JAL, JALR, BRANCH, LOAD, STORE, OP-IMM, OP-IMM-32, OP, OP-32, MISC-MEM, SYSTEM, H-LOAD, H-STORE, HFI}
 use Rattle.instructions.specs.Kinds.{functs, upperCode, branchCode, loadCode, storeCode, immediateCode, shiftCode, shiftWordCode, registerCode, registerWordCode, systemCode, hfiCode}
 use Rattle.instructions.specs.Immediates.{iBits, iImmediate}
+use Rattle.instructions.specs.HWords.{lowRegister, chosenRegion, rs1Field, otherField}
 use Rattle.instructions.specs.Decode.{shiftAt, shiftWordAt, registerAt, registerWordAt, systemAt, hfiAt, namedAt, provided, otherwise, decodeShift, decodeFields}
 use Rattle.instructions.specs.Encode.{rFields, shiftFields, fenceFields, encodeFields, inRange}
 use Rattle.instructions.specs.declared.kind.UpperKind.{UpperKind}
@@ -29,10 +30,11 @@ use Rattle.instructions.specs.declared.instruction.Instruction.{Instruct
 use Rattle.instructions.specs.declared.instruction.Instruction.the-variants.{Upper, Jal, Jalr, Branch, Load, Store, Immediate, Shift, Addiw, ShiftWord, Register, RegisterWord, Fence, System, HLoad, HStore, Hfi}
 use Rattle.instructions.specs.declared.instruction.Decoded.{Decoded}
 use Rattle.instructions.specs.declared.instruction.Decoded.the-variants.{Legal, Illegal}
-use Rattle.instructions.proofs.Tests.{and-of, one-all, two-all, amount-range, fence-range}
+use Rattle.instructions.proofs.Tests.{and-of, one-all, two-all, amount-range, fence-range, h-load-range, h-store-range}
 use Rattle.instructions.proofs.Tables.{found-with, upper-code, branch-code, load-code, store-code, immediate-code, shift-code, shift-word-code, register-code, register-word-code, system-code, hfi-code, shift-apart, shift-word-apart}
 use Rattle.instructions.proofs.Named.{named-row}
-use Rattle.instructions.proofs.Formats.{r-in-word, i-in-word, s-in-word, b-in-word, u-in-word, j-in-word, r-read, i-bits-whole, i-read, s-read, b-read, u-read, j-read}
+use Rattle.instructions.proofs.HWords.{rs1-read, other-read, region-read}
+use Rattle.instructions.proofs.Formats.{r-in-word, i-in-word, s-in-word, h-load-in-word, h-store-in-word, b-in-word, u-in-word, j-in-word, r-read, i-bits-whole, i-read, s-read, b-read, u-read, j-read}
 
 -- ---- an instruction in range has its fields in their places
 
@@ -57,8 +59,10 @@ encode-in-word (RegisterWord k rd rs1 rs2) h =
     r-in-word OP-32 (registerWordCode k) rd rs1 rs2 (lit< tt) (t .0) (t .1) (ltb-true rs2 32 (t .2))
 encode-in-word (Fence fm pred succ rs1 rd) h = i-in-word MISC-MEM 0 rd rs1 _ _ (lit< tt) (lit< tt) h
 encode-in-word (System k) h = i-in-word SYSTEM 0 0 0 (systemCode k) true (lit< tt) (lit< tt) refl
-encode-in-word (HLoad k rd rs1 x) h = i-in-word H-LOAD (loadCode k) rd rs1 x _ (lit< tt) (load-code k .small) h
-encode-in-word (HStore k rs1 rs2 x) h = s-in-word H-STORE (storeCode k) rs1 rs2 x _ (lit< tt) (store-code k .small) h
+encode-in-word (HLoad k region rd rs1 x) h =
+    h-load-in-word H-LOAD (loadCode k) region rd rs1 x _ (lit< tt) (load-code k .small) h
+encode-in-word (HStore k region rs1 rs2 x) h =
+    h-store-in-word H-STORE (storeCode k) region rs1 rs2 x _ (lit< tt) (store-code k .small) h
 encode-in-word (Hfi k rd rs1 rs2) h =
     let t = two-all rd rs1 _ h in
     r-in-word HFI (functs (hfiCode k) 0) rd rs1 rs2 (lit< tt) (t .0) (t .1) (one-all rs2 _ (t .2) .0)
@@ -130,12 +134,20 @@ decode-encode (Fence fm pred succ rs1 rd) h =
 decode-encode (System k) h =
     ap systemAt (i-bits-whole SYSTEM 0 0 0 (systemCode k) (system-code k .small))
     ∙ system-code k .found Decoded (λ (j : SystemKind). Legal (System j)) Illegal
-decode-encode (HLoad k rd rs1 x) h =
-    found-with (load-code k) (λ (j : LoadKind) (y : ℕ). Legal (HLoad j rd rs1 y)) Illegal
-    (i-read H-LOAD (loadCode k) rd rs1 x (two-all rd rs1 _ h .2))
-decode-encode (HStore k rs1 rs2 x) h =
-    found-with (store-code k) (λ (j : StoreKind) (y : ℕ). Legal (HStore j rs1 rs2 y)) Illegal
-    (s-read H-STORE (storeCode k) rs1 rs2 x (two-all rs1 rs2 _ h .2))
+decode-encode (HLoad k region rd rs1 x) h =
+    let t = h-load-range k region rd rs1 x h in
+    let a = rs1Field region rs1 in
+    let d = otherField region rd in
+    found-with (load-code k) (λ (j : LoadKind) (y : ℕ). Legal (HLoad j (chosenRegion a d) (lowRegister d) (lowRegister a) y)) Illegal
+    (i-read H-LOAD (loadCode k) d a x (t .3))
+    ∙ rw (region-read region rs1 rd (t .0) (t .2) (t .1), rs1-read region rs1 rd (t .2), other-read region rs1 rd (t .1)) refl
+decode-encode (HStore k region rs1 rs2 x) h =
+    let t = h-store-range k region rs1 rs2 x h in
+    let a = rs1Field region rs1 in
+    let b = otherField region rs2 in
+    found-with (store-code k) (λ (j : StoreKind) (y : ℕ). Legal (HStore j (chosenRegion a b) (lowRegister a) (lowRegister b) y)) Illegal
+    (s-read H-STORE (storeCode k) a b x (t .3))
+    ∙ rw (region-read region rs1 rs2 (t .0) (t .1) (t .2), rs1-read region rs1 rs2 (t .1), other-read region rs1 rs2 (t .2)) refl
 decode-encode (Hfi k rd rs1 rs2) h =
     let f = rFields HFI (functs (hfiCode k) 0) rd rs1 rs2 in
     let n = one-all rs2 _ (two-all rd rs1 _ h .2) .1 in

@@ -13,7 +13,8 @@ use Rattle.instructions.specs.Table.{ofCode}
 use Rattle.instructions.specs.Opcodes.{JALR, BRANCH, LOAD, STORE, OP-IMM, OP-IMM-32, OP, OP-32, MISC-MEM, SYSTEM, H-LOAD, H-STORE, HFI}
 use Rattle.instructions.specs.Kinds.{functs, branchCode, branchKinds, loadCode, loadKinds, storeCode, storeKinds, immediateCode, immediateKinds, shiftCode, shiftKinds, shiftWordCode, shiftWordKinds, registerCode, registerKinds, registerWordCode, registerWordKinds, systemCode, systemKinds, hfiRow, hfiCode, hfiKinds, named}
 use Rattle.instructions.specs.Immediates.{iBits, iImmediate, sImmediate, bImmediate}
-use Rattle.instructions.specs.Decode.{branchAt, loadAt, storeAt, registerAt, registerWordAt, systemAt, hfiAt, namedAt, provided, otherwise, decodeJalr, decodeShift, decodeImmediate, decodeImmediateWord, decodeFence, decodeSystem, decodeHfi, groups, decodeFields}
+use Rattle.instructions.specs.HWords.{lowRegister, chosenRegion}
+use Rattle.instructions.specs.Decode.{branchAt, loadAt, storeAt, registerAt, registerWordAt, systemAt, hfiAt, namedAt, provided, otherwise, decodeJalr, decodeShift, decodeImmediate, decodeImmediateWord, decodeFence, decodeSystem, decodeHLoad, decodeHStore, decodeHfi, groups, decodeFields}
 use Rattle.instructions.specs.Encode.{iFields, encodeFields, inRange}
 use Rattle.instructions.specs.declared.fields.Fields.{Fields}
 use Rattle.instructions.specs.declared.kind.BranchKind.{BranchKind}
@@ -32,7 +33,7 @@ use Rattle.instructions.specs.declared.instruction.Decoded.the-variants.
 use Rattle.instructions.proofs.Tests.{and-both, and-of, two-of}
 use Rattle.instructions.proofs.Tables.{_⊗_, cond-ind, lookup-ind, code-ind}
 use Rattle.instructions.proofs.Named.{named-row}
-use Rattle.instructions.proofs.Formats.{i-bits-lt, r-back, i-bits-back, i-back, s-back, b-back, u-back, j-back}
+use Rattle.instructions.proofs.Formats.{i-bits-lt, r-back, i-bits-back, i-back, s-back, h-load-back, h-store-back, b-back, u-back, j-back}
 
 -- ---- what fields are decoded to has these fields, and is in range
 
@@ -59,12 +60,12 @@ module _ (f : Fields) (r : InWord f) where
       back-code f branchCode (λ (k : BranchKind). Branch k (f .rs1) (f .rs2) (bImmediate f)) branchKinds (f .funct3)
       (λ k e. b-back f r o e)
 
-  back-load : f .opcode ≡ LOAD → Back f (loadAt false (f .funct3) (f .rd) (f .rs1) (iImmediate f))
+  back-load : f .opcode ≡ LOAD → Back f (loadAt false (f .funct3) 0 (f .rd) (f .rs1) (iImmediate f))
   back-load o =
       back-code f loadCode (λ (k : LoadKind). Load k (f .rd) (f .rs1) (iImmediate f)) loadKinds (f .funct3)
       (λ k e. i-back f r o e)
 
-  back-store : f .opcode ≡ STORE → Back f (storeAt false (f .funct3) (f .rs1) (f .rs2) (sImmediate f))
+  back-store : f .opcode ≡ STORE → Back f (storeAt false (f .funct3) 0 (f .rs1) (f .rs2) (sImmediate f))
   back-store o =
       back-code f storeCode (λ (k : StoreKind). Store k (f .rs1) (f .rs2) (sImmediate f)) storeKinds (f .funct3)
       (λ k e. s-back f r o e)
@@ -126,15 +127,17 @@ module _ (f : Fields) (r : InWord f) where
         refl,
       )))
 
-  back-h-load : f .opcode ≡ H-LOAD → Back f (loadAt true (f .funct3) (f .rd) (f .rs1) (iImmediate f))
+  back-h-load : f .opcode ≡ H-LOAD → Back f (decodeHLoad f)
   back-h-load o =
-      back-code f loadCode (λ (k : LoadKind). HLoad k (f .rd) (f .rs1) (iImmediate f)) loadKinds (f .funct3)
-      (λ k e. i-back f r o e)
+      back-code f loadCode
+      (λ (k : LoadKind). HLoad k (chosenRegion (f .rs1) (f .rd)) (lowRegister (f .rd)) (lowRegister (f .rs1)) (iImmediate f))
+      loadKinds (f .funct3) (λ k e. h-load-back f r o e)
 
-  back-h-store : f .opcode ≡ H-STORE → Back f (storeAt true (f .funct3) (f .rs1) (f .rs2) (sImmediate f))
+  back-h-store : f .opcode ≡ H-STORE → Back f (decodeHStore f)
   back-h-store o =
-      back-code f storeCode (λ (k : StoreKind). HStore k (f .rs1) (f .rs2) (sImmediate f)) storeKinds (f .funct3)
-      (λ k e. s-back f r o e)
+      back-code f storeCode
+      (λ (k : StoreKind). HStore k (chosenRegion (f .rs1) (f .rs2)) (lowRegister (f .rs1)) (lowRegister (f .rs2)) (sImmediate f))
+      storeKinds (f .funct3) (λ k e. h-store-back f r o e)
 
   back-hfi : f .opcode ≡ HFI → Back f (decodeHfi f)
   back-hfi o =

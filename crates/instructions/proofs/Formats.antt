@@ -1,6 +1,6 @@
 -- Each format by itself: the immediate is read out of the fields that it was put into, and put back where it was read.
 -- Assumes nothing.
-use mathlib.Core.Path.{_≡_, refl, sym, ap, _∙_}
+use mathlib.Core.Path.{_≡_, refl, sym, ap, ap₂, _∙_}
 use mathlib.Core.Bool.{Bool, true, _&&_}
 use Prim.Native.Nat.{ℕ, _^_, _<_}
 use native.Mathlib.Omega.{arith}
@@ -12,10 +12,12 @@ use Rattle.words.proofs.Extend.{sext-field, sext-fits, fits-sext}
 use Rattle.instructions.specs.InWord.{InWord}
 use Rattle.instructions.specs.Kinds.{functs}
 use Rattle.instructions.specs.Immediates.{iBits, sBits, bPieces, uPieces, jPieces, iImmediate, sImmediate, bImmediate, uImmediate, jImmediate}
-use Rattle.instructions.specs.Encode.{rFields, iFields, sFields, bFields, uFields, jFields, two, multiple}
+use Rattle.instructions.specs.HWords.{lowRegister, chosenRegion, rs1Field, otherField}
+use Rattle.instructions.specs.Encode.{rFields, iFields, sFields, bFields, uFields, jFields, two, hWord, multiple}
 use Rattle.instructions.specs.declared.fields.Fields.{Fields}
 use Rattle.instructions.proofs.Words.{same}
-use Rattle.instructions.proofs.Tests.{and-both, and-of, one-all, two-all, two-of}
+use Rattle.instructions.proofs.Tests.{and-both, and-of, one-all, two-all, two-of, h-word-all, h-word-of}
+use Rattle.instructions.proofs.HWords.{chosen-explicit, rs1-back, other-back, low-register-lt, rs1-field-lt, other-field-lt}
 
 -- ---- the fields of each format are in their places
 
@@ -27,6 +29,19 @@ i-in-word o n d a x t p q h = omega (arith, two-all d a t h)
 
 pub s-in-word : (o n a b x : ℕ) (t : Bool) → o < 2 ^ 7 → n < 2 ^ 3 → two a b t ≡ true → InWord (sFields o n a b x)
 s-in-word o n a b x t p q h = omega (arith, two-all a b t h)
+
+-- .. those of h-words too, whose register fields hold the choice of the region
+pub h-load-in-word : (o n region d a x : ℕ) (t : Bool) → o < 2 ^ 7 → n < 2 ^ 3 → hWord region d a t ≡ true
+    → InWord (iFields o n (otherField region d) (rs1Field region a) x)
+h-load-in-word o n region d a x t p q h =
+    let w = h-word-all region d a t h in
+    i-in-word o n _ _ x true p q (two-of (other-field-lt region a d (w .1)) (rs1-field-lt region a d (w .2)) refl)
+
+pub h-store-in-word : (o n region a b x : ℕ) (t : Bool) → o < 2 ^ 7 → n < 2 ^ 3 → hWord region a b t ≡ true
+    → InWord (sFields o n (rs1Field region a) (otherField region b) x)
+h-store-in-word o n region a b x t p q h =
+    let w = h-word-all region a b t h in
+    s-in-word o n _ _ x true p q (two-of (rs1-field-lt region a b (w .1)) (other-field-lt region a b (w .2)) refl)
 
 pub b-in-word : (o n a b x : ℕ) (t : Bool) → o < 2 ^ 7 → n < 2 ^ 3 → two a b t ≡ true → InWord (bFields o n a b x)
 b-in-word o n a b x t p q h = omega (arith, two-all a b t h)
@@ -133,6 +148,29 @@ module _ (f : Fields) (r : InWord f) {o : ℕ} (op : f .opcode ≡ o) where
       let l : sBits f < 2 ^ 12 = omega arith in
       let p = field-parts (sImmediate f) 0 5 7 (r .rd) (sext-field 12 (sBits f) (lit≤ tt) l) in
       (same (sym op) (p .1) (sym e) refl refl (p .0), two-of (r .rs1) (r .rs2) (sext-fits 12 (sBits f) (lit≤ tt) l))
+
+  -- the two fields of an h-word are those that its region and registers make
+  pub h-load-back : {n : ℕ} → f .funct3 ≡ n
+      → let region = chosenRegion (f .rs1) (f .rd) in
+      (iFields o n (otherField region (lowRegister (f .rd))) (rs1Field region (lowRegister (f .rs1))) (iImmediate f) ≡ f)
+      × (hWord region (lowRegister (f .rd)) (lowRegister (f .rs1)) (fitsSigned 12 (iImmediate f)) ≡ true)
+  h-load-back {n} e =
+      let b = i-back e in (
+        ap₂ (λ (d a : ℕ). iFields o n d a (iImmediate f)) (other-back (f .rs1) (f .rd) (r .rd)) (rs1-back (f .rs1) (f .rd) (r .rs1)) ∙ b .0,
+        h-word-of (chosenRegion (f .rs1) (f .rd)) (chosen-explicit (f .rs1) (f .rd)) (low-register-lt (f .rd)) (low-register-lt (f .rs1))
+            (two-all (f .rd) (f .rs1) _ (b .1) .2),
+      )
+
+  pub h-store-back : {n : ℕ} → f .funct3 ≡ n
+      → let region = chosenRegion (f .rs1) (f .rs2) in
+      (sFields o n (rs1Field region (lowRegister (f .rs1))) (otherField region (lowRegister (f .rs2))) (sImmediate f) ≡ f)
+      × (hWord region (lowRegister (f .rs1)) (lowRegister (f .rs2)) (fitsSigned 12 (sImmediate f)) ≡ true)
+  h-store-back {n} e =
+      let b = s-back e in (
+        ap₂ (λ (x y : ℕ). sFields o n x y (sImmediate f)) (rs1-back (f .rs1) (f .rs2) (r .rs1)) (other-back (f .rs1) (f .rs2) (r .rs2)) ∙ b .0,
+        h-word-of (chosenRegion (f .rs1) (f .rs2)) (chosen-explicit (f .rs1) (f .rs2)) (low-register-lt (f .rs1)) (low-register-lt (f .rs2))
+            (two-all (f .rs1) (f .rs2) _ (b .1) .2),
+      )
 
   pub b-back : {n : ℕ} → f .funct3 ≡ n
       → (bFields o n (f .rs1) (f .rs2) (bImmediate f) ≡ f) × (two (f .rs1) (f .rs2) (multiple 13 1 (bImmediate f)) ≡ true)

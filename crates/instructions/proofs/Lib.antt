@@ -1,6 +1,7 @@
 pub mod Tests
 pub mod Tables
 pub mod Named
+pub mod HWords
 pub mod Words
 pub mod Formats
 pub mod DecodeEncode

@@ -3,11 +3,16 @@
 use mathlib.Core.Path.{_≡_, refl}
 use mathlib.Core.Bool.{Bool, true, false, _&&_}
 use Prim.Native.Nat.{ℕ, _<_}
+use native.Mathlib.Omega.{arith}
 use lib.Dec.{ltb}
 use borrow.Author.Tests.{ltb-true, lt-ltb}
-use Rattle.instructions.specs.Encode.{two, inRange}
+use Rattle.words.specs.Word.{fitsSigned}
+use Rattle.instructions.specs.HWords.{explicitRegions, among}
+use Rattle.instructions.specs.Encode.{two, hWord, inRange}
+use Rattle.instructions.specs.declared.kind.LoadKind.{LoadKind}
+use Rattle.instructions.specs.declared.kind.StoreKind.{StoreKind}
 use Rattle.instructions.specs.declared.kind.ShiftKind.{ShiftKind}
-use Rattle.instructions.specs.declared.instruction.Instruction.the-variants.{Shift, Fence}
+use Rattle.instructions.specs.declared.instruction.Instruction.the-variants.{Shift, Fence, HLoad, HStore}
 
 pub and-both : (a b : Bool) → (a && b) ≡ true → (a ≡ true) × (b ≡ true)
 and-both true b e = (refl, e)
@@ -29,6 +34,30 @@ two-all a b t h =
 
 pub two-of : {a b : ℕ} {t : Bool} → a < 32 → b < 32 → t ≡ true → two a b t ≡ true
 two-of {a} {b} p q e = and-of (lt-ltb a 32 p) (and-of (lt-ltb b 32 q) e)
+
+-- an h-word's region, two registers of four bits, and the rest
+pub h-word-all : (region a b : ℕ) (t : Bool) → hWord region a b t ≡ true
+    → (among region explicitRegions ≡ true) × (a < 16) × (b < 16) × (t ≡ true)
+h-word-all region a b t h =
+    let p = and-both (among region explicitRegions) _ h in
+    let q = and-both (ltb a 16) _ (p .1) in
+    let r = and-both (ltb b 16) t (q .1) in
+    (p .0, ltb-true a 16 (q .0), ltb-true b 16 (r .0), r .1)
+
+pub h-word-of : (region : ℕ) {a b : ℕ} {t : Bool} → among region explicitRegions ≡ true → a < 16 → b < 16 → t ≡ true → hWord region a b t ≡ true
+h-word-of region {a} {b} r p q e = and-of r (and-of (lt-ltb a 16 p) (and-of (lt-ltb b 16 q) e))
+
+-- .. whose registers are in the range of any word's
+pub h-word-two : (region a b : ℕ) (t : Bool) → hWord region a b t ≡ true → two a b t ≡ true
+h-word-two region a b t h = let p = h-word-all region a b t h in two-of {a = a} {b = b} (omega arith) (omega arith) (p .3)
+
+pub h-load-range : (k : LoadKind) (region rd rs1 imm : ℕ) → inRange (HLoad k region rd rs1 imm) ≡ true
+    → (among region explicitRegions ≡ true) × (rd < 16) × (rs1 < 16) × (fitsSigned 12 imm ≡ true)
+h-load-range k region rd rs1 imm h = h-word-all region rd rs1 (fitsSigned 12 imm) h
+
+pub h-store-range : (k : StoreKind) (region rs1 rs2 imm : ℕ) → inRange (HStore k region rs1 rs2 imm) ≡ true
+    → (among region explicitRegions ≡ true) × (rs1 < 16) × (rs2 < 16) × (fitsSigned 12 imm ≡ true)
+h-store-range k region rs1 rs2 imm h = h-word-all region rs1 rs2 (fitsSigned 12 imm) h
 
 -- the amount of a shift, and the three fields of FENCE
 pub amount-range : (k : ShiftKind) (rd rs1 amount : ℕ) → inRange (Shift k rd rs1 amount) ≡ true → amount < 64

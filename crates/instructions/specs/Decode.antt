@@ -12,6 +12,7 @@ use Rattle.instructions.specs.Table.{lookup, ofCode}
 use Rattle.instructions.specs.Opcodes.{LUI, AUIPC, JAL, JALR, BRANCH, LOAD, STORE, OP-IMM, OP-IMM-32, OP, OP-32, MISC-MEM, SYSTEM, H-LOAD, H-STORE, HFI}
 use Rattle.instructions.specs.Kinds.{functs, upperCode, upperKinds, branchCode, branchKinds, loadCode, loadKinds, storeCode, storeKinds, immediateCode, immediateKinds, shiftCode, shiftKinds, shiftWordCode, shiftWordKinds, registerCode, registerKinds, registerWordCode, registerWordKinds, systemCode, systemKinds, hfiRow, hfiCode, hfiKinds, named}
 use Rattle.instructions.specs.Immediates.{iBits, iImmediate, sImmediate, bImmediate, uImmediate, jImmediate}
+use Rattle.instructions.specs.HWords.{lowRegister, chosenRegion}
 use Rattle.instructions.specs.declared.fields.Fields.{Fields}
 use Rattle.instructions.specs.declared.kind.LoadKind.{LoadKind}
 use Rattle.instructions.specs.declared.kind.StoreKind.{StoreKind}
@@ -28,20 +29,22 @@ upperAt code rd imm = ofCode upperCode (λ k. Legal (Upper k rd imm)) Illegal up
 abbrev pub branchAt : ℕ → ℕ → ℕ → ℕ → Decoded
 branchAt code rs1 rs2 offset = ofCode branchCode (λ k. Legal (Branch k rs1 rs2 offset)) Illegal branchKinds code
 
--- "h-prefixed words .. have the field layout of ordinary loads and stores"
-abbrev pub loadOf : Bool → LoadKind → ℕ → ℕ → ℕ → Instruction
-loadOf false = Load
-loadOf true = HLoad
+-- "h-prefixed words .. have the field layout of ordinary loads and stores", which have no region
+abbrev pub loadOf : Bool → LoadKind → ℕ → ℕ → ℕ → ℕ → Instruction
+loadOf false k region = Load k
+loadOf true k region = HLoad k region
 
-abbrev pub loadAt : Bool → ℕ → ℕ → ℕ → ℕ → Decoded
-loadAt prefixed code rd rs1 imm = ofCode loadCode (λ k. Legal (loadOf prefixed k rd rs1 imm)) Illegal loadKinds code
+abbrev pub loadAt : Bool → ℕ → ℕ → ℕ → ℕ → ℕ → Decoded
+loadAt prefixed code region rd rs1 imm =
+    ofCode loadCode (λ k. Legal (loadOf prefixed k region rd rs1 imm)) Illegal loadKinds code
 
-abbrev pub storeOf : Bool → StoreKind → ℕ → ℕ → ℕ → Instruction
-storeOf false = Store
-storeOf true = HStore
+abbrev pub storeOf : Bool → StoreKind → ℕ → ℕ → ℕ → ℕ → Instruction
+storeOf false k region = Store k
+storeOf true k region = HStore k region
 
-abbrev pub storeAt : Bool → ℕ → ℕ → ℕ → ℕ → Decoded
-storeAt prefixed code rs1 rs2 imm = ofCode storeCode (λ k. Legal (storeOf prefixed k rs1 rs2 imm)) Illegal storeKinds code
+abbrev pub storeAt : Bool → ℕ → ℕ → ℕ → ℕ → ℕ → Decoded
+storeAt prefixed code region rs1 rs2 imm =
+    ofCode storeCode (λ k. Legal (storeOf prefixed k region rs1 rs2 imm)) Illegal storeKinds code
 
 abbrev pub immediateAt : ℕ → ℕ → ℕ → ℕ → Decoded
 immediateAt code rd rs1 imm = ofCode immediateCode (λ k. Legal (Immediate k rd rs1 imm)) Illegal immediateKinds code
@@ -106,6 +109,15 @@ decodeFence f =
 abbrev pub decodeSystem : Fields → Decoded
 decodeSystem f = provided (eqb (f .rd) 0 && (eqb (f .funct3) 0 && eqb (f .rs1) 0)) (systemAt (iBits f))
 
+-- the top bits of two register fields choose the region, and the rest name registers
+abbrev pub decodeHLoad : Fields → Decoded
+decodeHLoad f =
+    loadAt true (f .funct3) (chosenRegion (f .rs1) (f .rd)) (lowRegister (f .rd)) (lowRegister (f .rs1)) (iImmediate f)
+
+abbrev pub decodeHStore : Fields → Decoded
+decodeHStore f =
+    storeAt true (f .funct3) (chosenRegion (f .rs1) (f .rs2)) (lowRegister (f .rs1)) (lowRegister (f .rs2)) (sImmediate f)
+
 -- "R-type words, opcode 5b, funct3 0. Fields not named in a row are zero, else the word is illegal."
 abbrev pub decodeHfi : Fields → Decoded
 decodeHfi f =
@@ -120,16 +132,16 @@ groups f =
     ∷ (JAL, Legal (Jal (f .rd) (jImmediate f)))
     ∷ (JALR, decodeJalr f)
     ∷ (BRANCH, branchAt (f .funct3) (f .rs1) (f .rs2) (bImmediate f))
-    ∷ (LOAD, loadAt false (f .funct3) (f .rd) (f .rs1) (iImmediate f))
-    ∷ (STORE, storeAt false (f .funct3) (f .rs1) (f .rs2) (sImmediate f))
+    ∷ (LOAD, loadAt false (f .funct3) 0 (f .rd) (f .rs1) (iImmediate f))
+    ∷ (STORE, storeAt false (f .funct3) 0 (f .rs1) (f .rs2) (sImmediate f))
     ∷ (OP-IMM, decodeImmediate f)
     ∷ (OP-IMM-32, decodeImmediateWord f)
     ∷ (OP, registerAt (functs (f .funct7) (f .funct3)) (f .rd) (f .rs1) (f .rs2))
     ∷ (OP-32, registerWordAt (functs (f .funct7) (f .funct3)) (f .rd) (f .rs1) (f .rs2))
     ∷ (MISC-MEM, decodeFence f)
     ∷ (SYSTEM, decodeSystem f)
-    ∷ (H-LOAD, loadAt true (f .funct3) (f .rd) (f .rs1) (iImmediate f))
-    ∷ (H-STORE, storeAt true (f .funct3) (f .rs1) (f .rs2) (sImmediate f))
+    ∷ (H-LOAD, decodeHLoad f)
+    ∷ (H-STORE, decodeHStore f)
     ∷ (HFI, decodeHfi f)
     ∷ []
 

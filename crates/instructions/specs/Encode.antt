@@ -8,6 +8,7 @@ use Rattle.words.specs.Word.{field, fitsSigned}
 use Rattle.instructions.specs.Fields.{wordOf}
 use Rattle.instructions.specs.Opcodes.{JAL, JALR, BRANCH, LOAD, STORE, OP-IMM, OP-IMM-32, OP, OP-32, MISC-MEM, SYSTEM, H-LOAD, H-STORE, HFI}
 use Rattle.instructions.specs.Kinds.{functs, upperCode, branchCode, loadCode, storeCode, immediateCode, shiftCode, shiftWordCode, registerCode, registerWordCode, systemCode, hfiRow, hfiCode, named}
+use Rattle.instructions.specs.HWords.{explicitRegions, among, rs1Field, otherField}
 use Rattle.instructions.specs.declared.fields.Fields.{Fields}
 use Rattle.instructions.specs.declared.kind.ShiftKind.{ShiftKind}
 use Rattle.instructions.specs.declared.instruction.Instruction.{Instruction}
@@ -84,14 +85,18 @@ encodeFields (Register k rd rs1 rs2) = rFields OP (registerCode k) rd rs1 rs2
 encodeFields (RegisterWord k rd rs1 rs2) = rFields OP-32 (registerWordCode k) rd rs1 rs2
 encodeFields (Fence fm pred succ rs1 rd) = fenceFields fm pred succ rs1 rd
 encodeFields (System k) = iFields SYSTEM 0 0 0 (systemCode k)
-encodeFields (HLoad k rd rs1 imm) = iFields H-LOAD (loadCode k) rd rs1 imm
-encodeFields (HStore k rs1 rs2 imm) = sFields H-STORE (storeCode k) rs1 rs2 imm
+encodeFields (HLoad k region rd rs1 imm) = iFields H-LOAD (loadCode k) (otherField region rd) (rs1Field region rs1) imm
+encodeFields (HStore k region rs1 rs2 imm) = sFields H-STORE (storeCode k) (rs1Field region rs1) (otherField region rs2) imm
 encodeFields (Hfi k rd rs1 rs2) = rFields HFI (functs (hfiCode k) 0) rd rs1 rs2
 
 -- ---- the ranges
 
 abbrev pub two : ℕ → ℕ → Bool → Bool
 two a b rest = ltb a 32 && (ltb b 32 && rest)
+
+-- an h-word's region, two of its registers and the rest
+abbrev pub hWord : ℕ → ℕ → ℕ → Bool → Bool
+hWord region a b rest = among region explicitRegions && (ltb a 16 && (ltb b 16 && rest))
 
 -- an offset, or an upper immediate, whose `low` lowest bits are zero
 abbrev pub multiple : ℕ → ℕ → ℕ → Bool
@@ -112,8 +117,8 @@ inRange (Register k rd rs1 rs2) = two rd rs1 (ltb rs2 32)
 inRange (RegisterWord k rd rs1 rs2) = two rd rs1 (ltb rs2 32)
 inRange (Fence fm pred succ rs1 rd) = two rd rs1 (ltb fm 16 && (ltb pred 16 && ltb succ 16))
 inRange (System k) = true
-inRange (HLoad k rd rs1 imm) = two rd rs1 (fitsSigned 12 imm)
-inRange (HStore k rs1 rs2 imm) = two rs1 rs2 (fitsSigned 12 imm)
+inRange (HLoad k region rd rs1 imm) = hWord region rd rs1 (fitsSigned 12 imm)
+inRange (HStore k region rs1 rs2 imm) = hWord region rs1 rs2 (fitsSigned 12 imm)
 inRange (Hfi k rd rs1 rs2) = two rd rs1 (ltb rs2 32 && named (hfiRow k) rd rs1 rs2)
 
 unfoldable pub encodeWord : Instruction → Encoded

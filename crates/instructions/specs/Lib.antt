@@ -4,6 +4,7 @@ pub mod Table
 pub mod Opcodes
 pub mod Kinds
 pub mod Immediates
+pub mod HWords
 pub mod Decode
 pub mod Encode
 pub mod Answers

@@ -29,8 +29,8 @@ pub enum Instruction {
     RegisterWord(RegisterWordKind, u64, u64, u64), // rd, rs1, rs2
     Fence(u64, u64, u64, u64, u64), // fm, pred, succ, rs1, rd
     System(SystemKind),
-    HLoad(LoadKind, u64, u64, u64), // rd, rs1, immediate
-    HStore(StoreKind, u64, u64, u64), // rs1, rs2, immediate
+    HLoad(LoadKind, u64, u64, u64, u64), // region, rd, rs1, immediate
+    HStore(StoreKind, u64, u64, u64, u64), // region, rs1, rs2, immediate
     Hfi(HfiKind, u64, u64, u64), // rd, rs1, rs2; those that the row does not name are 0
 }
 

@@ -25,7 +25,8 @@ use Rattle.instructions.specs.declared.instruction.Instruction.the-variants.{Up
 use Rattle.instructions.proofs.RoundTrip.{decoded-range}
 use Rattle.instructions.proofs.Tests.{and-both}
 use Rattle.model.specs.Machine.{bit, sum, reg, fetchOp, largestOptions, inside, locked, entered, lastRegion}
-use Rattle.model.specs.Regions.{among, regionKind}
+use Rattle.instructions.specs.HWords.{among}
+use Rattle.model.specs.Regions.{regionKind}
 use Rattle.model.specs.WellFormed.{wellFormed}
 use Rattle.model.specs.WritableCode.{WritableCode, writableCode, exposesCode}
 use Rattle.model.specs.Bytes.{value}
@@ -72,8 +73,8 @@ pub data Breaks (m : Machine) : Instruction → ℕ → Type 0 where
   -- and "set handler in HFI mode, locked or unlocked"
   sets-handler : {rd rs1 rs2 : ℕ} → m .hfi .mode ≡ 1 → Breaks m (Hfi SetHandler rd rs1 rs2) 25
   -- "an h-word outside HFI mode"
-  h-load-outside : {k : LoadKind} {rd rs1 imm : ℕ} → (m .hfi .mode ≡ 1 → ⊥) → Breaks m (HLoad k rd rs1 imm) 14
-  h-store-outside : {k : StoreKind} {rs1 rs2 imm : ℕ} → (m .hfi .mode ≡ 1 → ⊥) → Breaks m (HStore k rs1 rs2 imm) 14
+  h-load-outside : {k : LoadKind} {chosen rd rs1 imm : ℕ} → (m .hfi .mode ≡ 1 → ⊥) → Breaks m (HLoad k chosen rd rs1 imm) 14
+  h-store-outside : {k : StoreKind} {chosen rs1 rs2 imm : ℕ} → (m .hfi .mode ≡ 1 → ⊥) → Breaks m (HStore k chosen rs1 rs2 imm) 14
   -- "Faults in an operand": "an options operand above 15"
   bad-options : {k : HfiKind} {rd rs1 rs2 : ℕ} → Enters k → (m .hfi .mode ≡ 1 → ⊥) → largestOptions < reg (m .x) rs1
       → Breaks m (Hfi k rd rs1 rs2) 14
@@ -262,8 +263,8 @@ instruction-first m (Register k rd rs1 rs2) = tt
 instruction-first m (RegisterWord k rd rs1 rs2) = tt
 instruction-first m (Fence fm pred succ rs1 rd) = tt
 instruction-first m (System k) = tt
-instruction-first m (HLoad k rd rs1 imm) = (λ o. Breaks.h-load-outside (eqb-false _ _ (not-true _ o)), λ o. tt)
-instruction-first m (HStore k rs1 rs2 imm) = (λ o. Breaks.h-store-outside (eqb-false _ _ (not-true _ o)), λ o. tt)
+instruction-first m (HLoad k chosen rd rs1 imm) = (λ o. Breaks.h-load-outside (eqb-false _ _ (not-true _ o)), λ o. tt)
+instruction-first m (HStore k chosen rs1 rs2 imm) = (λ o. Breaks.h-store-outside (eqb-false _ _ (not-true _ o)), λ o. tt)
 instruction-first m (Hfi k rd rs1 rs2) = word-first m rd rs1 rs2 k
 
 pub number-rule : (m : Machine) (i : Instruction) → (hfiStop m i ≡ 0 → ⊥) → Breaks m i (hfiStop m i)

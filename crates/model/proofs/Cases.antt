@@ -49,7 +49,7 @@ rows =
     -- A
     (decoding 0x00500513, decoded (Legal (Immediate Addi 10 0 5)))
     -- B
-    ∷ (decoding 0x00a001ab, decoded (Legal (HStore Sb 0 10 3)))
+    ∷ (decoding 0x00a001ab, decoded (Legal (HStore Sb 1 0 10 3)))
     -- C
     ∷ (decoding 0x0400005b, decoded (Legal (Hfi Exit 0 0 0)))
     ∷ (decoding 0x0400015b, decoded Illegal)

@@ -234,9 +234,10 @@ locking =
     ∷ forbidden 25 (inside 1 ++ operands 3 0) setHandler
     ∷ forbidden 25 (inside 1) getHandler
     ∷ forbidden 25 (inside 1) reset
-    -- "a selected number not 1 to 3": the whole register
+    -- "a selected number not 1 to 3", and since Job 7 "up to 10": the whole register
+    ∷ goes (outside 0 ++ operands 10 0) select ((selector, 10) ∷ [])
     ∷ forbidden 14 (outside 0 ++ operands 0 0) select
-    ∷ forbidden 14 (outside 0 ++ operands 4 0) select
+    ∷ forbidden 14 (outside 0 ++ operands 11 0) select
     ∷ forbidden 14 (outside 0 ++ operands (2 ^ 32 + 1) 0) select
     -- "funct7 4 to 9 with selector 0"
     ∷ forbidden 14 (outside 0 ++ ((selector, 0) ∷ [])) setBase
@@ -276,7 +277,7 @@ numbering =
     ∷ forbidden 14 (outside 0xf) hsb
     -- "25, a region or handler instruction that HFI mode forbids": a number that is none, a bit that the region lacks, nothing selected
     ∷ forbidden 25 (inside 1 ++ operands 0 0) select
-    ∷ forbidden 25 (inside 1 ++ operands 4 0) select
+    ∷ forbidden 25 (inside 1 ++ operands 11 0) select
     ∷ forbidden 25 (inside 1 ++ operands 8 0) setPermission
     ∷ forbidden 25 (inside 1 ++ ((selector, 0) ∷ [])) setBase
     ∷ forbidden 25 (inside 1 ++ ((selector, 0) ∷ [])) getBase
@@ -292,7 +293,7 @@ numbering =
     ∷ goes (outside 1 ++ ((selector, 0) ∷ [])) getHandler ((x 6, 0x40) ∷ [])
     -- unlocked, in HFI mode as outside it, operand and selection are asked alone
     ∷ forbidden 14 (inside 0xe ++ operands 0 0) select
-    ∷ forbidden 14 (inside 0 ++ operands 4 0) select
+    ∷ forbidden 14 (inside 0 ++ operands 11 0) select
     ∷ forbidden 14 (inside 0 ++ operands 8 0) setPermission
     ∷ forbidden 14 (inside 0 ++ ((selector, 0) ∷ [])) setBase
     ∷ forbidden 14 (inside 0xe ++ ((selector, 0) ∷ [])) getBase
@@ -419,7 +420,7 @@ operating =
 
 -- an h-word of x6 at -5(x21), locked: region 1 has the nine bytes from 3 on, and the offset is 1; the code stands at 10
 abbrev reaching : List (ℕ × ℕ)
-reaching = inside 1 ++ ((base 1, 3) ∷ (bound 1, 9) ∷ (base 3, 0x10) ∷ (pc, 0x10) ∷ (x 6, 0x0102030405060708) ∷ (x 21, 6) ∷ [])
+reaching = inside 1 ++ ((base 1, 3) ∷ (bound 1, 9) ∷ (base 3, 0x10) ∷ (pc, 0x10) ∷ (x 6, 0x0102030405060708) ∷ (x 11, 6) ∷ [])
 
 abbrev around : ℕ → List ℕ
 around w = bytes (0 ∷ 0xf3e2d1c0 ∷ 0x8796a5b4 ∷ 0 ∷ w ∷ [])
@@ -439,17 +440,17 @@ offsets =
     ∷ goes (inside 0 ++ ((base 1, 0) ∷ (x 5, 0x800) ∷ [])) 0x8002830b ((x 6, 0xb) ∷ [])
     ∷ writes (inside 0 ++ ((base 1, 0) ∷ operands 7 0xa5)) (bytes (hsb5 ∷ 0 ∷ [])) ((pc, 4) ∷ []) ((7, 0xa5) ∷ [])
     -- so of every kind: hlb, hlh, hlw, hld, hlbu, hlhu, hlwu; hsb, hsh, hsw, hsd
-    ∷ loads 0xffba830b 0xffffffffffffffc0
-    ∷ loads 0xffba930b 0xffffffffffffd1c0
-    ∷ loads 0xffbaa30b 0xfffffffff3e2d1c0
-    ∷ loads 0xffbab30b 0x8796a5b4f3e2d1c0
-    ∷ loads 0xffbac30b 0xc0
-    ∷ loads 0xffbad30b 0xd1c0
-    ∷ loads 0xffbae30b 0xf3e2d1c0
-    ∷ stores 0xfe6a8dab ((4, 8) ∷ [])
-    ∷ stores 0xfe6a9dab ((4, 8) ∷ (5, 7) ∷ [])
-    ∷ stores 0xfe6aadab ((4, 8) ∷ (5, 7) ∷ (6, 6) ∷ (7, 5) ∷ [])
-    ∷ stores 0xfe6abdab ((4, 8) ∷ (5, 7) ∷ (6, 6) ∷ (7, 5) ∷ (8, 4) ∷ (9, 3) ∷ (10, 2) ∷ (11, 1) ∷ [])
+    ∷ loads 0xffb5830b 0xffffffffffffffc0
+    ∷ loads 0xffb5930b 0xffffffffffffd1c0
+    ∷ loads 0xffb5a30b 0xfffffffff3e2d1c0
+    ∷ loads 0xffb5b30b 0x8796a5b4f3e2d1c0
+    ∷ loads 0xffb5c30b 0xc0
+    ∷ loads 0xffb5d30b 0xd1c0
+    ∷ loads 0xffb5e30b 0xf3e2d1c0
+    ∷ stores 0xfe658dab ((4, 8) ∷ [])
+    ∷ stores 0xfe659dab ((4, 8) ∷ (5, 7) ∷ [])
+    ∷ stores 0xfe65adab ((4, 8) ∷ (5, 7) ∷ (6, 6) ∷ (7, 5) ∷ [])
+    ∷ stores 0xfe65bdab ((4, 8) ∷ (5, 7) ∷ (6, 6) ∷ (7, 5) ∷ (8, 4) ∷ (9, 3) ∷ (10, 2) ∷ (11, 1) ∷ [])
     -- rs1 is read before rd is written, and may be rs2: hlb x5, 0(x5) and hsb x5, 0(x5)
     ∷ goes (inside 0 ++ ((base 1, 0) ∷ (x 5, 1) ∷ [])) 0x0002828b ((x 5, 0xffffffffffffff82) ∷ [])
     ∷ writes (inside 0 ++ ((base 1, 0) ∷ (x 5, 6) ∷ [])) (bytes (0x0052802b ∷ 0 ∷ [])) ((pc, 4) ∷ []) ((6, 6) ∷ [])
@@ -534,10 +535,10 @@ forming =
     ∷ misjudged handler 2
     ∷ misjudged handler (2 ^ 62)
     ∷ misjudged handler (2 ^ 63)
-    -- "selector 0 to 3, 0 for none"
+    -- "selector 0 to 3, 0 for none", and since Job 7 up to 10
     ∷ judged selector 0
-    ∷ judged selector 3
-    ∷ misjudged selector 4
+    ∷ judged selector 10
+    ∷ misjudged selector 11
     -- "only the permission bits listed"
     ∷ judged (permission 1) 0xb
     ∷ judged (permission 1) 8
@@ -552,10 +553,10 @@ forming =
     ∷ misjudged (permission 3) 2
     ∷ misjudged (permission 3) 8
     ∷ misjudged (permission 3) 16
-    -- "occurred at most 1, fault region and op at most 3"
+    -- "occurred at most 1, fault region and op at most 3", and since Job 7 the fault region at most 10
     ∷ misjudged occurred 2
-    ∷ judged faultRegion 3
-    ∷ misjudged faultRegion 4
+    ∷ judged faultRegion 10
+    ∷ misjudged faultRegion 11
     ∷ judged op 3
     ∷ misjudged op 4
     -- nothing is asked of the others

@@ -12,7 +12,7 @@ use Rattle.instructions.specs.declared.kind.HfiKind.the-variants.{Enter, EnterJ
 use Rattle.instructions.specs.declared.instruction.Instruction.{Instruction}
 use Rattle.instructions.specs.declared.instruction.Instruction.the-variants.{Upper, Jal, Jalr, Branch, Load, Store, Immediate, Shift, Addiw, ShiftWord, Register, RegisterWord, Fence, System, HLoad, HStore, Hfi}
 use Rattle.instructions.proofs.Tests.{and-both}
-use Rattle.model.specs.Regions.{among}
+use Rattle.instructions.specs.HWords.{among}
 use Rattle.model.specs.Hfi.{firstBroken, wordRules, rules, hfiStop}
 use Rattle.model.specs.declared.HfiState.{HfiState}
 use Rattle.model.specs.declared.Machine.{Machine}
@@ -77,8 +77,8 @@ all-listed m (Register k rd rs1 rs2) = refl
 all-listed m (RegisterWord k rd rs1 rs2) = refl
 all-listed m (Fence fm pred succ rs1 rd) = refl
 all-listed m (System k) = refl
-all-listed m (HLoad k rd rs1 imm) = refl
-all-listed m (HStore k rs1 rs2 imm) = refl
+all-listed m (HLoad k chosen rd rs1 imm) = refl
+all-listed m (HStore k chosen rs1 rs2 imm) = refl
 all-listed m (Hfi k rd rs1 rs2) = word-listed (m .hfi) k _
 
 -- so that 0 says that no rule is broken

@@ -10,7 +10,7 @@ use Prim.Native.Nat.{ℕ, _%_, _≤_}
 use native.Mathlib.Omega.{arith}
 use lib.Dec.{eqb, leb, ltb}
 use lib.ListN.{length}
-use borrow.Author.Tests.{not-true, not-false}
+use borrow.Author.Tests.{not-true, not-false, le-leb}
 use Rattle.instructions.specs.Kinds.{hfiCode}
 use Rattle.instructions.specs.Decode.{decodeWord}
 use Rattle.instructions.specs.Encode.{inRange}
@@ -26,7 +26,10 @@ use Rattle.instructions.specs.declared.instruction.Decoded.the-variants.{Legal,
 use Rattle.instructions.proofs.RoundTrip.{decoded-range}
 use Rattle.instructions.proofs.Tests.{and-both}
 use Rattle.model.specs.Machine.{reg, setReg, loadOp, storeOp, fetchOp, largestOptions, inside, locked, redirectsCalls, region, zeroRegions, entered, exited, machine, lastRegion}
-use Rattle.model.specs.Regions.{among, dataRegions, codeRegions, permissionFits, matches, firstMatch}
+use Rattle.instructions.specs.HWords.{explicitRegions, among}
+use Rattle.instructions.proofs.HWords.{explicit-bounds}
+use Rattle.instructions.proofs.Tests.{h-load-range, h-store-range}
+use Rattle.model.specs.Regions.{dataRegions, codeRegions, permissionFits, matches, firstMatch}
 use Rattle.model.specs.WellFormed.{wellFormed}
 use Rattle.model.specs.WritableCode.{exposesCode}
 use Rattle.model.specs.Bytes.{value, written}
@@ -110,8 +113,8 @@ laterStops (RegisterWord k rd rs1 rs2) = []
 laterStops (Fence fm pred succ rs1 rd) = []
 laterStops (System Ecall) = 18 ∷ []
 laterStops (System Ebreak) = 19 ∷ []
-laterStops (HLoad k rd rs1 imm) = 16 ∷ 17 ∷ []
-laterStops (HStore k rs1 rs2 imm) = 16 ∷ 17 ∷ []
+laterStops (HLoad k chosen rd rs1 imm) = 16 ∷ 17 ∷ []
+laterStops (HStore k chosen rs1 rs2 imm) = 16 ∷ 17 ∷ []
 -- of the words of opcode 5b the enter with jump alone
 laterStops (Hfi k rd rs1 rs2) = cond (eqb (hfiCode k) 1) (15 ∷ []) []
 
@@ -187,6 +190,10 @@ match-numbered rs (n ∷ ns) a h =
     go : (b : Bool) → leb n lastRegion ≡ true → leb (firstMatch rs ns a) lastRegion ≡ true → leb (cond b n (firstMatch rs ns a)) lastRegion ≡ true
     go true p q = p
     go false p q = q
+
+-- that of an h-word is the region chosen
+explicit-numbered : (n : ℕ) → among n explicitRegions ≡ true → leb n lastRegion ≡ true
+explicit-numbered n h = le-leb n lastRegion (omega (arith, explicit-bounds n h .1))
 
 module _ (m : Machine) where
   -- registers and pc alone may change
@@ -369,12 +376,20 @@ module _ (m : Machine) where
   perform-moves next (System Ecall) h e =
       by-test m (redirectsCalls (m .hfi)) (λ t. leaving _ 2 (calls-inside (m .hfi) t) refl) (λ t. stop m 18 refl)
   perform-moves next (System Ebreak) h e = stop m 19 refl
-  perform-moves next (HLoad k rd rs1 imm) h e =
-      loading next (hloadAccess (m .hfi .regions) (m .x) k rs1 imm) k rd
-      (record { few = load-width k; reach = λ b p. Readable.byHLoad _ (m .x) k rd rs1 imm (encodes _ h) p; numbered = λ i. refl })
-  perform-moves next (HStore k rs1 rs2 imm) h e =
-      storing next (hstoreAccess (m .hfi .regions) (m .x) k rs1 imm) _
-      (record { few = store-width k; reach = λ b p. Writable.byHStore _ (m .x) k rs1 rs2 imm (encodes _ h) p; numbered = λ i. refl })
+  perform-moves next (HLoad k chosen rd rs1 imm) h e =
+      loading next (hloadAccess (m .hfi .regions) (m .x) k chosen rs1 imm) k rd
+      (record {
+        few = load-width k;
+        reach = λ b p. Readable.byHLoad _ (m .x) k chosen rd rs1 imm (encodes _ h) p;
+        numbered = λ i. explicit-numbered chosen (h-load-range k chosen rd rs1 imm h .0);
+      })
+  perform-moves next (HStore k chosen rs1 rs2 imm) h e =
+      storing next (hstoreAccess (m .hfi .regions) (m .x) k chosen rs1 imm) _
+      (record {
+        few = store-width k;
+        reach = λ b p. Writable.byHStore _ (m .x) k chosen rs1 rs2 imm (encodes _ h) p;
+        numbered = λ i. explicit-numbered chosen (h-store-range k chosen rs1 rs2 imm h .0);
+      })
   perform-moves next (Hfi k rd rs1 rs2) h e = hfi-moves next k rd rs1 rs2 (allowed-breaks-none m (Hfi k rd rs1 rs2) e)
 
 -- what an instruction comes to, whatever memory it is done over: any stop of question 8, which leaves all as it was, or a move
@@ -398,8 +413,8 @@ later-other (RegisterWord k rd rs1 rs2) = refl
 later-other (Fence fm pred succ rs1 rd) = refl
 later-other (System Ecall) = refl
 later-other (System Ebreak) = refl
-later-other (HLoad k rd rs1 imm) = refl
-later-other (HStore k rs1 rs2 imm) = refl
+later-other (HLoad k chosen rd rs1 imm) = refl
+later-other (HStore k chosen rs1 rs2 imm) = refl
 later-other (Hfi k rd rs1 rs2) = go (eqb (hfiCode k) 1)
   where
     go : (b : Bool) → every isOther (cond b (15 ∷ []) []) ≡ true

@@ -9,7 +9,8 @@ use lib.Dec.{eqb, leb, lit≤}
 use lib.Bits.{bitAnd, and-le-r}
 use borrow.Author.Tests.{eqb-true, eqb-false, ne-eqb, leb-true, leb-false, not-true}
 use Rattle.instructions.proofs.Tests.{and-both}
-use Rattle.model.specs.Regions.{RegionKind, explicit, implicitData, implicitCode, among, regionKind, permissionBits, permissionFits}
+use Rattle.instructions.specs.HWords.{among}
+use Rattle.model.specs.Regions.{RegionKind, explicit, implicitData, implicitCode, regionKind, permissionBits, permissionFits}
 use Rattle.model.proofs.Forbidden.{every, of-each}
 
 -- by the bits read 1, write 2, execute 4 and large 8

@@ -21,8 +21,10 @@ use Rattle.instructions.specs.declared.kind.StoreKind.the-variants.{Sb, Sh, Sw,
 use Rattle.instructions.specs.declared.instruction.Instruction.{Instruction}
 use Rattle.instructions.specs.declared.instruction.Instruction.the-variants.{Load, Store, HLoad, HStore}
 use Rattle.instructions.specs.declared.instruction.Decoded.the-variants.{Legal}
-use Rattle.instructions.proofs.RoundTrip.{decode-of-encode}
-use Rattle.instructions.proofs.Tests.{and-both}
+use Rattle.instructions.specs.HWords.{explicitRegions, among}
+use Rattle.instructions.proofs.RoundTrip.{decode-of-encode, decoded-range}
+use Rattle.instructions.proofs.Tests.{and-both, h-word-of, h-load-range, h-store-range}
+use Rattle.instructions.proofs.HWords.{Each}
 use Rattle.model.specs.Machine.{reg, region}
 use Rattle.model.specs.Regions.{read, write, execute, permits, below, dataRegions, codeRegions, matches, firstMatch, granting, implicitGrants, explicitRule, explicitGrants}
 use Rattle.model.specs.Bytes.{byteOf}
@@ -45,8 +47,14 @@ pub record InImplicit (rs : List Region) (ns : List ℕ) (p b : ℕ) : Type 0 wh
   pub granted : implicitGrants rs ns p b ≡ true
   pub address : b < 2 ^ 64
 
+-- those of the explicit regions numbered ns, any of which an h-word may choose
+pub record InChosen (rs : List Region) (ns : List ℕ) (p b : ℕ) : Type 0 where
+  pub chosen : ℕ
+  pub listed : among chosen ns ≡ true
+  pub inside : InExplicit (region rs chosen) p b
+
 abbrev pub InData : List Region → ℕ → ℕ → Type 0
-InData rs p b = InImplicit rs dataRegions p b ⊎ InExplicit (region rs 1) p b
+InData rs p b = InImplicit rs dataRegions p b ⊎ InChosen rs explicitRegions p b
 
 -- ---- registers by which an access reaches any byte
 
@@ -127,25 +135,41 @@ encodes i h = decode-of-encode i (wordOf (encodeFields i)) (rw h refl)
 
 pub readable-form : (rs : List Region) (b : ℕ) → Readable rs b → InData rs read b
 readable-form rs b (Readable.byLoad w x k rd rs1 imm e h) = inl (granted-there rs dataRegions read _ _ b h)
-readable-form rs b (Readable.byHLoad w x k rd rs1 imm e h) = inr (explicit-there rs 1 read (offset (reg x rs1) imm) (loadWidth k) b h)
+readable-form rs b (Readable.byHLoad w x k chosen rd rs1 imm e h) =
+    inr (record {
+      chosen = chosen;
+      listed = h-load-range k chosen rd rs1 imm (decoded-range w _ e) .0;
+      inside = explicit-there rs chosen read (offset (reg x rs1) imm) (loadWidth k) b h;
+    })
 
 pub form-readable : (rs : List Region) (b : ℕ) → InData rs read b → Readable rs b
 unfolding sext
 form-readable rs b (inl h) =
     Readable.byLoad _ (through b) Lb 0 1 0 (encodes (Load Lb 0 1 0) refl)
     (passes-there rs dataRegions read _ 1 0 b (lit< tt) (through-there b (h .address)) h)
-form-readable rs b (inr h) = Readable.byHLoad _ (through (b - region rs 1 .base)) Lb 0 1 0 (encodes (HLoad Lb 0 1 0) refl) (passes-explicit rs 1 read b h)
+form-readable rs b (inr h) =
+    let n = h .chosen in
+    Readable.byHLoad _ (through (b - region rs n .base)) Lb n 0 1 0
+    (encodes (HLoad Lb n 0 1 0) (h-word-of n {a = 0} {b = 1} (h .listed) (lit< tt) (lit< tt) refl)) (passes-explicit rs n read b (h .inside))
 
 pub writable-form : (rs : List Region) (b : ℕ) → Writable rs b → InData rs write b
 writable-form rs b (Writable.byStore w x k rs1 rs2 imm e h) = inl (granted-there rs dataRegions write _ _ b h)
-writable-form rs b (Writable.byHStore w x k rs1 rs2 imm e h) = inr (explicit-there rs 1 write (offset (reg x rs1) imm) (storeWidth k) b h)
+writable-form rs b (Writable.byHStore w x k chosen rs1 rs2 imm e h) =
+    inr (record {
+      chosen = chosen;
+      listed = h-store-range k chosen rs1 rs2 imm (decoded-range w _ e) .0;
+      inside = explicit-there rs chosen write (offset (reg x rs1) imm) (storeWidth k) b h;
+    })
 
 pub form-writable : (rs : List Region) (b : ℕ) → InData rs write b → Writable rs b
 unfolding sext
 form-writable rs b (inl h) =
     Writable.byStore _ (through b) Sb 1 0 0 (encodes (Store Sb 1 0 0) refl)
     (passes-there rs dataRegions write _ 1 0 b (lit< tt) (through-there b (h .address)) h)
-form-writable rs b (inr h) = Writable.byHStore _ (through (b - region rs 1 .base)) Sb 1 0 0 (encodes (HStore Sb 1 0 0) refl) (passes-explicit rs 1 write b h)
+form-writable rs b (inr h) =
+    let n = h .chosen in
+    Writable.byHStore _ (through (b - region rs n .base)) Sb n 1 0 0
+    (encodes (HStore Sb n 1 0 0) (h-word-of n {a = 1} {b = 0} (h .listed) (lit< tt) (lit< tt) refl)) (passes-explicit rs n write b (h .inside))
 
 pub executable-form : (rs : List Region) (b : ℕ) → Executable rs b → InImplicit rs codeRegions execute b
 executable-form rs b (Executable.byFetch pc q h) = granted-there rs codeRegions execute pc 4 b h
@@ -155,10 +179,6 @@ form-executable rs b h =
     Executable.byFetch (b / 4 * 4) (omega arith) (passes-there rs codeRegions execute (b / 4 * 4) 4 (b % 4) b (omega arith) (omega (arith, h .address)) h)
 
 -- ---- what implicit regions grant, one of them grants
-
-abbrev pub Each : (ℕ → Type 0) → List ℕ → Type 0
-Each P [] = Unit {0}
-Each P (n ∷ ns) = P n × Each P ns
 
 -- what follows of each region that matches and permits follows of the grant
 pub granted-by : (rs : List Region) (ns : List ℕ) (p b : ℕ) (X : Type 0)

@@ -2,11 +2,11 @@
 -- Assumes nothing.
 use mathlib.Core.Bool.{Bool}
 use mathlib.Core.List.{List, [], _∷_}
-use Prim.Native.Nat.{ℕ, zero, suc, _+_, _*_, _/_, _%_}
+use Prim.Native.Nat.{ℕ, _+_, _*_, _/_, _%_}
 use lib.ListN.{getD, set, take, replicate}
 use Rattle.instructions.specs.Decode.{decodeWord}
 use Rattle.instructions.specs.declared.instruction.Decoded.{Decoded}
-use Rattle.model.specs.Machine.{lastRegion, machine}
+use Rattle.model.specs.Machine.{lastRegion, regionsFrom, machine}
 use Rattle.model.specs.Regions.{matches, explicitRule}
 use Rattle.model.specs.WellFormed.{wellFormed}
 use Rattle.model.specs.WritableCode.{writableCode}
@@ -72,11 +72,6 @@ puts ns (p ∷ ps) = puts (set ns (p .0) (p .1)) ps
 abbrev pub regionOf : ℕ → ℕ → ℕ → Region
 regionOf b n p = record { base = b; bound = n; permission = p }
 
--- k regions from region n on
-abbrev regionsIn : List ℕ → ℕ → ℕ → List Region
-regionsIn ns n zero = []
-regionsIn ns n (suc k) = regionOf (getD ns (base n) 0) (getD ns (bound n) 0) (getD ns (permission n) 0) ∷ regionsIn ns (suc n) k
-
 abbrev machineIn : List ℕ → Machine
 machineIn ns =
     machine (take 32 ns) (getD ns pc 0)
@@ -87,7 +82,7 @@ machineIn ns =
       options = getD ns options 0;
       handler = getD ns handler 0;
       selector = getD ns selector 0;
-      regions = regionsIn ns 1 lastRegion;
+      regions = regionsFrom ns (base 1) lastRegion;
       fault = record { occurred = getD ns occurred 0; region = getD ns faultRegion 0; op = getD ns op 0; address = getD ns faulting 0 };
     })
 

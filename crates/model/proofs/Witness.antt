@@ -11,12 +11,14 @@ use lib.Count.{trailingZeros}
 use lib.ListN.{getD, List·getD-append}
 use Rattle.words.specs.Word.{sext}
 use Rattle.instructions.specs.Decode.{decodeWord}
-use Rattle.model.specs.Machine.{bit, region}
+use Rattle.instructions.specs.HWords.{explicitRegions}
+use Rattle.instructions.proofs.HWords.{among-ind}
+use Rattle.model.specs.Machine.{bit, noRegion, region, setRegion, zeroRegions}
 use Rattle.model.specs.Bytes.{value, written}
 use Rattle.model.specs.Outcome.{allowed, settle}
 use Rattle.model.specs.WellFormed.{stateFits, wellFormed}
 use Rattle.model.specs.Hfi.{hfiStop, hfiPerform}
-use Rattle.model.specs.Regions.{read, execute, dataRegions, codeRegions, explicitRule, matches, firstMatch, implicitGrants, explicitGrants}
+use Rattle.model.specs.Regions.{read, execute, permits, dataRegions, codeRegions, explicitRule, matches, firstMatch, implicitGrants, explicitGrants}
 use Rattle.model.specs.WritableCode.{explicitCovers, writableCode, exposesCode}
 use Rattle.model.specs.Access.{scan, firstRefused, firstAbsent, verdict}
 use Rattle.model.specs.Step.{load, store, perform, executeInstruction, executeWord, step}
@@ -26,7 +28,7 @@ use Rattle.model.specs.Isolation.{Locked, Agree}
 use Rattle.model.specs.declared.Region.{Region}
 use Rattle.model.specs.declared.Machine.{Machine}
 use Rattle.model.proofs.Intervals.{zero-matches-none, matches-inside}
-use Rattle.model.proofs.Reach.{InData, InImplicit, readable-form, form-readable, writable-form, form-writable, executable-form, granted-by}
+use Rattle.model.proofs.Reach.{InData, InExplicit, InImplicit, readable-form, form-readable, writable-form, form-writable, executable-form, granted-by}
 use Rattle.model.proofs.Rows.{Row, Answer, found, stated, x, pc, mode, reason, epc, options, base, bound, permission, puts, regionOf, with, bytes}
 use Rattle.model.proofs.Rows.Question.{running}
 use Rattle.model.proofs.Rows.Answer.{gave}
@@ -65,19 +67,27 @@ different e =
 common-same : (a : ℕ) → a < 20 → getD one a 0 ≡ getD two a 0
 common-same a h = List·getD-append common (9 ∷ 9 ∷ 9 ∷ 9 ∷ []) 0 a h ∙ sym (List·getD-append common (8 ∷ 8 ∷ 8 ∷ 8 ∷ []) 0 a h)
 
--- region 2 is zero, and matches nothing
-unmatched : (b : ℕ) → matches (region (guest .hfi .regions) 2) b ≡ true → ⊥
-unmatched b e = false≢true (sym (zero-matches-none (region (guest .hfi .regions) 2) b refl) ∙ e)
+-- a region that is zero matches nothing, and no h-word reaches a byte in it
+unmatched : (b : ℕ) {X : Type 0} → matches noRegion b ≡ true → X
+unmatched b e = absurd (false≢true (sym (zero-matches-none noRegion b refl) ∙ e))
+
+unreached : (wanted b : ℕ) {X : Type 0} → InExplicit noRegion wanted b → X
+unfolding explicitRule
+unreached wanted b i = absurd (false≢true (i .rule))
 
 agree-read : (b : ℕ) → InData (guest .hfi .regions) read b → getD one b 0 ≡ getD two b 0
-agree-read b (inl i) = granted-by (guest .hfi .regions) dataRegions read b _ ((λ t p. absurd (unmatched b t)), tt) (i .granted)
-agree-read b (inr i) = common-same b (i .end)
+agree-read b (inl i) =
+    let none : (n : ℕ) → matches noRegion b ≡ true → permits read noRegion ≡ true → getD one b 0 ≡ getD two b 0 = λ n t p. unmatched b t in
+    granted-by (guest .hfi .regions) dataRegions read b _ (none 2, (none 7, (none 8, (none 9, tt)))) (i .granted)
+agree-read b (inr i) =
+    among-ind (λ (n : ℕ). InExplicit (region (guest .hfi .regions) n) read b → getD one b 0 ≡ getD two b 0) explicitRegions (i .chosen)
+    ((λ j. common-same b (j .end)), (unreached read b, (unreached read b, (unreached read b, tt)))) (i .listed) (i .inside)
 
 agree-execute : (b : ℕ) → InImplicit (guest .hfi .regions) codeRegions execute b → getD one b 0 ≡ getD two b 0
 unfolding trailingZeros
 agree-execute b i =
     granted-by (guest .hfi .regions) codeRegions execute b _
-    ((λ t p. let h : b < 16 = matches-inside (region (guest .hfi .regions) 3) b (i .address) t .1 in common-same b (omega arith)), tt)
+    ((λ t p. let h : b < 16 = matches-inside (region (guest .hfi .regions) 3) b (i .address) t .1 in common-same b (omega arith)), ((λ t p. unmatched b t), tt))
     (i .granted)
 
 pub agree : Agree guest one two
@@ -104,15 +114,18 @@ runs-done = refl
 -- ---- what h-words reach, of a region of 2^24 bytes from 10000 on and no other: with the permission all of it, and nothing else
 
 abbrev alone : ℕ → List Region
-alone p = regionOf 0x10000 0x1000000 p ∷ regionOf 0 0 0 ∷ regionOf 0 0 0 ∷ []
+alone p = setRegion zeroRegions 1 (regionOf 0x10000 0x1000000 p)
 
 abbrev Reached : ℕ → ℕ → ℕ → Type 0
 Reached wanted p b = (bit wanted p ≡ true) × (0x10000 ≤ b) × (b < 0x1010000)
 
 only-explicit : (wanted p b : ℕ) → InData (alone p) wanted b → Reached wanted p b
 only-explicit wanted p b (inl i) =
-    granted-by (alone p) dataRegions wanted b _ ((λ t e. absurd (false≢true (sym (zero-matches-none (regionOf 0 0 0) b refl) ∙ t))), tt) (i .granted)
-only-explicit wanted p b (inr i) = (i .permitted, i .start, i .end)
+    let none : (n : ℕ) → matches noRegion b ≡ true → permits wanted noRegion ≡ true → Reached wanted p b = λ n t e. unmatched b t in
+    granted-by (alone p) dataRegions wanted b _ (none 2, (none 7, (none 8, (none 9, tt)))) (i .granted)
+only-explicit wanted p b (inr i) =
+    among-ind (λ (n : ℕ). InExplicit (region (alone p) n) wanted b → Reached wanted p b) explicitRegions (i .chosen)
+    ((λ j. (j .permitted, j .start, j .end)), (unreached wanted b, (unreached wanted b, (unreached wanted b, tt)))) (i .listed) (i .inside)
 
 pub alone-read : (p b : ℕ) → Readable (alone p) b → Reached 0 p b
 alone-read p b h = only-explicit 0 p b (readable-form (alone p) b h)
@@ -122,8 +135,8 @@ alone-written p b h = only-explicit 1 p b (writable-form (alone p) b h)
 
 pub read-alone : (b : ℕ) → 0x10000 ≤ b → b < 0x1010000 → Readable (alone 1) b
 unfolding explicitRule
-read-alone b l u = form-readable (alone 1) b (inr (record { rule = refl; permitted = refl; start = l; end = u }))
+read-alone b l u = form-readable (alone 1) b (inr (record { chosen = 1; listed = refl; inside = record { rule = refl; permitted = refl; start = l; end = u } }))
 
 pub written-alone : (b : ℕ) → 0x10000 ≤ b → b < 0x1010000 → Writable (alone 2) b
 unfolding explicitRule
-written-alone b l u = form-writable (alone 2) b (inr (record { rule = refl; permitted = refl; start = l; end = u }))
+written-alone b l u = form-writable (alone 2) b (inr (record { chosen = 1; listed = refl; inside = record { rule = refl; permitted = refl; start = l; end = u } }))

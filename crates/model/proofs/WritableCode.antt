@@ -11,15 +11,17 @@ use native.Mathlib.Omega.{arith}
 use lib.Dec.{eqb, leb, ltb, lit<}
 use lib.ListN.{getD}
 use lib.Count.{trailingZeros}
-use borrow.Author.Tests.{leb-true, le-leb, ltb-true, lt-ltb, eqb-true, eqb-false}
+use borrow.Author.Tests.{leb-true, le-leb, ltb-true, lt-ltb, eqb-true, eqb-false, eq-eqb}
 use Rattle.instructions.proofs.Tests.{and-both}
 use Rattle.model.specs.Machine.{noRegion, region}
-use Rattle.model.specs.Regions.{RegionKind, explicit, implicitData, implicitCode, explicitRegions, dataRegions, codeRegions, among, regionKind, write, execute, permits, implicitRule, explicitRule, matches, firstMatch, granting, implicitGrants}
+use Rattle.instructions.specs.HWords.{explicitRegions, among}
+use Rattle.instructions.proofs.HWords.{Each}
+use Rattle.model.specs.Regions.{RegionKind, explicit, implicitData, implicitCode, dataRegions, codeRegions, regionKind, write, execute, permits, implicitRule, explicitRule, matches, firstMatch, granting, implicitGrants}
 use Rattle.model.specs.Reach.{Writable, Executable}
 use Rattle.model.specs.WritableCode.{WritableCode, covers, explicitCovers, writableAt, executableAt, bothAt, keepsRule, regionEnd, edges, some, writableCode}
 use Rattle.model.specs.declared.Region.{Region}
 use Rattle.model.proofs.Intervals.{implicit-kept, matches-inside, inside-matches, matches-low, broken-matches-none, explicit-ends}
-use Rattle.model.proofs.Reach.{Each, InExplicit, InImplicit, writable-form, form-writable, executable-form, form-executable, granted-by}
+use Rattle.model.proofs.Reach.{InExplicit, InImplicit, InChosen, writable-form, form-writable, executable-form, form-executable, granted-by}
 
 -- ---- tests
 
@@ -184,15 +186,44 @@ no-edge (r ∷ rs) n (suc i) b h =
     let e : n + suc i ≡ suc n + i = omega arith in
     rw e (no-edge rs (suc n) i b (apart (keepsRule (regionKind n) r) b _ _ (edges (suc n) rs) h .1))
 
+-- the numbers of a list are those of a kind's regions: one computed check for each list
+abbrev sameKind : RegionKind → RegionKind → Bool
+sameKind explicit explicit = true
+sameKind explicit implicitData = false
+sameKind explicit implicitCode = false
+sameKind implicitData explicit = false
+sameKind implicitData implicitData = true
+sameKind implicitData implicitCode = false
+sameKind implicitCode explicit = false
+sameKind implicitCode implicitData = false
+sameKind implicitCode implicitCode = true
+
+same-kind : (j k : RegionKind) → sameKind j k ≡ true → j ≡ k
+same-kind explicit explicit e = refl
+same-kind explicit implicitData e = absurd (false≢true e)
+same-kind explicit implicitCode e = absurd (false≢true e)
+same-kind implicitData explicit e = absurd (false≢true e)
+same-kind implicitData implicitData e = refl
+same-kind implicitData implicitCode e = absurd (false≢true e)
+same-kind implicitCode explicit e = absurd (false≢true e)
+same-kind implicitCode implicitData e = absurd (false≢true e)
+same-kind implicitCode implicitCode e = refl
+
+abbrev ofKind : RegionKind → List ℕ → Bool
+ofKind k [] = true
+ofKind k (n ∷ ns) = (ltb 0 n && sameKind (regionKind n) k) && ofKind k ns
+
 -- nor of those numbered ns, all of one kind
-no-edges : (rs : List Region) (k : RegionKind) (ns : List ℕ) (b : ℕ) → Each (λ n. (0 < n) × (regionKind n ≡ k)) ns → among b (edges 1 rs) ≡ false
+no-edges : (rs : List Region) (k : RegionKind) (ns : List ℕ) (b : ℕ) → ofKind k ns ≡ true → among b (edges 1 rs) ≡ false
     → Each (λ n. NoEdge k b (region rs n)) ns
-no-edges rs k ns b h t =
-    each-map
-    (λ n p.
-    let e : 1 + (n - 1) ≡ n = omega (arith, p .0) in
-    subst (λ (j : RegionKind). NoEdge j b (region rs n)) (ap regionKind e ∙ p .1) (no-edge rs 1 (n - 1) b t))
-    ns h
+no-edges rs k [] b h t = tt
+no-edges rs k (n ∷ ns) b h t =
+    let p = and-both (ltb 0 n && sameKind (regionKind n) k) _ h in
+    let q = and-both (ltb 0 n) _ (p .0) in
+    let e : 1 + (n - 1) ≡ n = omega (arith, ltb-true 0 n (q .0)) in (
+      subst (λ (j : RegionKind). NoEdge j b (region rs n)) (ap regionKind e ∙ same-kind (regionKind n) k (q .1)) (no-edge rs 1 (n - 1) b t),
+      no-edges rs k ns b (p .1) t,
+    )
 
 -- a test that some edge passes, with that edge
 record Edge (p : ℕ → Bool) : Type 0 where
@@ -228,20 +259,29 @@ some-edge p (r ∷ rs) n h = go (keepsRule (regionKind n) r) refl h (some-edge p
 
 -- ---- the test of one byte is the definition
 
--- what follows of each explicit region that has the byte follows where one of those numbered ns has it
-covered-by : (rs : List Region) (ns : List ℕ) (p b : ℕ) (X : Type 0) → Each (λ n. InExplicit (region rs n) p b → X) ns → explicitCovers rs ns p b ≡ true → X
+-- the byte is in a region of those numbered ns
+covered-by : (rs : List Region) (ns : List ℕ) (p b : ℕ) → explicitCovers rs ns p b ≡ true → InChosen rs ns p b
 unfolding explicitCovers
-covered-by rs [] p b X h t = absurd (false≢true t)
-covered-by rs (n ∷ ns) p b X h t = go (either (covers p b (region rs n)) (explicitCovers rs ns p b) t) (covered-by rs ns p b X (h .1))
+covered-by rs [] p b t = absurd (false≢true t)
+covered-by rs (n ∷ ns) p b t = go (either (covers p b (region rs n)) (explicitCovers rs ns p b) t) (covered-by rs ns p b)
   where
-    go : (covers p b (region rs n) ≡ true) ⊎ (explicitCovers rs ns p b ≡ true) → (explicitCovers rs ns p b ≡ true → X) → X
-    go (inr y) f = f y
+    go : (covers p b (region rs n) ≡ true) ⊎ (explicitCovers rs ns p b ≡ true) → (explicitCovers rs ns p b ≡ true → InChosen rs ns p b)
+        → InChosen rs (n ∷ ns) p b
+    go (inr y) f = let c = f y in record { chosen = c .chosen; listed = later (eqb (c .chosen) n) (c .listed); inside = c .inside }
+      where
+        later : (u : Bool) {v : Bool} → v ≡ true → cond u true v ≡ true
+        later true e = refl
+        later false e = e
     go (inl y) f =
         let r = region rs n in
         let i = and-both (explicitRule r) _ y in
         let j = and-both (permits p r) _ (i .1) in
         let k = and-both (leb (r .base) b) (ltb b (r .base + r .bound)) (j .1) in
-        h .0 (record { rule = i .0; permitted = j .0; start = leb-true _ _ (k .0); end = ltb-true _ _ (k .1) })
+        record {
+          chosen = n;
+          listed = rw (eq-eqb n n refl) refl;
+          inside = record { rule = i .0; permitted = j .0; start = leb-true _ _ (k .0); end = ltb-true _ _ (k .1) };
+        }
 
 by-covered : (rs : List Region) (ns : List ℕ) (n p b : ℕ) → among n ns ≡ true → InExplicit (region rs n) p b → explicitCovers rs ns p b ≡ true
 unfolding explicitCovers
@@ -259,17 +299,17 @@ module _ (rs : List Region) (b : ℕ) where
   writable-tested : Writable rs b → writableAt rs b ≡ true
   writable-tested w = go (writable-form rs b w)
     where
-      go : InImplicit rs dataRegions write b ⊎ InExplicit (region rs 1) write b → writableAt rs b ≡ true
+      go : InImplicit rs dataRegions write b ⊎ InChosen rs explicitRegions write b → writableAt rs b ≡ true
       go (inl i) = or-first (implicitGrants rs dataRegions write b) _ (i .granted)
-      go (inr i) = or-second (implicitGrants rs dataRegions write b) _ (by-covered rs explicitRegions 1 write b refl i)
+      go (inr i) = or-second (implicitGrants rs dataRegions write b) _ (by-covered rs explicitRegions (i .chosen) write b (i .listed) (i .inside))
 
   tested-writable : b < 2 ^ 64 → writableAt rs b ≡ true → Writable rs b
   tested-writable l t = form-writable rs b (go (either (implicitGrants rs dataRegions write b) _ t))
     where
       go : (implicitGrants rs dataRegions write b ≡ true) ⊎ (explicitCovers rs explicitRegions write b ≡ true)
-          → InImplicit rs dataRegions write b ⊎ InExplicit (region rs 1) write b
+          → InImplicit rs dataRegions write b ⊎ InChosen rs explicitRegions write b
       go (inl g) = inl (record { granted = g; address = l })
-      go (inr g) = inr (covered-by rs explicitRegions write b _ ((λ i. i), tt) g)
+      go (inr g) = inr (covered-by rs explicitRegions write b g)
 
   -- what a code region grants lies below 2^48
   granted-low : InImplicit rs codeRegions execute b → b < 2 ^ 48
@@ -283,9 +323,9 @@ pub code-tested : (rs : List Region) → WritableCode rs → writableCode rs ≡
 unfolding writableCode
 code-tested rs w =
     leads-down rs explicitRegions dataRegions codeRegions (edges 1 rs) write execute
-    (λ b h. no-edges rs explicit explicitRegions b ((lit< tt, refl), tt) h)
-    (λ b h. no-edges rs implicitData dataRegions b ((lit< tt, refl), tt) h)
-    (λ b h. no-edges rs implicitCode codeRegions b ((lit< tt, refl), tt) h)
+    (λ b h. no-edges rs explicit explicitRegions b refl h)
+    (λ b h. no-edges rs implicitData dataRegions b refl h)
+    (λ b h. no-edges rs implicitCode codeRegions b refl h)
     (w .at) (omega (arith, w .low)) (rw (executable-form rs (w .at) (w .executable) .granted) (writable-tested rs (w .at) (w .writable)))
 
 pub tested-code : (rs : List Region) → writableCode rs ≡ true → WritableCode rs

@@ -37,15 +37,16 @@ implicitAccess rs ns wanted a n =
       faultRegion = λ i. firstMatch rs ns (byteOf a i);
     }
 
--- "A fetch asks region 3"
+-- "A fetch asks region 3", and since Job 7 the code regions
 abbrev pub fetchAccess : List Region → ℕ → Access
 fetchAccess rs pc = implicitAccess rs codeRegions execute pc 4
 
--- "an ordinary load or store region 2"
+-- "an ordinary load or store region 2", and since Job 7 the implicit data regions
 abbrev pub dataAccess : List Region → ℕ → ℕ → ℕ → Access
 dataAccess rs wanted a n = implicitAccess rs dataRegions wanted a n
 
--- "an h-load or h-store region 1 only"; "The address is base + offset + i, modulo 2^64."; "Its fault region is 1 for explicit"
+-- "an h-word asks only the region it chooses", n (02, Job 7); "The address is base + offset + i, modulo 2^64."; "an explicit fault
+-- records the region chosen"
 abbrev pub explicitAccess : List Region → ℕ → ℕ → ℤ → ℕ → Access
 explicitAccess rs n wanted offset count =
     record {
@@ -87,11 +88,11 @@ loadAccess rs x k rs1 imm = dataAccess rs read (effectiveAddress x rs1 imm) (loa
 abbrev pub storeAccess : List Region → List ℕ → StoreKind → ℕ → ℕ → Access
 storeAccess rs x k rs1 imm = dataAccess rs write (effectiveAddress x rs1 imm) (storeWidth k)
 
-abbrev pub hloadAccess : List Region → List ℕ → LoadKind → ℕ → ℕ → Access
-hloadAccess rs x k rs1 imm = explicitAccess rs 1 read (offset (reg x rs1) imm) (loadWidth k)
+abbrev pub hloadAccess : List Region → List ℕ → LoadKind → ℕ → ℕ → ℕ → Access
+hloadAccess rs x k chosen rs1 imm = explicitAccess rs chosen read (offset (reg x rs1) imm) (loadWidth k)
 
-abbrev pub hstoreAccess : List Region → List ℕ → StoreKind → ℕ → ℕ → Access
-hstoreAccess rs x k rs1 imm = explicitAccess rs 1 write (offset (reg x rs1) imm) (storeWidth k)
+abbrev pub hstoreAccess : List Region → List ℕ → StoreKind → ℕ → ℕ → ℕ → Access
+hstoreAccess rs x k chosen rs1 imm = explicitAccess rs chosen write (offset (reg x rs1) imm) (storeWidth k)
 
 -- ---- the questions
 

@@ -37,8 +37,8 @@ wordRules h EnterJump a = (inside h, 23) ∷ (ltb largestOptions a, 14) ∷ (exp
 -- "24, exit outside it"
 wordRules h Exit a = (not (inside h), 24) ∷ []
 -- "25, a region or handler instruction that HFI mode forbids": "funct7 3 to 9, 11 or 12 in HFI mode when locked; set handler in HFI mode, locked
--- or unlocked". "Faults in an operand .. and a missing selection keep 14": "a selected number not 1 to 3; funct7 4 to 9 with selector 0; a permission
--- bit the region lacks"
+-- or unlocked". "Faults in an operand .. and a missing selection keep 14": "a selected number not 1 to 3", which "go[es] up to 10" (Job 7); "funct7 4 to 9 with
+-- selector 0; a permission bit the region lacks"
 wordRules h SelectRegion a = (locked h, 25) ∷ (not (leb 1 a && leb a lastRegion), 14) ∷ []
 wordRules h SetBase a = (locked h, 25) ∷ (eqb (h .selector) 0, 14) ∷ []
 wordRules h GetBase a = (locked h, 25) ∷ (eqb (h .selector) 0, 14) ∷ []
@@ -70,8 +70,8 @@ rules m (Register k rd rs1 rs2) = []
 rules m (RegisterWord k rd rs1 rs2) = []
 rules m (Fence fm pred succ rs1 rd) = []
 rules m (System k) = []
-rules m (HLoad k rd rs1 imm) = hWordRules (m .hfi)
-rules m (HStore k rs1 rs2 imm) = hWordRules (m .hfi)
+rules m (HLoad k chosen rd rs1 imm) = hWordRules (m .hfi)
+rules m (HStore k chosen rs1 rs2 imm) = hWordRules (m .hfi)
 rules m (Hfi k rd rs1 rs2) = wordRules (m .hfi) k (reg (m .x) rs1)
 
 -- question 8's number for an instruction, or 0 where HFI allows it

@@ -1,8 +1,8 @@
 -- Reading and changing the parts of the machine.
 -- Region, Fault, HfiState and Machine are declared in src/lib.rt. Assumes nothing.
 use mathlib.Core.Bool.{Bool, false, cond}
-use mathlib.Core.List.{List}
-use Prim.Native.Nat.{ℕ, _+_, _-_, _%_, _^_}
+use mathlib.Core.List.{List, [], _∷_}
+use Prim.Native.Nat.{ℕ, zero, suc, _+_, _-_, _%_, _^_}
 use lib.Dec.{eqb}
 use lib.ListN.{getD, set, replicate}
 use Rattle.words.specs.Word.{field}
@@ -66,9 +66,9 @@ redirectsExits h = bit 2 (h .options)
 
 -- ---- regions by number, from 1 on; question 8 sees to it that no instruction asks for number 0
 
--- the highest number: the record has as many regions
+-- the highest number, and the record has as many regions: "Selector, selected number and fault region go up to 10" (02, Job 7)
 abbrev pub lastRegion : ℕ
-lastRegion = 3
+lastRegion = 10
 
 abbrev pub noRegion : Region
 noRegion = record { base = 0; bound = 0; permission = 0 }
@@ -91,6 +91,12 @@ withPermission r v = record { base = r .base; bound = r .bound; permission = v }
 -- "Reset zeroes regions and selector": all the regions
 abbrev pub zeroRegions : List Region
 zeroRegions = replicate lastRegion noRegion
+
+-- n regions of three numbers each, from place k of a list on
+abbrev pub regionsFrom : List ℕ → ℕ → ℕ → List Region
+regionsFrom vs k zero = []
+regionsFrom vs k (suc n) =
+    record { base = getD vs k 0; bound = getD vs (k + 1) 0; permission = getD vs (k + 2) 0 } ∷ regionsFrom vs (k + 3) n
 
 -- ---- the HFI state, changed in some fields
 

@@ -26,14 +26,14 @@ pub record Passes (a : Access) (b : ℕ) : Type 0 where
 pub data Readable (rs : List Region) (b : ℕ) : Type 0 where
   byLoad : (w : ℕ) (x : List ℕ) (k : LoadKind) (rd rs1 imm : ℕ) → decodeWord w ≡ Legal (Load k rd rs1 imm)
       → Passes (loadAccess rs x k rs1 imm) b → Readable rs b
-  byHLoad : (w : ℕ) (x : List ℕ) (k : LoadKind) (rd rs1 imm : ℕ) → decodeWord w ≡ Legal (HLoad k rd rs1 imm)
-      → Passes (hloadAccess rs x k rs1 imm) b → Readable rs b
+  byHLoad : (w : ℕ) (x : List ℕ) (k : LoadKind) (chosen rd rs1 imm : ℕ) → decodeWord w ≡ Legal (HLoad k chosen rd rs1 imm)
+      → Passes (hloadAccess rs x k chosen rs1 imm) b → Readable rs b
 
 pub data Writable (rs : List Region) (b : ℕ) : Type 0 where
   byStore : (w : ℕ) (x : List ℕ) (k : StoreKind) (rs1 rs2 imm : ℕ) → decodeWord w ≡ Legal (Store k rs1 rs2 imm)
       → Passes (storeAccess rs x k rs1 imm) b → Writable rs b
-  byHStore : (w : ℕ) (x : List ℕ) (k : StoreKind) (rs1 rs2 imm : ℕ) → decodeWord w ≡ Legal (HStore k rs1 rs2 imm)
-      → Passes (hstoreAccess rs x k rs1 imm) b → Writable rs b
+  byHStore : (w : ℕ) (x : List ℕ) (k : StoreKind) (chosen rs1 rs2 imm : ℕ) → decodeWord w ≡ Legal (HStore k chosen rs1 rs2 imm)
+      → Passes (hstoreAccess rs x k chosen rs1 imm) b → Writable rs b
 
 -- question 4 asks that pc is a multiple of 4
 pub data Executable (rs : List Region) (b : ℕ) : Type 0 where

@@ -8,28 +8,24 @@ use lib.Bits.{bitAnd}
 use lib.Count.{trailingZeros}
 use lib.IntN.{ℤ, pos, _+ℤ_}
 use lib.Signed.{leZ, ltZ}
+use Rattle.instructions.specs.HWords.{explicitRegions, among}
 use Rattle.model.specs.Machine.{bit, region}
 use Rattle.model.specs.declared.Region.{Region}
 
--- ---- kinds by number: "Region 1 is explicit data .. Region 2 is implicit data .. Region 3 is implicit code .."
+-- ---- kinds by number: "Explicit are 1, 4, 5, 6; implicit data 2, 7, 8, 9; code 3, 10." (02, Job 7). An h-word chooses among the explicit
+-- ones, so their list stands in instructions/specs/HWords.antt
 
 pub data RegionKind : Type 0 where
   explicit : RegionKind
   implicitData : RegionKind
   implicitCode : RegionKind
 
-abbrev pub explicitRegions : List ℕ
-explicitRegions = 1 ∷ []
-
+-- in the order in which they are asked: "the lowest-numbered matching region of the kind decides"
 abbrev pub dataRegions : List ℕ
-dataRegions = 2 ∷ []
+dataRegions = 2 ∷ 7 ∷ 8 ∷ 9 ∷ []
 
 abbrev pub codeRegions : List ℕ
-codeRegions = 3 ∷ []
-
-abbrev pub among : ℕ → List ℕ → Bool
-among n [] = false
-among n (k ∷ ks) = cond (eqb n k) true (among n ks)
+codeRegions = 3 ∷ 10 ∷ []
 
 abbrev pub regionKind : ℕ → RegionKind
 regionKind n = cond (among n explicitRegions) explicit (cond (among n dataRegions) implicitData implicitCode)
@@ -97,8 +93,9 @@ explicitRule r = cond (permits large r) (largeRule r) (smallRule r)
 unfoldable pub matches : Region → ℕ → Bool
 matches r a = implicitRule r && eqb (bitAnd a (r .bound)) (r .base)
 
--- the lowest-numbered region of the list that matches the byte at a, or 0. It is also the fault region of a refused byte:
--- "the region that matched without permission, or 0 if none matched"
+-- "For ordinary accesses and fetches the lowest-numbered matching region of the kind decides, even if a later one would grant more"
+-- (02, Job 7): the first region of the list that matches the byte at a, or 0. It is also the fault region of a refused byte: "the
+-- region that matched without permission, or 0 if none matched"
 unfoldable pub firstMatch : List Region → List ℕ → ℕ → ℕ
 firstMatch rs [] a = 0
 firstMatch rs (n ∷ ns) a = cond (matches (region rs n) a) n (firstMatch rs ns a)
@@ -117,6 +114,6 @@ abbrev pub below : ℤ → ℕ → Bool
 below z bound = leZ (pos 0) z && ltZ z (pos bound)
 
 -- "byte i passes when region 1 keeps its rule, has the read or write permission wanted, and offset + i is at least 0 and
--- below the bound"
+-- below the bound"; since Job 7 "an h-word asks only the region it chooses"
 unfoldable pub explicitGrants : Region → ℕ → ℤ → ℕ → Bool
 explicitGrants r wanted offset i = explicitRule r && (permits wanted r && below (offset +ℤ pos i) (r .bound))

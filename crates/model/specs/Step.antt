@@ -74,8 +74,8 @@ perform m mem next (Fence fm pred succ rs1 rd) = completed (withPc m next) mem
 -- "12. Is it anything but an ECALL that is not redirected? No: 18." "13. Is it anything but EBREAK? No: 19."
 perform m mem next (System Ecall) = cond (redirectsCalls (m .hfi)) (completed (redirected m) mem) (stopped 18 m mem)
 perform m mem next (System Ebreak) = stopped 19 m mem
-perform m mem next (HLoad k rd rs1 imm) = load m mem next (hloadAccess (m .hfi .regions) (m .x) k rs1 imm) k rd
-perform m mem next (HStore k rs1 rs2 imm) = store m mem next (hstoreAccess (m .hfi .regions) (m .x) k rs1 imm) (reg (m .x) rs2)
+perform m mem next (HLoad k chosen rd rs1 imm) = load m mem next (hloadAccess (m .hfi .regions) (m .x) k chosen rs1 imm) k rd
+perform m mem next (HStore k chosen rs1 rs2 imm) = store m mem next (hstoreAccess (m .hfi .regions) (m .x) k chosen rs1 imm) (reg (m .x) rs2)
 perform m mem next (Hfi k rd rs1 rs2) = hfiPerform m mem next k rd rs1 rs2
 
 -- "8. Does HFI allow it?", of every instruction, and then what it does

@@ -21,11 +21,12 @@ abbrev pub permissionsFit : ℕ → List Region → Bool
 permissionsFit n [] = true
 permissionsFit n (r ∷ rs) = permissionFits n (r .permission) && permissionsFit (suc n) rs
 
--- "occurred at most 1, fault region and op at most 3"
+-- "occurred at most 1, fault region and op at most 3", and the fault region at most 10 (02, Job 7)
 abbrev pub faultFits : Fault → Bool
 faultFits f = leb (f .occurred) 1 && (leb (f .region) lastRegion && leb (f .op) fetchOp)
 
--- "mode at most 1, reason at most 2, options at most 15; handler bits 0, 1, 62, 63 clear; selector 0 to 3, 0 for none"
+-- "mode at most 1, reason at most 2, options at most 15; handler bits 0, 1, 62, 63 clear; selector 0 to 3, 0 for none", which
+-- goes up to 10 (02, Job 7)
 unfoldable pub stateFits : HfiState → Bool
 stateFits h =
     leb (h .mode) 1 && (leb (h .reason) 2 && (leb (h .options) largestOptions

@@ -1,13 +1,14 @@
 -- Document 02, Job 5: "With the lock bit set and HFI mode on, no byte may be both writable and executable, through region 1 or region 2
--- against region 3." (The field calls the rule W^X.) What is asked, in the words of Reach.antt; and a test that computes it, which holds
--- exactly if such a byte exists (proofs/WritableCode.antt).
+-- against region 3.", and "Job 5 now speak[s] of all ten" (Job 7). (The field calls the rule W^X.) What is asked, in the words of Reach.antt;
+-- and a test that computes it, which holds exactly if such a byte exists (proofs/WritableCode.antt).
 -- Region and HfiState are declared in src/lib.rt. Assumes nothing.
 use mathlib.Core.Bool.{Bool, false, cond, _&&_, _||_}
 use mathlib.Core.List.{List, [], _∷_, _++_}
 use Prim.Native.Nat.{ℕ, suc, _+_, _^_, _<_}
 use lib.Dec.{leb, ltb}
 use Rattle.model.specs.Machine.{locked, region}
-use Rattle.model.specs.Regions.{RegionKind, explicit, implicitData, implicitCode, explicitRegions, dataRegions, codeRegions, regionKind, write, execute, permits, maskZeros, implicitRule, explicitRule, implicitGrants}
+use Rattle.instructions.specs.HWords.{explicitRegions}
+use Rattle.model.specs.Regions.{RegionKind, explicit, implicitData, implicitCode, dataRegions, codeRegions, regionKind, write, execute, permits, maskZeros, implicitRule, explicitRule, implicitGrants}
 use Rattle.model.specs.Reach.{Writable, Executable}
 use Rattle.model.specs.declared.Region.{Region}
 use Rattle.model.specs.declared.HfiState.{HfiState}

@@ -9,9 +9,17 @@ pub const LONGEST: usize = 16_777_216;
 pub const LARGEST_BUDGET: u64 = 1_000_000;
 
 // How many regions the record keeps, and the highest number of one: they count from 1.
-pub const REGIONS: usize = 3;
+pub const REGIONS: usize = 10;
 
-pub const LAST_REGION: u64 = 3;
+pub const LAST_REGION: u64 = 10;
+
+// The implicit regions by kind, in the order in which they are asked.
+pub const DATA_REGIONS: [u64; 4] = [2, 7, 8, 9];
+
+pub const CODE_REGIONS: [u64; 2] = [3, 10];
+
+// And the explicit ones.
+pub const EXPLICIT_REGIONS: [u64; 4] = [1, 4, 5, 6];
 
 // The permissions of a region, by bit number.
 pub const READ: u64 = 0;
@@ -50,7 +58,7 @@ pub struct Fault {
 }
 
 // "HFI state: mode (0 or 1), exit reason (0 none, 1 hfiexit, 2 system call), exit pc, options (4 bits), exit handler,
-// selector, three regions, fault record". `epc` is the exit pc; region n stands at n - 1.
+// selector, three regions, fault record", of which document 02, Job 7, makes ten regions. `epc` is the exit pc; region n stands at n - 1.
 #[repr(C)]
 pub struct HfiState {
     pub mode: u64,
