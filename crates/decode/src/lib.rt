@@ -2,7 +2,8 @@
 ghost use mathlib.Core.Path.{_≡_};
 ghost use Rattle.instructions.specs.Fields.{fieldsOf};
 ghost use Rattle.instructions.specs.InWord.{InWord};
-ghost use Rattle.instructions.specs.Decode.{decodeJalr, decodeShift, decodeImmediate, decodeImmediateWord, decodeFence, decodeSystem, decodeHfi, decodeFields, decodeWord};
+ghost use Rattle.instructions.specs.HWords.{chosenRegion};
+ghost use Rattle.instructions.specs.Decode.{decodeJalr, decodeShift, decodeImmediate, decodeImmediateWord, decodeFence, decodeSystem, decodeHLoad, decodeHStore, decodeHfi, decodeFields, decodeWord};
 
 pub mod immediate;
 
@@ -105,6 +106,39 @@ fn decode_system(f: Fields) -> Decoded
     }
 }
 
+// The explicit region that rs1's field and the other, rd's or rs2's, choose by their top bits.
+fn chosen_region(rs1: u64, other: u64) -> u64
+    ensures { λ r. ⌜ r ≡ chosenRegion rs1 other ⌝ }
+{
+    let choice = put(bits(other, 4, 1), bits(rs1, 4, 1), 1);
+    match choice {
+        0 => 1,
+        1 => 4,
+        2 => 5,
+        _ => 6,
+    }
+}
+
+fn decode_h_load(f: Fields) -> Decoded
+    requires { ⌜ InWord f ⌝ }
+    ensures { λ r. ⌜ r ≡ decodeHLoad f ⌝ }
+{
+    let region = chosen_region(f.rs1, f.rd);
+    let rd = bits(f.rd, 0, 4);
+    let rs1 = bits(f.rs1, 0, 4);
+    listing::load(true, f.funct3, region, rd, rs1, i_immediate(f))
+}
+
+fn decode_h_store(f: Fields) -> Decoded
+    requires { ⌜ InWord f ⌝ }
+    ensures { λ r. ⌜ r ≡ decodeHStore f ⌝ }
+{
+    let region = chosen_region(f.rs1, f.rs2);
+    let rs1 = bits(f.rs1, 0, 4);
+    let rs2 = bits(f.rs2, 0, 4);
+    listing::store(true, f.funct3, region, rs1, rs2, s_immediate(f))
+}
+
 fn decode_hfi(f: Fields) -> Decoded
     ensures { λ r. ⌜ r ≡ decodeHfi f ⌝ }
 {
@@ -126,16 +160,16 @@ fn decode_fields(f: Fields) -> Decoded
         opcode::JAL => Decoded::Legal(Instruction::Jal(f.rd, j_immediate(f))),
         opcode::JALR => decode_jalr(f),
         opcode::BRANCH => listing::branch(f.funct3, f.rs1, f.rs2, b_immediate(f)),
-        opcode::LOAD => listing::load(false, f.funct3, f.rd, f.rs1, i_immediate(f)),
-        opcode::STORE => listing::store(false, f.funct3, f.rs1, f.rs2, s_immediate(f)),
+        opcode::LOAD => listing::load(false, f.funct3, 0, f.rd, f.rs1, i_immediate(f)),
+        opcode::STORE => listing::store(false, f.funct3, 0, f.rs1, f.rs2, s_immediate(f)),
         opcode::OP_IMM => decode_immediate(f),
         opcode::OP_IMM_32 => decode_immediate_word(f),
         opcode::OP => listing::register(put(f.funct3, f.funct7, 3), f.rd, f.rs1, f.rs2),
         opcode::OP_32 => listing::register_word(put(f.funct3, f.funct7, 3), f.rd, f.rs1, f.rs2),
         opcode::MISC_MEM => decode_fence(f),
         opcode::SYSTEM => decode_system(f),
-        opcode::H_LOAD => listing::load(true, f.funct3, f.rd, f.rs1, i_immediate(f)),
-        opcode::H_STORE => listing::store(true, f.funct3, f.rs1, f.rs2, s_immediate(f)),
+        opcode::H_LOAD => decode_h_load(f),
+        opcode::H_STORE => decode_h_store(f),
         opcode::HFI => decode_hfi(f),
         _ => Decoded::Illegal,
     }

@@ -7,8 +7,8 @@ ghost use Prim.Native.Nat.{ℕ, _<_};
 ghost use Rattle.words.specs.Word.{fitsSigned};
 ghost use Rattle.instructions.specs.Encode.{inRange};
 ghost use Rattle.instructions.specs.declared.instruction.Instruction.the-variants.{Upper, Branch, Load, Store, System, HLoad, HStore};
-ghost use Rattle.model.specs.Machine.{machine};
 ghost use Rattle.model.specs.Step.{perform, executeInstruction};
+ghost use Rattle.hart.specs.State.{hart};
 ghost use Rattle.hart.specs.Effect.{effectWith};
 use arithmetic::add_word;
 use arithmetic::jalr_target;
@@ -24,6 +24,8 @@ use hart::effect::jump;
 use hart::effect::register;
 use hart::effect::stopped;
 use hart::effect::write_back;
+use hart::regions::REGION_NUMBERS;
+use hart::state::Control;
 use hart::state::exited;
 use hart::state::redirects_calls;
 use hfi::word::h_word_stop;
@@ -34,20 +36,19 @@ use instructions::kind::LoadKind;
 use instructions::kind::StoreKind;
 use instructions::kind::SystemKind;
 use instructions::kind::UpperKind;
-use model::HfiState;
 use std::num::wrapping_add_u64;
 
 fn upper(
     x: &mut [u64; 32],
     pc: u64,
-    hfi: HfiState,
+    hfi: Control,
     next: u64,
     k: UpperKind,
     rd: u64,
     imm: u64,
 ) -> Effect
     requires { ⌜ rd < 32 ⌝ }
-    ensures { λ r. ⌜ ((mem : List ℕ) → effectWith r (now (x .exit)) mem ≡ perform (machine (now (x .entry)) pc hfi) mem next (Upper k rd imm)) ⌝ }
+    ensures { λ r. ⌜ ((numbers mem : List ℕ) → effectWith r (now (x .exit)) numbers mem ≡ perform (hart (now (x .entry)) pc hfi numbers) mem next (Upper k rd imm)) ⌝ }
 {
     let v = match k {
         UpperKind::Lui => imm,
@@ -60,7 +61,7 @@ fn upper(
 fn branch(
     x: &mut [u64; 32],
     pc: u64,
-    hfi: HfiState,
+    hfi: Control,
     next: u64,
     k: BranchKind,
     rs1: u64,
@@ -68,7 +69,7 @@ fn branch(
     offset: u64,
 ) -> Effect
     requires { ⌜ (rs1 < 32) × (rs2 < 32) ⌝ }
-    ensures { λ r. ⌜ ((mem : List ℕ) → effectWith r (now (x .exit)) mem ≡ perform (machine (now (x .entry)) pc hfi) mem next (Branch k rs1 rs2 offset)) ⌝ }
+    ensures { λ r. ⌜ ((numbers mem : List ℕ) → effectWith r (now (x .exit)) numbers mem ≡ perform (hart (now (x .entry)) pc hfi numbers) mem next (Branch k rs1 rs2 offset)) ⌝ }
 {
     if !taken(k, register(x, rs1), register(x, rs2)) {
         return completed(next, hfi);
@@ -77,8 +78,8 @@ fn branch(
 }
 
 // ECALL, which HFI may redirect to the handler, and EBREAK.
-fn system(pc: u64, hfi: HfiState, k: SystemKind) -> Effect
-    ensures { λ r. ⌜ ((x : List ℕ) (mem : List ℕ) (next : ℕ) → effectWith r x mem ≡ perform (machine x pc hfi) mem next (System k)) ⌝ }
+fn system(pc: u64, hfi: Control, k: SystemKind) -> Effect
+    ensures { λ r. ⌜ ((x numbers mem : List ℕ) (next : ℕ) → effectWith r x numbers mem ≡ perform (hart x pc hfi numbers) mem next (System k)) ⌝ }
 {
     match k {
         SystemKind::Ecall => {
@@ -95,7 +96,8 @@ fn system(pc: u64, hfi: HfiState, k: SystemKind) -> Effect
 fn load(
     x: &mut [u64; 32],
     pc: u64,
-    hfi: HfiState,
+    hfi: Control,
+    rs: &[u64; REGION_NUMBERS],
     mem: &[u8],
     next: u64,
     k: LoadKind,
@@ -104,16 +106,17 @@ fn load(
     imm: u64,
 ) -> Effect
     requires { ⌜ (rd < 32) × (rs1 < 32) ⌝ }
-    ensures { λ r. ⌜ effectWith r (now (x .exit)) (now (mem .entry)) ≡ perform (machine (now (x .entry)) pc hfi) (now (mem .entry)) next (Load k rd rs1 imm) ⌝ }
+    ensures { λ r. ⌜ effectWith r (now (x .exit)) (now (rs .entry)) (now (mem .entry)) ≡ perform (hart (now (x .entry)) pc hfi (now (rs .entry))) (now (mem .entry)) next (Load k rd rs1 imm) ⌝ }
 {
     let a = wrapping_add_u64(register(x, rs1), imm);
-    load_store::load(x, pc, hfi, mem, next, k, rd, a)
+    load_store::load(x, pc, hfi, rs, mem, next, k, rd, a)
 }
 
 fn store(
     x: &[u64; 32],
     pc: u64,
-    hfi: HfiState,
+    hfi: Control,
+    rs: &[u64; REGION_NUMBERS],
     mem: &mut [u8],
     next: u64,
     k: StoreKind,
@@ -122,67 +125,72 @@ fn store(
     imm: u64,
 ) -> Effect
     requires { ⌜ (rs1 < 32) × (rs2 < 32) ⌝ }
-    ensures { λ r. ⌜ effectWith r (now (x .entry)) (now (mem .exit)) ≡ perform (machine (now (x .entry)) pc hfi) (now (mem .entry)) next (Store k rs1 rs2 imm) ⌝ }
+    ensures { λ r. ⌜ effectWith r (now (x .entry)) (now (rs .entry)) (now (mem .exit)) ≡ perform (hart (now (x .entry)) pc hfi (now (rs .entry))) (now (mem .entry)) next (Store k rs1 rs2 imm) ⌝ }
 {
     let a = wrapping_add_u64(register(x, rs1), imm);
-    load_store::store(pc, hfi, mem, next, k, register(x, rs2), a)
+    load_store::store(pc, hfi, rs, mem, next, k, register(x, rs2), a)
 }
 
 fn hload(
     x: &mut [u64; 32],
     pc: u64,
-    hfi: HfiState,
+    hfi: Control,
+    rs: &[u64; REGION_NUMBERS],
     mem: &[u8],
     next: u64,
     k: LoadKind,
+    region: u64,
     rd: u64,
     rs1: u64,
     imm: u64,
 ) -> Effect
     requires { ⌜ (rd < 32) × (rs1 < 32) × (fitsSigned 12 imm ≡ true) ⌝ }
-    ensures { λ r. ⌜ effectWith r (now (x .exit)) (now (mem .entry)) ≡ executeInstruction (machine (now (x .entry)) pc hfi) (now (mem .entry)) next (HLoad k rd rs1 imm) ⌝ }
+    ensures { λ r. ⌜ effectWith r (now (x .exit)) (now (rs .entry)) (now (mem .entry)) ≡ executeInstruction (hart (now (x .entry)) pc hfi (now (rs .entry))) (now (mem .entry)) next (HLoad k region rd rs1 imm) ⌝ }
 {
     let stop = h_word_stop(hfi);
     if stop != 0 {
         return stopped(stop, pc, hfi);
     }
     let operand = register(x, rs1);
-    load_store::hload(x, pc, hfi, mem, next, k, rd, operand, imm)
+    load_store::hload(x, pc, hfi, rs, mem, next, k, region, rd, operand, imm)
 }
 
 fn hstore(
     x: &[u64; 32],
     pc: u64,
-    hfi: HfiState,
+    hfi: Control,
+    rs: &[u64; REGION_NUMBERS],
     mem: &mut [u8],
     next: u64,
     k: StoreKind,
+    region: u64,
     rs1: u64,
     rs2: u64,
     imm: u64,
 ) -> Effect
     requires { ⌜ (rs1 < 32) × (rs2 < 32) × (fitsSigned 12 imm ≡ true) ⌝ }
-    ensures { λ r. ⌜ effectWith r (now (x .entry)) (now (mem .exit)) ≡ executeInstruction (machine (now (x .entry)) pc hfi) (now (mem .entry)) next (HStore k rs1 rs2 imm) ⌝ }
+    ensures { λ r. ⌜ effectWith r (now (x .entry)) (now (rs .entry)) (now (mem .exit)) ≡ executeInstruction (hart (now (x .entry)) pc hfi (now (rs .entry))) (now (mem .entry)) next (HStore k region rs1 rs2 imm) ⌝ }
 {
     let stop = h_word_stop(hfi);
     if stop != 0 {
         return stopped(stop, pc, hfi);
     }
     let operand = register(x, rs1);
-    load_store::hstore(pc, hfi, mem, next, k, register(x, rs2), operand, imm)
+    load_store::hstore(pc, hfi, rs, mem, next, k, region, register(x, rs2), operand, imm)
 }
 
 // One instruction, question 8 first; `next` is the pc after it.
 pub fn execute(
     x: &mut [u64; 32],
     pc: u64,
-    hfi: HfiState,
+    hfi: Control,
+    rs: &mut [u64; REGION_NUMBERS],
     mem: &mut [u8],
     next: u64,
     i: Instruction,
 ) -> Effect
     requires { ⌜ inRange i ≡ true ⌝ }
-    ensures { λ r. ⌜ effectWith r (now (x .exit)) (now (mem .exit)) ≡ executeInstruction (machine (now (x .entry)) pc hfi) (now (mem .entry)) next i ⌝ }
+    ensures { λ r. ⌜ effectWith r (now (x .exit)) (now (rs .exit)) (now (mem .exit)) ≡ executeInstruction (hart (now (x .entry)) pc hfi (now (rs .entry))) (now (mem .entry)) next i ⌝ }
 {
     match i {
         Instruction::Upper(k, rd, imm) => upper(x, pc, hfi, next, k, rd, imm),
@@ -191,8 +199,8 @@ pub fn execute(
             jump(x, pc, hfi, next, rd, jalr_target(register(x, rs1), imm))
         }
         Instruction::Branch(k, rs1, rs2, offset) => branch(x, pc, hfi, next, k, rs1, rs2, offset),
-        Instruction::Load(k, rd, rs1, imm) => load(x, pc, hfi, mem, next, k, rd, rs1, imm),
-        Instruction::Store(k, rs1, rs2, imm) => store(x, pc, hfi, mem, next, k, rs1, rs2, imm),
+        Instruction::Load(k, rd, rs1, imm) => load(x, pc, hfi, rs, mem, next, k, rd, rs1, imm),
+        Instruction::Store(k, rs1, rs2, imm) => store(x, pc, hfi, rs, mem, next, k, rs1, rs2, imm),
         Instruction::Immediate(k, rd, rs1, imm) => {
             let v = operate_immediate(k, register(x, rs1), imm);
             write_back(x, hfi, next, rd, v)
@@ -219,8 +227,12 @@ pub fn execute(
         }
         Instruction::Fence(_, _, _, _, _) => completed(next, hfi),
         Instruction::System(k) => system(pc, hfi, k),
-        Instruction::HLoad(k, rd, rs1, imm) => hload(x, pc, hfi, mem, next, k, rd, rs1, imm),
-        Instruction::HStore(k, rs1, rs2, imm) => hstore(x, pc, hfi, mem, next, k, rs1, rs2, imm),
-        Instruction::Hfi(k, rd, rs1, rs2) => hfi_word(x, pc, hfi, next, k, rd, rs1, rs2),
+        Instruction::HLoad(k, region, rd, rs1, imm) => {
+            hload(x, pc, hfi, rs, mem, next, k, region, rd, rs1, imm)
+        }
+        Instruction::HStore(k, region, rs1, rs2, imm) => {
+            hstore(x, pc, hfi, rs, mem, next, k, region, rs1, rs2, imm)
+        }
+        Instruction::Hfi(k, rd, rs1, rs2) => hfi_word(x, pc, hfi, rs, next, k, rd, rs1, rs2),
     }
 }

@@ -1,1 +1,2 @@
 pub mod Permissions
+pub mod Numbers

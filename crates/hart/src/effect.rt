@@ -2,18 +2,19 @@
 ghost use mathlib.Core.Path.{_≡_};
 ghost use mathlib.Core.List.{List};
 ghost use Prim.Native.Nat.{ℕ, _<_};
-ghost use Rattle.model.specs.Machine.{reg, setReg, withFault, machine};
-ghost use Rattle.model.specs.Outcome.{completed as completedOf};
+ghost use Rattle.model.specs.Machine.{reg, setReg};
+ghost use Rattle.model.specs.Outcome.{completed as completedOf, stopped as stoppedOf, faulted as faultedOf};
 ghost use Rattle.model.specs.Step.{jump as jumpOf};
+ghost use Rattle.hart.specs.State.{hart};
 ghost use Rattle.hart.specs.Effect.{effectWith};
+use crate::state::Control;
 use model::Fault;
-use model::HfiState;
 
 pub struct Effect {
     pub stop: u64,
     pub address: u64,
     pub pc: u64,
-    pub hfi: HfiState,
+    pub hfi: Control,
 }
 
 // Register `i`.
@@ -35,7 +36,7 @@ pub fn assign(x: &mut [u64; 32], i: u64, v: u64)
 }
 
 // A completed step.
-pub fn completed(pc: u64, hfi: HfiState) -> Effect
+pub fn completed(pc: u64, hfi: Control) -> Effect
     ensures { λ r. ⌜ r ≡ record { stop = 0; address = 0; pc = pc; hfi = hfi } ⌝ }
 {
     Effect {
@@ -47,7 +48,7 @@ pub fn completed(pc: u64, hfi: HfiState) -> Effect
 }
 
 // A stop that changes nothing.
-pub fn stopped(stop: u64, pc: u64, hfi: HfiState) -> Effect
+pub fn stopped(stop: u64, pc: u64, hfi: Control) -> Effect
     ensures { λ r. ⌜ r ≡ record { stop = stop; address = 0; pc = pc; hfi = hfi } ⌝ }
 {
     Effect {
@@ -59,7 +60,7 @@ pub fn stopped(stop: u64, pc: u64, hfi: HfiState) -> Effect
 }
 
 // A stop that gives the address of an absent byte.
-pub fn absent(stop: u64, pc: u64, hfi: HfiState, at: u64) -> Effect
+pub fn absent(stop: u64, pc: u64, hfi: Control, at: u64) -> Effect
     ensures { λ r. ⌜ r ≡ record { stop = stop; address = at; pc = pc; hfi = hfi } ⌝ }
 {
     Effect {
@@ -71,8 +72,8 @@ pub fn absent(stop: u64, pc: u64, hfi: HfiState, at: u64) -> Effect
 }
 
 // A stop that writes the fault record.
-pub fn faulted(stop: u64, pc: u64, hfi: HfiState, op: u64, at: u64, region: u64) -> Effect
-    ensures { λ r. ⌜ r ≡ record { stop = stop; address = 0; pc = pc; hfi = withFault hfi (record { occurred = 1; region = region; op = op; address = at }) } ⌝ }
+pub fn faulted(stop: u64, pc: u64, hfi: Control, op: u64, at: u64, region: u64) -> Effect
+    ensures { λ r. ⌜ ((x numbers mem : List ℕ) → effectWith r x numbers mem ≡ stoppedOf stop (faultedOf (hart x pc hfi numbers) op at region) mem) ⌝ }
 {
     let mut h = hfi;
     let fault = Fault {
@@ -86,18 +87,18 @@ pub fn faulted(stop: u64, pc: u64, hfi: HfiState, op: u64, at: u64, region: u64)
 }
 
 // `v` in `rd`, and on at `next`.
-pub fn write_back(x: &mut [u64; 32], hfi: HfiState, next: u64, rd: u64, v: u64) -> Effect
+pub fn write_back(x: &mut [u64; 32], hfi: Control, next: u64, rd: u64, v: u64) -> Effect
     requires { ⌜ rd < 32 ⌝ }
-    ensures { λ r. ⌜ ((mem : List ℕ) → effectWith r (now (x .exit)) mem ≡ completedOf (machine (setReg (now (x .entry)) rd v) next hfi) mem) ⌝ }
+    ensures { λ r. ⌜ ((numbers mem : List ℕ) → effectWith r (now (x .exit)) numbers mem ≡ completedOf (hart (setReg (now (x .entry)) rd v) next hfi numbers) mem) ⌝ }
 {
     assign(x, rd, v);
     completed(next, hfi)
 }
 
 // A jump to `target`, which must be a multiple of 4, with the link `next` in `rd`.
-pub fn jump(x: &mut [u64; 32], pc: u64, hfi: HfiState, next: u64, rd: u64, target: u64) -> Effect
+pub fn jump(x: &mut [u64; 32], pc: u64, hfi: Control, next: u64, rd: u64, target: u64) -> Effect
     requires { ⌜ rd < 32 ⌝ }
-    ensures { λ r. ⌜ ((mem : List ℕ) → effectWith r (now (x .exit)) mem ≡ jumpOf (machine (now (x .entry)) pc hfi) mem next rd target) ⌝ }
+    ensures { λ r. ⌜ ((numbers mem : List ℕ) → effectWith r (now (x .exit)) numbers mem ≡ jumpOf (hart (now (x .entry)) pc hfi numbers) mem next rd target) ⌝ }
 {
     if target % 4 != 0 {
         return stopped(15, pc, hfi);

@@ -44,49 +44,57 @@ pub fn branch(code: u64, rs1: u64, rs2: u64, offset: u64) -> Decoded
     }
 }
 
-fn prefixed_load(prefixed: bool, k: LoadKind, rd: u64, rs1: u64, imm: u64) -> Decoded
-    ensures { λ r. ⌜ r ≡ Legal (loadOf prefixed k rd rs1 imm) ⌝ }
+// The region is that of an h-word, and nothing to an ordinary load.
+fn prefixed_load(prefixed: bool, k: LoadKind, region: u64, rd: u64, rs1: u64, imm: u64) -> Decoded
+    ensures { λ r. ⌜ r ≡ Legal (loadOf prefixed k region rd rs1 imm) ⌝ }
 {
     if prefixed {
-        Legal(Instruction::HLoad(k, rd, rs1, imm))
+        Legal(Instruction::HLoad(k, region, rd, rs1, imm))
     } else {
         Legal(Instruction::Load(k, rd, rs1, imm))
     }
 }
 
-pub fn load(prefixed: bool, code: u64, rd: u64, rs1: u64, imm: u64) -> Decoded
-    ensures { λ r. ⌜ r ≡ loadAt prefixed code rd rs1 imm ⌝ }
+pub fn load(prefixed: bool, code: u64, region: u64, rd: u64, rs1: u64, imm: u64) -> Decoded
+    ensures { λ r. ⌜ r ≡ loadAt prefixed code region rd rs1 imm ⌝ }
 {
     match code {
-        code::LB => prefixed_load(prefixed, LoadKind::Lb, rd, rs1, imm),
-        code::LH => prefixed_load(prefixed, LoadKind::Lh, rd, rs1, imm),
-        code::LW => prefixed_load(prefixed, LoadKind::Lw, rd, rs1, imm),
-        code::LD => prefixed_load(prefixed, LoadKind::Ld, rd, rs1, imm),
-        code::LBU => prefixed_load(prefixed, LoadKind::Lbu, rd, rs1, imm),
-        code::LHU => prefixed_load(prefixed, LoadKind::Lhu, rd, rs1, imm),
-        code::LWU => prefixed_load(prefixed, LoadKind::Lwu, rd, rs1, imm),
+        code::LB => prefixed_load(prefixed, LoadKind::Lb, region, rd, rs1, imm),
+        code::LH => prefixed_load(prefixed, LoadKind::Lh, region, rd, rs1, imm),
+        code::LW => prefixed_load(prefixed, LoadKind::Lw, region, rd, rs1, imm),
+        code::LD => prefixed_load(prefixed, LoadKind::Ld, region, rd, rs1, imm),
+        code::LBU => prefixed_load(prefixed, LoadKind::Lbu, region, rd, rs1, imm),
+        code::LHU => prefixed_load(prefixed, LoadKind::Lhu, region, rd, rs1, imm),
+        code::LWU => prefixed_load(prefixed, LoadKind::Lwu, region, rd, rs1, imm),
         _ => Illegal,
     }
 }
 
-fn prefixed_store(prefixed: bool, k: StoreKind, rs1: u64, rs2: u64, imm: u64) -> Decoded
-    ensures { λ r. ⌜ r ≡ Legal (storeOf prefixed k rs1 rs2 imm) ⌝ }
+fn prefixed_store(
+    prefixed: bool,
+    k: StoreKind,
+    region: u64,
+    rs1: u64,
+    rs2: u64,
+    imm: u64,
+) -> Decoded
+    ensures { λ r. ⌜ r ≡ Legal (storeOf prefixed k region rs1 rs2 imm) ⌝ }
 {
     if prefixed {
-        Legal(Instruction::HStore(k, rs1, rs2, imm))
+        Legal(Instruction::HStore(k, region, rs1, rs2, imm))
     } else {
         Legal(Instruction::Store(k, rs1, rs2, imm))
     }
 }
 
-pub fn store(prefixed: bool, code: u64, rs1: u64, rs2: u64, imm: u64) -> Decoded
-    ensures { λ r. ⌜ r ≡ storeAt prefixed code rs1 rs2 imm ⌝ }
+pub fn store(prefixed: bool, code: u64, region: u64, rs1: u64, rs2: u64, imm: u64) -> Decoded
+    ensures { λ r. ⌜ r ≡ storeAt prefixed code region rs1 rs2 imm ⌝ }
 {
     match code {
-        code::SB => prefixed_store(prefixed, StoreKind::Sb, rs1, rs2, imm),
-        code::SH => prefixed_store(prefixed, StoreKind::Sh, rs1, rs2, imm),
-        code::SW => prefixed_store(prefixed, StoreKind::Sw, rs1, rs2, imm),
-        code::SD => prefixed_store(prefixed, StoreKind::Sd, rs1, rs2, imm),
+        code::SB => prefixed_store(prefixed, StoreKind::Sb, region, rs1, rs2, imm),
+        code::SH => prefixed_store(prefixed, StoreKind::Sh, region, rs1, rs2, imm),
+        code::SW => prefixed_store(prefixed, StoreKind::Sw, region, rs1, rs2, imm),
+        code::SD => prefixed_store(prefixed, StoreKind::Sd, region, rs1, rs2, imm),
         _ => Illegal,
     }
 }

@@ -1,7 +1,7 @@
 -- Laws of the code's tests as Bools.
 -- Assumes nothing.
 use mathlib.Core.Path.{_≡_, refl, sym, _∙_}
-use mathlib.Core.Bool.{Bool, true, false, cond, _&&_, _||_, and-true, and-false}
+use mathlib.Core.Bool.{Bool, true, false, cond, _&&_, _||_}
 use Prim.Native.Nat.{ℕ, _≤_}
 use lib.Dec.{leb}
 use borrow.Author.Tests.{leb-true, le-leb}
@@ -16,15 +16,14 @@ same-order m n p q f g = go (leb m n) (leb p q) refl refl
     go false false e d = e ∙ sym d
 
 -- the rule and the permission are asked once, before the loop over the bytes
-pub implicit-once : (m rule permitted here : Bool) → (m || ((rule && permitted) && here)) ≡ cond m true (cond (rule && here) permitted false)
-implicit-once true rule permitted here = refl
-implicit-once false false permitted here = refl
-implicit-once false true permitted true = and-true permitted
-implicit-once false true permitted false = and-false permitted
-
 pub explicit-once : (m rule permitted near here inside : Bool) → (rule ≡ true → (near && here) ≡ inside)
     → (m || (((rule && permitted) && near) && here)) ≡ cond m true (rule && (permitted && inside))
 explicit-once true rule permitted near here inside h = refl
 explicit-once false false permitted near here inside h = refl
 explicit-once false true true near here inside h = h refl
 explicit-once false true false near here inside h = refl
+
+-- outside HFI mode nothing is asked
+pub mode-or : (m : Bool) {g h : Bool} → g ≡ h → (m || g) ≡ cond m true h
+mode-or true e = refl
+mode-or false e = e

@@ -3,7 +3,7 @@ use mathlib.Core.Path.{_≡_}
 use mathlib.Core.Bool.{true}
 use mathlib.Core.List.{[], _∷_}
 use Prim.Native.Nat.{ℕ}
-use Rattle.model.specs.Regions.{among}
+use Rattle.instructions.specs.HWords.{among}
 
 abbrev pub IsWidth : ℕ → Type 0
 IsWidth n = among n (1 ∷ 2 ∷ 4 ∷ 8 ∷ []) ≡ true

@@ -1,38 +1,121 @@
-// The questions that every byte of an access is asked before any is touched. `wanted` is a permission by its bit number.
+// The questions that every byte of an access is asked before any is touched. `wanted` is a permission by its bit number, `ns` the
+// numbers of the implicit regions that decide, in their order, and `rs` the regions as numbers.
 ghost use mathlib.Core.Path.{_≡_};
 ghost use mathlib.Core.Bool.{true};
-ghost use mathlib.Core.List.{[], _∷_};
 ghost use Prim.Native.Nat.{_<_, _≤_};
+ghost use lib.ListN.{length};
 ghost use Rattle.words.specs.Word.{fitsSigned};
-ghost use Rattle.model.specs.Machine.{lastRegion};
-ghost use Rattle.model.specs.Access.{fetchAccess, dataAccess, implicitAccess, explicitAccess, offset, firstAbsent, verdict};
-ghost use Rattle.memory.specs.Loops.{implicitRefused, explicitRefused, presenceOf, explicitFirst};
+ghost use Rattle.model.specs.Machine.{region};
+ghost use Rattle.model.specs.Regions.{firstMatch, implicitGrants};
+ghost use Rattle.model.specs.Access.{fetchAccess, dataAccess, implicitAccess, explicitAccess, offset, firstRefused, firstAbsent, verdict};
+ghost use Rattle.hart.specs.State.{regionsOf};
+ghost use Rattle.memory.specs.Loops.{explicitRefused, presenceOf, explicitFirst, hasWhole, touches as isTouched, grantsWhole, passesWhole};
 use crate::region::explicit_rule;
 use crate::region::implicit_rule;
 use crate::region::matches;
 use crate::region::permits;
+use hart::regions::REGION_NUMBERS;
+use hart::regions::region_at;
+use model::CODE_REGIONS;
+use model::DATA_REGIONS;
 use model::EXECUTE;
-use model::REGIONS;
 use model::Region;
 use model::Verdict;
+use std::num::wrapping_add_u64;
+use std::num::wrapping_sub_u64;
 
-// The first byte, of the `n` from `a` on, that the implicit region does not grant, or `n`.
-fn first_refused_implicit(mode: u64, r: Region, wanted: u64, a: u64, n: u64) -> u64
-    requires { ⌜ wanted < 64 ⌝ }
-    ensures { λ q. ⌜ q ≡ implicitRefused mode r wanted a n ⌝ }
+// The lowest-numbered implicit region that matches the byte at `a`, or 0.
+pub fn first_match(rs: &[u64; REGION_NUMBERS], ns: &[u64], a: u64) -> u64
+    ensures { λ q. ⌜ q ≡ firstMatch (regionsOf (now (rs .entry))) (now (ns .entry)) a ⌝ }
 {
-    let ok = implicit_rule(r) & permits(wanted, r);
+    let mut i = 0;
+    while i < ns.len() {
+        let n = ns[i];
+        if matches(region_at(rs, n), a) {
+            return n;
+        }
+        i += 1;
+    }
+    0
+}
+
+// Does the region that decides grant the byte at `a`?
+pub fn grants(rs: &[u64; REGION_NUMBERS], ns: &[u64], wanted: u64, a: u64) -> bool
+    requires { ⌜ wanted < 64 ⌝ }
+    ensures { λ q. ⌜ q ≡ implicitGrants (regionsOf (now (rs .entry))) (now (ns .entry)) wanted a ⌝ }
+{
+    let n = first_match(rs, ns, a);
+    (n != 0) & permits(wanted, region_at(rs, n))
+}
+
+// The first byte, of the `n` from `a` on, that is not granted, or `n`.
+fn first_refused_implicit(
+    mode: u64,
+    rs: &[u64; REGION_NUMBERS],
+    ns: &[u64],
+    wanted: u64,
+    a: u64,
+    n: u64,
+) -> u64
+    requires { ⌜ wanted < 64 ⌝ }
+    ensures { λ q. ⌜ q ≡ firstRefused mode (implicitAccess (regionsOf (now (rs .entry))) (now (ns .entry)) wanted a n) ⌝ }
+{
     let mut i: u64 = 0;
     loop {
         if n <= i {
             break i;
         }
-        let matched = (std::num::wrapping_add_u64(a, i) & r.bound) == r.base;
-        if !((mode == 0) | (ok & matched)) {
+        if !((mode == 0) | grants(rs, ns, wanted, wrapping_add_u64(a, i))) {
             break i;
         }
         i += 1;
     }
+}
+
+// Does the implicit region keep its rule and have the bytes at `a` and `last`, with the permission? Then it has those between.
+fn has_whole(r: Region, wanted: u64, a: u64, last: u64) -> bool
+    requires { ⌜ wanted < 64 ⌝ }
+    ensures { λ q. ⌜ q ≡ hasWhole r wanted a last ⌝ }
+{
+    if ((a & r.bound) == r.base) & (((last & r.bound) == r.base) & permits(wanted, r)) {
+        implicit_rule(r)
+    } else {
+        false
+    }
+}
+
+// Does it keep its rule and have one of the `n` bytes that end with `last`? Counted from base on, and round from 2^64 to 0, `last` is
+// then before its end, or up to n - 1 places past it.
+fn touches(r: Region, last: u64, n: u64) -> bool
+    requires { ⌜ 0 < n ⌝ }
+    ensures { λ q. ⌜ q ≡ isTouched r last n ⌝ }
+{
+    if wrapping_sub_u64(last, r.base) <= wrapping_add_u64(!r.bound, n - 1) {
+        implicit_rule(r)
+    } else {
+        false
+    }
+}
+
+// Does the first region that has a byte of the access have all of them, with the permission? Then it decides each of them. Rules are
+// asked once an access, and only where the addresses do not tell.
+fn grants_whole(rs: &[u64; REGION_NUMBERS], ns: &[u64], wanted: u64, a: u64, n: u64) -> bool
+    requires { ⌜ (wanted < 64) × (0 < n) ⌝ }
+    ensures { λ q. ⌜ q ≡ grantsWhole (regionsOf (now (rs .entry))) (now (ns .entry)) wanted a n ⌝ }
+{
+    let last = wrapping_add_u64(a, n - 1);
+    let mut i = 0;
+    while i < ns.len() {
+        let r = region_at(rs, ns[i]);
+        if has_whole(r, wanted, a, last) {
+            return true;
+        }
+        if touches(r, last, n) {
+            return false;
+        }
+        i += 1;
+    }
+    false
 }
 
 // A bound that keeps its rule is at most 2^48, so a value of rs1 from here on lies past it, whatever the immediate. Of a value
@@ -45,13 +128,13 @@ fn first_refused_explicit(mode: u64, r: Region, wanted: u64, operand: u64, imm: 
     ensures { λ q. ⌜ q ≡ explicitRefused mode r wanted (offset operand imm) n ⌝ }
 {
     let ok = (explicit_rule(r) & permits(wanted, r)) & (operand < FAR);
-    let sum = std::num::wrapping_add_u64(operand, imm);
+    let sum = wrapping_add_u64(operand, imm);
     let mut i: u64 = 0;
     loop {
         if n <= i {
             break i;
         }
-        if !((mode == 0) | (ok & (std::num::wrapping_add_u64(sum, i) < r.bound))) {
+        if !((mode == 0) | (ok & (wrapping_add_u64(sum, i) < r.bound))) {
             break i;
         }
         i += 1;
@@ -67,7 +150,7 @@ fn first_absent(len: u64, a: u64, n: u64) -> u64
         if n <= i {
             break i;
         }
-        if len <= std::num::wrapping_add_u64(a, i) {
+        if len <= wrapping_add_u64(a, i) {
             break i;
         }
         i += 1;
@@ -80,68 +163,94 @@ fn presence(len: u64, a: u64, n: u64) -> Verdict
 {
     let i = first_absent(len, a, n);
     if i < n {
-        Verdict::Absent(std::num::wrapping_add_u64(a, i))
+        Verdict::Absent(wrapping_add_u64(a, i))
     } else {
         Verdict::Passed
     }
 }
 
-// The verdict on an access that the implicit region `number` decides.
-fn check_implicit(
+// The verdict on an access, byte by byte.
+fn check_bytes(
     mode: u64,
-    rs: [Region; REGIONS],
-    number: u64,
-    wanted: u64,
-    len: u64,
-    a: u64,
-    n: u64,
-) -> Verdict
-    requires { ⌜ (0 < number) × (number ≤ lastRegion) × (wanted < 64) ⌝ }
-    ensures { λ q. ⌜ q ≡ verdict mode len (implicitAccess rs (number ∷ []) wanted a n) ⌝ }
-{
-    let r = rs[(number - 1) as usize];
-    let i = first_refused_implicit(mode, r, wanted, a, n);
-    if i < n {
-        let at = std::num::wrapping_add_u64(a, i);
-        let region = if matches(r, at) { number } else { 0 };
-        return Verdict::Refused(at, region);
-    }
-    presence(len, a, n)
-}
-
-// Questions 5 and 6 of the four bytes at `pc`.
-pub fn check_fetch(mode: u64, rs: [Region; REGIONS], len: u64, pc: u64) -> Verdict
-    ensures { λ q. ⌜ q ≡ verdict mode len (fetchAccess rs pc) ⌝ }
-{
-    check_implicit(mode, rs, 3, EXECUTE, len, pc, 4)
-}
-
-// Questions 10 and 11 of an ordinary load or store.
-pub fn check_data(
-    mode: u64,
-    rs: [Region; REGIONS],
+    rs: &[u64; REGION_NUMBERS],
+    ns: &[u64],
     wanted: u64,
     len: u64,
     a: u64,
     n: u64,
 ) -> Verdict
     requires { ⌜ wanted < 64 ⌝ }
-    ensures { λ q. ⌜ q ≡ verdict mode len (dataAccess rs wanted a n) ⌝ }
+    ensures { λ q. ⌜ q ≡ verdict mode len (implicitAccess (regionsOf (now (rs .entry))) (now (ns .entry)) wanted a n) ⌝ }
 {
-    check_implicit(mode, rs, 2, wanted, len, a, n)
+    let i = first_refused_implicit(mode, rs, ns, wanted, a, n);
+    if i < n {
+        let at = wrapping_add_u64(a, i);
+        return Verdict::Refused(at, first_match(rs, ns, at));
+    }
+    presence(len, a, n)
+}
+
+// Is no byte refused, as the mode or one region tells?
+fn passes_whole(
+    mode: u64,
+    rs: &[u64; REGION_NUMBERS],
+    ns: &[u64],
+    wanted: u64,
+    a: u64,
+    n: u64,
+) -> bool
+    requires { ⌜ (wanted < 64) × (0 < n) ⌝ }
+    ensures { λ q. ⌜ q ≡ passesWhole mode (regionsOf (now (rs .entry))) (now (ns .entry)) wanted a n ⌝ }
+{
+    if mode == 0 {
+        true
+    } else {
+        grants_whole(rs, ns, wanted, a, n)
+    }
+}
+
+// Questions 5 and 6 of the four bytes at `pc`.
+pub fn check_fetch(mode: u64, rs: &[u64; REGION_NUMBERS], len: u64, pc: u64) -> Verdict
+    ensures { λ q. ⌜ q ≡ verdict mode len (fetchAccess (regionsOf (now (rs .entry))) pc) ⌝ }
+{
+    if passes_whole(mode, rs, &CODE_REGIONS, EXECUTE, pc, 4) {
+        presence(len, pc, 4)
+    } else {
+        check_bytes(mode, rs, &CODE_REGIONS, EXECUTE, len, pc, 4)
+    }
+}
+
+// Questions 10 and 11 of an ordinary load or store.
+pub fn check_data(
+    mode: u64,
+    rs: &[u64; REGION_NUMBERS],
+    wanted: u64,
+    len: u64,
+    a: u64,
+    n: u64,
+) -> Verdict
+    requires { ⌜ (wanted < 64) × (0 < n) × (n ≤ 8) ⌝ }
+    ensures { λ q. ⌜ q ≡ verdict mode len (dataAccess (regionsOf (now (rs .entry))) wanted a n) ⌝ }
+{
+    if passes_whole(mode, rs, &DATA_REGIONS, wanted, a, n) {
+        presence(len, a, n)
+    } else {
+        check_bytes(mode, rs, &DATA_REGIONS, wanted, len, a, n)
+    }
 }
 
 // The address of the first byte of an h-load or h-store.
-pub fn explicit_address(rs: [Region; REGIONS], operand: u64, imm: u64) -> u64
-    ensures { λ q. ⌜ q ≡ explicitFirst rs (offset operand imm) ⌝ }
+pub fn explicit_address(r: Region, operand: u64, imm: u64) -> u64
+    ensures { λ q. ⌜ q ≡ explicitFirst r (offset operand imm) ⌝ }
 {
-    std::num::wrapping_add_u64(rs[0].base, std::num::wrapping_add_u64(operand, imm))
+    wrapping_add_u64(r.base, wrapping_add_u64(operand, imm))
 }
 
-// Questions 10 and 11 of an h-load or h-store.
+// Questions 10 and 11 of an h-load or h-store, of which region `number` decides.
 pub fn check_explicit(
     mode: u64,
-    rs: [Region; REGIONS],
+    rs: &[u64; REGION_NUMBERS],
+    number: u64,
     wanted: u64,
     len: u64,
     operand: u64,
@@ -149,13 +258,13 @@ pub fn check_explicit(
     n: u64,
 ) -> Verdict
     requires { ⌜ (wanted < 64) × (fitsSigned 12 imm ≡ true) × (n ≤ 8) ⌝ }
-    ensures { λ q. ⌜ q ≡ verdict mode len (explicitAccess rs 1 wanted (offset operand imm) n) ⌝ }
+    ensures { λ q. ⌜ q ≡ verdict mode len (explicitAccess (regionsOf (now (rs .entry))) number wanted (offset operand imm) n) ⌝ }
 {
-    let r = rs[0];
+    let r = region_at(rs, number);
     let i = first_refused_explicit(mode, r, wanted, operand, imm, n);
-    let a = explicit_address(rs, operand, imm);
+    let a = explicit_address(r, operand, imm);
     if i < n {
-        return Verdict::Refused(std::num::wrapping_add_u64(a, i), 1);
+        return Verdict::Refused(wrapping_add_u64(a, i), number);
     }
     presence(len, a, n)
 }

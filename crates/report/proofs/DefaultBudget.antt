@@ -10,12 +10,13 @@ use borrow.Author.Tests.{eqb-true, le-leb, lt-leb}
 use Rattle.text.specs.Ascii.{ascii}
 use Rattle.text.specs.Scan.{newline, comma, firstThat, count}
 use Rattle.text.specs.Number.{digits}
-use Rattle.text.specs.Split.{lines, fields}
+use Rattle.text.specs.Split.{lines}
 use Rattle.text.proofs.Scanning.{count-append}
 use Rattle.text.proofs.Splitting.{lines-some}
 use Rattle.model.specs.Run.{runCall}
-use Rattle.setup.specs.Setup.{budgetField, machineOf}
-use Rattle.setup.proofs.DefaultBudget.{default-alike, budgetOf, budget-is, budget-fits}
+use Rattle.setup.specs.Setup.{machineOf}
+use Rattle.setup.proofs.Fields.{lastField}
+use Rattle.setup.proofs.DefaultBudget.{default-alike, budgetOf, budget-is, count-passes}
 use Rattle.sheet.specs.Words.{memoryOf, blank}
 use Rattle.sheet.specs.Sheet.{sheetRefusal, readSheet, refusalText}
 use Rattle.sheet.proofs.Laws.{file-whole}
@@ -25,7 +26,7 @@ use Rattle.report.specs.Report.{resultText, reportOver, report}
 use Rattle.report.proofs.LineNumbers.{refusal-printed}
 
 -- sheets that are read alike have one answer
-alike-printed : (s t : List ℕ) → SheetsAlike s t → report s ≡ report t
+pub alike-printed : (s t : List ℕ) → SheetsAlike s t → report s ≡ report t
 unfolding report reportOver
 alike-printed s t e = by (eqb (sheetRefusal s .question) 0) refl
   where
@@ -39,7 +40,7 @@ alike-printed s t e = by (eqb (sheetRefusal s .question) 0) refl
 abbrev pub withBudget : List ℕ → List ℕ → List ℕ → List ℕ
 withBudget before budget after = before ++ ascii "," ++ budget ++ ascii "\n" ++ after
 
-parts : (before budget after : List ℕ) → withBudget before budget after ≡ sheetOf (before ++ (comma ∷ budget)) after
+pub parts : (before budget after : List ℕ) → withBudget before budget after ≡ sheetOf (before ++ (comma ∷ budget)) after
 parts before budget after =
     append-assoc (before ++ (comma ∷ []) ++ budget) (newline ∷ []) after ∙ ap (λ l. sheetOf l after) (append-assoc before (comma ∷ []) budget)
 
@@ -51,7 +52,7 @@ unbroken before h = (omega (arith, count-append newline before (comma ∷ [])), 
 -- no foreign byte is written
 own-alike : (before : List ℕ) → allOwn (before ++ (comma ∷ [])) ≡ allOwn (before ++ (comma ∷ ascii "c350"))
 unfolding firstThat
-own-alike before = own-append before (comma ∷ []) refl ∙ sym (own-append before (comma ∷ ascii "c350") refl)
+own-alike before = own-append before (comma ∷ []) ∙ sym (own-append before (comma ∷ ascii "c350"))
 
 -- Job 4's theorem: a sheet with an empty budget has the answer of the same sheet with c350 written there, whatever else stands in it, refused
 -- sheets included. `before` has no 0a, so that the budget stands in line 1; and there is room for the four digits.
@@ -80,10 +81,10 @@ no-room s h =
 
 -- every sheet that is not refused is run with the budget that the last field of its line 1 says, and 50,000 where that is empty
 pub budget-run : (s : List ℕ) → sheetRefusal s .question ≡ 0
-    → let budget = budgetOf (getD (fields (getD (lines s) 0 [])) budgetField []) in
+    → let budget = budgetOf (lastField (getD (lines s) 0 [])) in
     report s ≡ resultText (runCall (machineOf (readSheet s .setup)) (memoryOf blank (readSheet s .words)) budget .result)
 unfolding report reportOver
 budget-run s z =
     let p = passed-lines s z in
     let some : 0 < length (lines s) = lines-some s (file-whole s (p .0) .0) in
-    rw (z, sym (budget-is (getD (lines s) 0 []) (budget-fits (getD (lines s) 0 []) (p .1 0 some) .0)))
+    rw (z, sym (budget-is (getD (lines s) 0 []) (count-passes (getD (lines s) 0 []) (p .1 0 some))))

@@ -3,3 +3,4 @@ pub mod Results
 pub mod Cases
 pub mod LineNumbers
 pub mod DefaultBudget
+pub mod Forms

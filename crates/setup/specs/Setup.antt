@@ -1,61 +1,74 @@
--- Line 1 of a sheet: "pc, options, handler, then base, bound or mask, permission for regions 1, 2, 3, then budget", and the machine
--- that a run of the sheet starts from (01, The run sheet).
+-- Line 1 of a sheet: "pc, options, handler, then base, bound or mask, permission for regions 1, 2, 3, then budget" (01, The run sheet),
+-- or for all ten (02, Job 7); and the machine that a run of the sheet starts from.
 -- Setup and ReadSetup are declared in src/lib.rt, Region and Machine in model/src/lib.rt, Row in text/specs/Split.antt. Assumes nothing.
-use mathlib.Core.Bool.{Bool, true, cond, _&&_}
-use mathlib.Core.List.{List, [], _∷_}
-use Prim.Native.Nat.{ℕ, zero, suc, _+_, _-_, _*_}
+use mathlib.Core.Bool.{Bool, true, cond, _&&_, _||_}
+use mathlib.Core.List.{List, [], _∷_, _++_}
+use Prim.Native.Nat.{ℕ, _+_, _-_, _*_}
 use lib.Dec.{eqb, leb}
 use lib.ListN.{getD, take, replicate}
-use Rattle.text.specs.Split.{Row, allWide}
+use Rattle.text.specs.Split.{Row, rowOf, allWide}
 use Rattle.text.specs.Questions.{firstNo}
-use Rattle.model.specs.Machine.{lastRegion}
+use Rattle.model.specs.Machine.{lastRegion, noRegion, regionsFrom}
 use Rattle.model.specs.declared.Region.{Region}
 use Rattle.model.specs.declared.Machine.{Machine}
 use Rattle.setup.specs.declared.Setup.{Setup}
 use Rattle.setup.specs.declared.ReadSetup.{ReadSetup}
 
--- pc, options, handler and the budget, which stands last, and three fields for each region
-abbrev pub setupFields : ℕ
-setupFields = 4 + 3 * lastRegion
+-- ---- a line that gives n regions: pc, options, handler, three fields for each region, then the budget
 
-abbrev pub budgetField : ℕ
-budgetField = setupFields - 1
+abbrev pub budgetField : ℕ → ℕ
+budgetField n = 3 + 3 * n
 
--- n regions, whose fields begin at field k
-abbrev pub regionsFrom : List ℕ → ℕ → ℕ → List Region
-regionsFrom vs k zero = []
-regionsFrom vs k (suc n) =
-    record { base = getD vs k 0; bound = getD vs (k + 1) 0; permission = getD vs (k + 2) 0 } ∷ regionsFrom vs (k + 3) n
+abbrev pub setupFields : ℕ → ℕ
+setupFields n = 4 + 3 * n
+
+-- "A setup line has 13 fields, the other regions then being zero, or 34, with regions 1 to 10 in order and the budget last." (02, Job 7):
+-- it gives three regions, or all
+abbrev pub fewRegions : ℕ
+fewRegions = 3
+
+abbrev pub regionsGiven : ℕ → ℕ
+regionsGiven count = cond (eqb count (setupFields fewRegions)) fewRegions lastRegion
+
+abbrev pub counted : ℕ → Bool
+counted count = eqb count (setupFields fewRegions) || eqb count (setupFields lastRegion)
+
+-- line 1 in slots, which the 34 fields fill
+abbrev pub setupRow : List ℕ → Row
+setupRow line = rowOf (setupFields lastRegion) line
 
 -- "An empty budget now means 50,000." (02, Job 4)
 abbrev pub defaultBudget : ℕ
 defaultBudget = 50000
 
-abbrev pub setupOf : Row → Setup
-setupOf r =
+-- the values of a row that gives n regions
+abbrev pub setupOf : ℕ → Row → Setup
+setupOf n r =
     record {
       pc = getD (r .values) 0 0;
       options = getD (r .values) 1 0;
       handler = getD (r .values) 2 0;
-      regions = regionsFrom (r .values) 3 lastRegion;
-      budget = cond (eqb (getD (r .widths) budgetField 0) 0) defaultBudget (getD (r .values) budgetField 0);
+      regions = regionsFrom (r .values) 3 n ++ replicate (lastRegion - n) noRegion;
+      budget = cond (eqb (getD (r .widths) (budgetField n) 0) 0) defaultBudget (getD (r .values) (budgetField n) 0);
     }
 
 unfoldable pub permissionsInRange : List Region → Bool
 permissionsInRange [] = true
 permissionsInRange (r ∷ rs) = leb (r .permission) 0xff && permissionsInRange rs
 
--- "32: are there 13 fields (line 1) or 2? 33: has each field 1 to 16 digits (an empty budget passes)? 34: are options and
--- permissions at most ff, budget and words at most ffffffff"
-abbrev pub setupQuestions : Row → Setup → List (Bool × ℕ)
-setupQuestions r s =
-    ((eqb (r .count) setupFields, 32)
-    ∷ (allWide (take budgetField (r .widths)) && leb (getD (r .widths) budgetField 0) 16, 33)
+-- "32: are there 13 fields (line 1) or 2?", and "32 lets 34 pass" (02, Job 7); "33: has each field 1 to 16 digits (an empty budget
+-- passes)? 34: are options and permissions at most ff, budget and words at most ffffffff"
+abbrev pub setupQuestions : ℕ → Row → Setup → List (Bool × ℕ)
+setupQuestions n r s =
+    ((counted (r .count), 32)
+    ∷ (allWide (take (budgetField n) (r .widths)) && leb (getD (r .widths) (budgetField n) 0) 16, 33)
     ∷ (leb (s .options) 0xff && (permissionsInRange (s .regions) && leb (s .budget) 0xffffffff), 34)
     ∷ [])
 
 unfoldable pub readSetup : Row → ReadSetup
-readSetup r = record { question = firstNo (setupQuestions r (setupOf r)); setup = setupOf r }
+readSetup r =
+    let n = regionsGiven (r .count) in
+    record { question = firstNo (setupQuestions n r (setupOf n r)); setup = setupOf n r }
 
 -- "mode starts at 1, all else at 0"
 abbrev pub machineOf : Setup → Machine

@@ -1,10 +1,10 @@
 // Line 1 of a sheet: its values, questions 32 to 34 of it, and the machine that a run of the sheet starts from.
 ghost use mathlib.Core.Path.{_≡_};
-ghost use Prim.Native.Nat.{_+_, _*_, _≤_};
-ghost use lib.ListN.{length};
-ghost use Rattle.text.specs.Split.{rowOf};
-ghost use Rattle.model.specs.Machine.{lastRegion};
-ghost use Rattle.setup.specs.Setup.{setupFields, regionsFrom, permissionsInRange, readSetup, machineOf};
+ghost use mathlib.Core.List.{_++_};
+ghost use Prim.Native.Nat.{_+_, _-_, _*_, _≤_};
+ghost use lib.ListN.{length, replicate};
+ghost use Rattle.model.specs.Machine.{lastRegion, noRegion, regionsFrom};
+ghost use Rattle.setup.specs.Setup.{regionsGiven, permissionsInRange, setupRow, readSetup, machineOf};
 use model::Fault;
 use model::HfiState;
 use model::Machine;
@@ -14,10 +14,13 @@ use text::ask;
 use text::row::all_wide;
 use text::row::read_row;
 
-// The fields of line 1: pc, options, handler, three for each region, and the budget.
-const SETUP_FIELDS: usize = 4 + 3 * REGIONS;
+// The regions that a short line 1 gives; a long one gives all.
+const FEW_REGIONS: usize = 3;
 
-const BUDGET_FIELD: usize = SETUP_FIELDS - 1;
+// The fields of a short and of a long line 1: pc, options, handler, three for each region, and the budget.
+const SHORT_FORM: usize = 4 + 3 * FEW_REGIONS;
+
+const LONG_FORM: usize = 4 + 3 * REGIONS;
 
 // What an empty budget means.
 const DEFAULT_BUDGET: u64 = 50000;
@@ -37,10 +40,22 @@ pub struct ReadSetup {
     pub setup: Setup,
 }
 
-// The regions, whose fields begin at field `first`.
-pub fn regions_from(values: &[u64], first: usize) -> [Region; REGIONS]
-    requires { ⌜ first + 3 * lastRegion ≤ length (now values) ⌝ }
-    ensures { λ r. ⌜ r ≡ regionsFrom (now (values .entry)) first lastRegion ⌝ }
+// How many regions a line of so many fields gives.
+fn regions_given(count: usize) -> usize
+    ensures { λ r. ⌜ r ≡ regionsGiven count ⌝ }
+    ensures { λ r. ⌜ r ≤ lastRegion ⌝ }
+{
+    if count == SHORT_FORM {
+        FEW_REGIONS
+    } else {
+        REGIONS
+    }
+}
+
+// The regions, of which the first n are in the values from place `first` on; the others are zero.
+pub fn regions_from(values: &[u64], first: usize, n: usize) -> [Region; REGIONS]
+    requires { ⌜ (n ≤ lastRegion) × (first + 3 * n ≤ length (now values)) ⌝ }
+    ensures { λ r. ⌜ r ≡ regionsFrom (now (values .entry)) first n ++ replicate (lastRegion - n) noRegion ⌝ }
 {
     let none = Region {
         base: 0,
@@ -49,7 +64,7 @@ pub fn regions_from(values: &[u64], first: usize) -> [Region; REGIONS]
     };
     let mut regions = [none; REGIONS];
     let mut i = 0;
-    while i < REGIONS {
+    while i < n {
         let k = first + 3 * i;
         regions[i] = Region {
             base: values[k],
@@ -78,18 +93,17 @@ fn permissions_in_range(rs: [Region; REGIONS]) -> bool
 
 // The line is taken apart once. Every test is worked out, and the first no is picked from the answers.
 pub fn read_setup(line: &[u8]) -> ReadSetup
-    ensures { λ r. ⌜ r ≡ readSetup (rowOf setupFields (now (line .entry))) ⌝ }
+    ensures { λ r. ⌜ r ≡ readSetup (setupRow (now (line .entry))) ⌝ }
 {
-    let mut values = [0u64; SETUP_FIELDS];
-    let mut widths = [0u64; SETUP_FIELDS];
+    let mut values = [0u64; LONG_FORM];
+    let mut widths = [0u64; LONG_FORM];
     let count = read_row(line, &mut values, &mut widths);
-    let regions = regions_from(&values, 3);
-    let budget = ask(
-        widths[BUDGET_FIELD] == 0,
-        values[BUDGET_FIELD],
-        DEFAULT_BUDGET,
-    );
-    let wide = all_wide(&widths[..BUDGET_FIELD]) & (widths[BUDGET_FIELD] <= 16);
+    let n = regions_given(count);
+    let last = 3 + 3 * n;
+    let regions = regions_from(&values, 3, n);
+    let budget = ask(widths[last] == 0, values[last], DEFAULT_BUDGET);
+    let wide = all_wide(&widths[..last]) & (widths[last] <= 16);
+    let counted = (count == SHORT_FORM) | (count == LONG_FORM);
     let range = (values[1] <= 0xff) & (permissions_in_range(regions) & (budget <= 0xffffffff));
     let setup = Setup {
         pc: values[0],
@@ -99,7 +113,7 @@ pub fn read_setup(line: &[u8]) -> ReadSetup
         budget,
     };
     ReadSetup {
-        question: ask(count == SETUP_FIELDS, 32, ask(wide, 33, ask(range, 34, 0))),
+        question: ask(counted, 32, ask(wide, 33, ask(range, 34, 0))),
         setup,
     }
 }

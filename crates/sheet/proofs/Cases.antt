@@ -64,10 +64,19 @@ rows =
     ∷ row (ascii "0,5,100,200,10,3,0,0,0,0,0,4,a,\n") 32 1
     -- an empty budget, leading zeros: accepted
     ∷ row (ascii "0,00000000000000ff,100,200,10,3,0,0,0,0,0,4,\n") 0 0
+    -- 34 fields, ten regions, the budget empty: accepted
+    ∷ row (ascii "0,5,100,200,10,3,0,0,0,0,0,4,41,42,43,51,52,53,61,62,63,71,72,73,81,82,83,91,92,93,a1,a2,a3,\n") 0 0
+    -- 33 fields
+    ∷ row (ascii "0,5,100,200,10,3,0,0,0,0,0,4,41,42,43,51,52,53,61,62,63,71,72,73,81,82,83,91,92,93,a1,a2,a3\n") 32 1
+    -- an empty field of region 10, and its permission above ff
+    ∷ row (ascii "0,5,100,200,10,3,0,0,0,0,0,4,41,42,43,51,52,53,61,62,63,71,72,73,81,82,83,91,92,93,a1,,a3,\n") 33 1
+    ∷ row (ascii "0,5,100,200,10,3,0,0,0,0,0,4,41,42,43,51,52,53,61,62,63,71,72,73,81,82,83,91,92,93,a1,a2,100,\n") 34 1
     -- the worked example's line 1 alone: accepted
     ∷ row lineOne 0 0
     -- document 01's example sheet,33,2
     ∷ row (lineOne ++ ascii "0,\n") 33 2
+    -- a second line of 34 fields
+    ∷ row (lineOne ++ ascii "0,5,100,200,10,3,0,0,0,0,0,4,0,0,0,0,0,0,0,0,0,0,0,0,0,0,0,0,0,0,0,0,0,a\n") 32 2
     -- an empty address
     ∷ row (lineOne ++ ascii ",1\n") 33 2
     -- a blank last line

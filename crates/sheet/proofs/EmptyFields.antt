@@ -3,7 +3,7 @@
 use mathlib.Core.Path.{_≡_, refl}
 use mathlib.Core.Bool.{true}
 use mathlib.Core.List.{List, []}
-use Prim.Native.Nat.{ℕ, suc, _<_}
+use Prim.Native.Nat.{ℕ, suc, _-_, _<_}
 use native.Mathlib.Omega.{arith}
 use lib.ListN.{length, getD, take}
 use lib.Seq.{take-all}
@@ -12,7 +12,6 @@ use Rattle.text.specs.Split.{lines, fields, rowOf, wide}
 use Rattle.text.proofs.Asking.{yes-at}
 use Rattle.text.proofs.Rows.{row-widths, row-wide}
 use Rattle.text.proofs.Splitting.{lines-some}
-use Rattle.setup.specs.Setup.{budgetField}
 use Rattle.setup.proofs.DefaultBudget.{others-wide}
 use Rattle.sheet.specs.Words.{wordOf, wordQuestions, readWord}
 use Rattle.sheet.specs.Sheet.{sheetRefusal}
@@ -29,7 +28,8 @@ word-wide least line i z h =
     row-wide 2 2 i line n (rw both (yes-at 1 asked refl z)) h h
 
 module _ (s : List ℕ) (z : sheetRefusal s .question ≡ 0) where
-  pub setup-wide : (i : ℕ) → i < budgetField → wide (length (getD (fields (getD (lines s) 0 [])) i [])) ≡ true
+  -- line 1, of 13 or 34 fields, whose last is the budget
+  pub setup-wide : (i : ℕ) → i < length (fields (getD (lines s) 0 [])) - 1 → wide (length (getD (fields (getD (lines s) 0 [])) i [])) ≡ true
   setup-wide i h =
       let p = passed-lines s z in
       let some : 0 < length (lines s) = lines-some s (file-whole s (p .0) .0) in

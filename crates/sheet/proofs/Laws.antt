@@ -13,7 +13,7 @@ use Rattle.text.proofs.Asking.{first-half, second-half, yes-at}
 use Rattle.text.proofs.Splitting.{line-more, line-ends, lines-none}
 use Rattle.text.proofs.LineNumbers.{number-first, start-first, start-next}
 use Rattle.model.specs.Bytes.{written}
-use Rattle.setup.specs.Setup.{setupFields, readSetup}
+use Rattle.setup.specs.Setup.{setupRow, readSetup}
 use Rattle.sheet.specs.declared.ReadWord.{ReadWord}
 use Rattle.sheet.specs.Words.{wordOf, wordsOf, wordQuestions, readWord, memoryOf}
 use Rattle.sheet.specs.Sheet.{refusal, whole, foreign, foreignLine, fileQuestions, fileNo, fileRefusal, wordsRefusal, linesRefusal, sheetRefusal}
@@ -115,11 +115,11 @@ module _ (s line : List ℕ) (h : fileNo s ≡ 0) (e : line ≡ getD (lines s) 0
   unfolding sheetRefusal
   refused-lines = rw (eq-eqb (fileNo s) 0 h) (ap (linesRefusal s) first-line)
 
-  pub sheet-setup : (readSetup (rowOf setupFields line) .question ≡ 0 → ⊥) → sheetRefusal s ≡ refusal (readSetup (rowOf setupFields line) .question) 1
+  pub sheet-setup : (readSetup (setupRow line) .question ≡ 0 → ⊥) → sheetRefusal s ≡ refusal (readSetup (setupRow line) .question) 1
   unfolding linesRefusal
   sheet-setup j = refused-lines ∙ rw (ne-eqb _ 0 j, number-first s)
 
-  pub sheet-words : readSetup (rowOf setupFields line) .question ≡ 0
+  pub sheet-words : readSetup (setupRow line) .question ≡ 0
       → sheetRefusal s ≡ wordsRefusal s (length line + 1) 0 (lines (drop (length line + 1) s))
   unfolding linesRefusal
   sheet-words j = refused-lines ∙ rw (eq-eqb _ 0 j)

@@ -15,7 +15,7 @@ use Rattle.text.specs.Split.{lines, rowOf}
 use Rattle.text.proofs.Scanning.{first-is, first-le, first-before}
 use Rattle.text.proofs.Splitting.{line-more, line-ends, lines-none}
 use Rattle.text.proofs.LineNumbers.{LineAt, line-there, lines-from, line-end, number-within, start-first, start-next}
-use Rattle.setup.specs.Setup.{setupFields, readSetup}
+use Rattle.setup.specs.Setup.{setupRow, readSetup}
 use Rattle.sheet.specs.declared.Refusal.{Refusal}
 use Rattle.sheet.specs.Words.{wordOf, readWord}
 use Rattle.sheet.specs.Sheet.{refusal, whole, foreign, fileNo, fileRefusal, wordsRefusal, sheetRefusal}
@@ -28,7 +28,7 @@ leastAt ls (suc j) = wordOf (rowOf 2 (getD ls (suc j) [])) .address + 1
 
 -- the question of 32 to 35 that line k + 1 fails first, 0 where it fails none
 abbrev pub lineQuestion : List (List ℕ) → ℕ → ℕ
-lineQuestion ls zero = readSetup (rowOf setupFields (getD ls 0 [])) .question
+lineQuestion ls zero = readSetup (setupRow (getD ls 0 [])) .question
 lineQuestion ls (suc j) = readWord (leastAt ls j) (rowOf 2 (getD ls (suc j) [])) .question
 
 -- the first k lines pass
@@ -222,12 +222,12 @@ words-decided s at j least (l ∷ ls) e passes b m f =
         )
 
 pub lines-decided : (s : List ℕ) → fileNo s ≡ 0 → Decided s (sheetRefusal s)
-lines-decided s f = by (eqb (readSetup (rowOf setupFields line) .question) 0) refl
+lines-decided s f = by (eqb (readSetup (setupRow line) .question) 0) refl
   where
     line : List ℕ
     line = getD (lines s) 0 []
 
-    by : (t : Bool) → eqb (readSetup (rowOf setupFields line) .question) 0 ≡ t → Decided s (sheetRefusal s)
+    by : (t : Bool) → eqb (readSetup (setupRow line) .question) 0 ≡ t → Decided s (sheetRefusal s)
     by true e =
         let passed : lineQuestion (lines s) 0 ≡ 0 = eqb-true _ 0 e in
         let only : Passed (lines s) 1 = λ i h. let n : i ≡ 0 = omega arith in ap (lineQuestion (lines s)) n ∙ passed in

@@ -1,6 +1,6 @@
 -- Two sheets that are the same after line 1: where their lines 1 are refused and read alike, so are they.
 use mathlib.Core.Path.{_≡_, refl, ap, sym, _∙_}
-use mathlib.Core.Bool.{Bool, true, false, cond}
+use mathlib.Core.Bool.{Bool, true, false, cond, _&&_}
 use mathlib.Core.List.{List, [], _∷_, _++_}
 use Prim.Native.Nat.{ℕ, suc, _+_, _-_, _<_, _≤_}
 use native.Mathlib.Omega.{arith}
@@ -13,7 +13,7 @@ use Rattle.text.specs.Split.{lines, rowOf}
 use Rattle.text.proofs.Scanning.{first-le, first-in, first-past}
 use Rattle.text.proofs.LineNumbers.{number-inside, number-after}
 use Rattle.text.proofs.RoundTrip.{line-then}
-use Rattle.setup.specs.Setup.{setupFields, readSetup}
+use Rattle.setup.specs.Setup.{setupRow, readSetup}
 use Rattle.setup.proofs.DefaultBudget.{ReadAlike}
 use Rattle.sheet.specs.Words.{readWord}
 use Rattle.sheet.specs.Sheet.{whole, foreign, foreignLine, fileNo, fileRefusal, wordsRefusal, linesRefusal, sheetRefusal, readSheet}
@@ -28,27 +28,26 @@ sheetOf line rest = line ++ (newline ∷ rest)
 abbrev pub allOwn : List ℕ → Bool
 allOwn s = eqb (firstThat foreign s) (length s)
 
--- a text without foreign bytes, put after another, changes nothing
-pub own-append : (s t : List ℕ) → allOwn t ≡ true → allOwn (s ++ t) ≡ allOwn s
-own-append s t e = by (allOwn s) refl
+-- two tests that say the same
+eqb-same : (a b p q : ℕ) → (p ≡ q → a ≡ b) → (a ≡ b → p ≡ q) → eqb a b ≡ eqb p q
+eqb-same a b p q f g = by (eqb p q) refl
   where
-    by : (u : Bool) → allOwn s ≡ u → allOwn (s ++ t) ≡ u
+    by : (t : Bool) → eqb p q ≡ t → eqb a b ≡ t
+    by true e = eq-eqb a b (f (eqb-true p q e))
+    by false e = ne-eqb a b (λ z. eqb-false p q e (g z))
+
+pub own-append : (s t : List ℕ) → allOwn (s ++ t) ≡ allOwn s && allOwn t
+own-append s t = by (allOwn s) refl
+  where
+    by : (u : Bool) → allOwn s ≡ u → allOwn (s ++ t) ≡ u && allOwn t
     by true f =
         let past = first-past foreign s t (eqb-true (firstThat foreign s) (length s) f) in
-        let end : firstThat foreign t ≡ length t = eqb-true (firstThat foreign t) (length t) e in
-        eq-eqb (firstThat foreign (s ++ t)) (length (s ++ t)) (past ∙ ap (λ n. length s + n) end ∙ sym (length-append s t))
+        rw (past, length-append s t)
+        (eqb-same (length s + firstThat foreign t) (length s + length t) (firstThat foreign t) (length t) (λ z. omega (arith, z)) (λ z. omega (arith, z)))
     by false f =
         let off = eqb-false (firstThat foreign s) (length s) f in
         let inside : firstThat foreign s < length s = omega (arith, off, first-le foreign s) in
         ne-eqb (firstThat foreign (s ++ t)) (length (s ++ t)) (λ z. omega (arith, z, first-in foreign s t inside, length-append s t))
-
--- two positions past line 1 are equal exactly if their places in the rest are
-eqb-after : (k p q : ℕ) → eqb (k + suc p) (k + suc q) ≡ eqb p q
-eqb-after k p q = by (eqb p q) refl
-  where
-    by : (t : Bool) → eqb p q ≡ t → eqb (k + suc p) (k + suc q) ≡ t
-    by true e = eq-eqb (k + suc p) (k + suc q) (ap (λ n. k + suc n) (eqb-true p q e))
-    by false e = ne-eqb (k + suc p) (k + suc q) (λ z. eqb-false p q e (omega (arith, z)))
 
 module _ (line rest : List ℕ) where
   long : length (sheetOf line rest) ≡ length line + suc (length rest)
@@ -76,7 +75,10 @@ module _ (line rest : List ℕ) where
           → foreignLine (sheetOf line rest) ≡ cond t (cond (allOwn rest) 0 (lineNumber rest (firstThat foreign rest) + 1)) 1
       by true e =
           let past = first-past foreign line (newline ∷ rest) (eqb-true (firstThat foreign line) (length line) e) in
-          rw (past, long, number-after line rest h (firstThat foreign rest), eqb-after (length line) (firstThat foreign rest) (length rest))
+          let first = firstThat foreign rest in
+          let test : eqb (length line + suc first) (length line + suc (length rest)) ≡ allOwn rest =
+          eqb-same (length line + suc first) (length line + suc (length rest)) first (length rest) (λ z. omega (arith, z)) (λ z. omega (arith, z)) in
+          rw (past, long, number-after line rest h first, test)
       by false e =
           let off = eqb-false (firstThat foreign line) (length line) e in
           let inside : firstThat foreign line < length line = omega (arith, off, first-le foreign line) in
@@ -121,7 +123,7 @@ SheetsAlike s t =
     × (sheetRefusal s .question ≡ 0 → (readSheet s .setup ≡ readSheet t .setup) × (readSheet s .words ≡ readSheet t .words))
 
 module _ (l m rest : List ℕ) (h : count newline l ≡ 0) (k : count newline m ≡ 0) where
-  lines-refused : readSetup (rowOf setupFields l) .question ≡ readSetup (rowOf setupFields m) .question
+  lines-refused : readSetup (setupRow l) .question ≡ readSetup (setupRow m) .question
       → linesRefusal (sheetOf l rest) (l ∷ lines rest) ≡ linesRefusal (sheetOf m rest) (m ∷ lines rest)
   unfolding linesRefusal
   lines-refused e =
@@ -134,7 +136,7 @@ module _ (l m rest : List ℕ) (h : count newline l ≡ 0) (k : count newline m 
           rw (i, j) (number-after l rest h p ∙ sym (number-after m rest k p))
 
   refused-alike : length (sheetOf l rest) ≤ 65536 → length (sheetOf m rest) ≤ 65536 → allOwn l ≡ allOwn m
-      → readSetup (rowOf setupFields l) .question ≡ readSetup (rowOf setupFields m) .question
+      → readSetup (setupRow l) .question ≡ readSetup (setupRow m) .question
       → sheetRefusal (sheetOf l rest) ≡ sheetRefusal (sheetOf m rest)
   unfolding sheetRefusal
   refused-alike f g o e =
@@ -144,13 +146,13 @@ module _ (l m rest : List ℕ) (h : count newline l ≡ 0) (k : count newline m 
       rw (line-then l rest h, line-then m rest k, lines-refused e, file, ap (λ r. r .question) file)
 
   -- line 1 of a sheet that is not refused passes
-  setup-passed : sheetRefusal (sheetOf l rest) .question ≡ 0 → readSetup (rowOf setupFields l) .question ≡ 0
+  setup-passed : sheetRefusal (sheetOf l rest) .question ≡ 0 → readSetup (setupRow l) .question ≡ 0
   setup-passed z =
       let passed = rw (line-then l rest h) at (passed-lines (sheetOf l rest) z .1) in
       passed 0 (omega arith)
 
   pub line-one-alike : length (sheetOf l rest) ≤ 65536 → length (sheetOf m rest) ≤ 65536 → allOwn l ≡ allOwn m
-      → ReadAlike (readSetup (rowOf setupFields l)) (readSetup (rowOf setupFields m)) → SheetsAlike (sheetOf l rest) (sheetOf m rest)
+      → ReadAlike (readSetup (setupRow l)) (readSetup (setupRow m)) → SheetsAlike (sheetOf l rest) (sheetOf m rest)
   line-one-alike f g o e = (
     refused-alike f g o (e .0),
     λ z. rw (line-then l rest h, line-then m rest k) (e .1 (setup-passed z), refl),

@@ -11,7 +11,7 @@ use Rattle.text.specs.Number.{isDigit, decimal}
 use Rattle.text.specs.Split.{lines, rowOf}
 use Rattle.text.specs.Questions.{firstNo}
 use Rattle.setup.specs.declared.Setup.{Setup}
-use Rattle.setup.specs.Setup.{setupFields, readSetup}
+use Rattle.setup.specs.Setup.{setupRow, readSetup}
 use Rattle.sheet.specs.declared.Refusal.{Refusal}
 use Rattle.sheet.specs.Words.{WordLine, wordsOf, readWord}
 
@@ -60,7 +60,7 @@ wordsRefusal s at least (l ∷ ls) =
 unfoldable pub linesRefusal : List ℕ → List (List ℕ) → Refusal
 linesRefusal s [] = refusal 0 0
 linesRefusal s (l ∷ ls) =
-    let h = readSetup (rowOf setupFields l) in
+    let h = readSetup (setupRow l) in
     cond (eqb (h .question) 0) (wordsRefusal s (length l + 1) 0 ls) (refusal (h .question) (lineNumber s 0))
 
 unfoldable pub sheetRefusal : List ℕ → Refusal
@@ -77,7 +77,7 @@ abbrev pub readSheet : List ℕ → Sheet
 readSheet s =
     record {
       refusal = sheetRefusal s;
-      setup = readSetup (rowOf setupFields (getD (lines s) 0 [])) .setup;
+      setup = readSetup (setupRow (getD (lines s) 0 [])) .setup;
       words = wordsOf (drop 1 (lines s));
     }
 

@@ -3,6 +3,9 @@ ghost use mathlib.Core.Path.{_≡_};
 ghost use Rattle.model.specs.Step.{stepCall, resumeCall};
 ghost use Rattle.model.specs.Outcome.{steppedWith};
 use crate::step;
+use hart::regions::numbers_of;
+use hart::state::control_of;
+use hart::state::state_of;
 use hart::well_formed::well_formed;
 use model::LONGEST;
 use model::Machine;
@@ -30,17 +33,20 @@ pub fn step_call(m: Machine, mem: &mut [u8]) -> Stepped
     if !well_formed(m) {
         return refused(3, m);
     }
-    let hfi = m.hfi;
-    if exposes_code(hfi) {
+    let h = m.hfi;
+    let hfi = control_of(h);
+    let regions = h.regions;
+    let mut rs = numbers_of(regions);
+    if exposes_code(hfi, &rs) {
         return refused(4, m);
     }
     let mut x = m.x;
-    let e = step(&mut x, m.pc, hfi, mem);
+    let e = step(&mut x, m.pc, hfi, &mut rs, mem);
     let after = e.hfi;
     let n = Machine {
         x: x,
         pc: e.pc,
-        hfi: after,
+        hfi: state_of(after, &rs),
     };
     Stepped {
         stop: e.stop,

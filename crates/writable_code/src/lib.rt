@@ -2,21 +2,24 @@
 // test is made at the edges of the regions; model/specs/WritableCode.antt says why that is enough.
 ghost use mathlib.Core.Path.{_≡_};
 ghost use mathlib.Core.Bool.{true};
-ghost use mathlib.Core.List.{[], _∷_};
-ghost use Prim.Native.Nat.{_<_, _≤_};
-ghost use Rattle.model.specs.Machine.{lastRegion};
-ghost use Rattle.model.specs.Regions.{regionKind, implicitGrants};
-ghost use Rattle.model.specs.WritableCode.{covers as isCovered, writableAt, executableAt, bothAt, keepsRule, regionEnd, edgesOf, some, writableCode, exposesCode};
+ghost use Prim.Native.Nat.{_<_};
+ghost use Rattle.model.specs.Regions.{regionKind};
+ghost use Rattle.model.specs.WritableCode.{covers as isCovered, explicitCovers, writableAt, executableAt, bothAt, keepsRule, regionEnd, edgesOf, some, writableCode, exposesCode};
+ghost use Rattle.hart.specs.State.{regionsOf, stateWith};
+use hart::regions::REGION_NUMBERS;
+use hart::regions::region_at;
+use hart::state::Control;
 use hart::state::locked;
+use memory::access::grants;
 use memory::region::explicit_rule;
 use memory::region::implicit_rule;
 use memory::region::mask_zeros;
-use memory::region::matches;
 use memory::region::permits;
+use model::CODE_REGIONS;
+use model::DATA_REGIONS;
 use model::EXECUTE;
-use model::HfiState;
+use model::EXPLICIT_REGIONS;
 use model::LAST_REGION;
-use model::REGIONS;
 use model::Region;
 use model::WRITE;
 
@@ -32,30 +35,36 @@ fn covers(wanted: u64, a: u64, r: Region) -> bool
     }
 }
 
-// Does the implicit region `number` match the byte at `a`, with the permission `wanted`?
-fn grants(rs: [Region; REGIONS], number: u64, wanted: u64, a: u64) -> bool
-    requires { ⌜ (0 < number) × (number ≤ lastRegion) × (wanted < 64) ⌝ }
-    ensures { λ q. ⌜ q ≡ implicitGrants rs (number ∷ []) wanted a ⌝ }
+// Does one of the explicit regions `ns`?
+fn explicit_covers(rs: &[u64; REGION_NUMBERS], ns: &[u64], wanted: u64, a: u64) -> bool
+    requires { ⌜ wanted < 64 ⌝ }
+    ensures { λ q. ⌜ q ≡ explicitCovers (regionsOf (now (rs .entry))) (now (ns .entry)) wanted a ⌝ }
 {
-    let r = rs[(number - 1) as usize];
-    matches(r, a) & permits(wanted, r)
+    let mut i = 0;
+    while i < ns.len() {
+        if covers(wanted, a, region_at(rs, ns[i])) {
+            return true;
+        }
+        i += 1;
+    }
+    false
 }
 
-fn writable_at(rs: [Region; REGIONS], a: u64) -> bool
-    ensures { λ q. ⌜ q ≡ writableAt rs a ⌝ }
+fn writable_at(rs: &[u64; REGION_NUMBERS], a: u64) -> bool
+    ensures { λ q. ⌜ q ≡ writableAt (regionsOf (now (rs .entry))) a ⌝ }
 {
-    grants(rs, 2, WRITE, a) | covers(WRITE, a, rs[0])
+    grants(rs, &DATA_REGIONS, WRITE, a) | explicit_covers(rs, &EXPLICIT_REGIONS, WRITE, a)
 }
 
-fn executable_at(rs: [Region; REGIONS], a: u64) -> bool
-    ensures { λ q. ⌜ q ≡ executableAt rs a ⌝ }
+fn executable_at(rs: &[u64; REGION_NUMBERS], a: u64) -> bool
+    ensures { λ q. ⌜ q ≡ executableAt (regionsOf (now (rs .entry))) a ⌝ }
 {
-    grants(rs, 3, EXECUTE, a)
+    grants(rs, &CODE_REGIONS, EXECUTE, a)
 }
 
 // Is the byte at `a` both?
-fn both_at(rs: [Region; REGIONS], a: u64) -> bool
-    ensures { λ q. ⌜ q ≡ bothAt rs a ⌝ }
+fn both_at(rs: &[u64; REGION_NUMBERS], a: u64) -> bool
+    ensures { λ q. ⌜ q ≡ bothAt (regionsOf (now (rs .entry))) a ⌝ }
 {
     if executable_at(rs, a) {
         writable_at(rs, a)
@@ -69,7 +78,7 @@ fn keeps_rule(n: u64, r: Region) -> bool
     ensures { λ q. ⌜ q ≡ keepsRule (regionKind n) r ⌝ }
 {
     match n {
-        1 => explicit_rule(r),
+        1 | 4 | 5 | 6 => explicit_rule(r),
         _ => implicit_rule(r),
     }
 }
@@ -80,14 +89,14 @@ fn region_end(n: u64, r: Region) -> u64
     ensures { λ q. ⌜ q ≡ regionEnd (regionKind n) r ⌝ }
 {
     match n {
-        1 => r.base + r.bound,
+        1 | 4 | 5 | 6 => r.base + r.bound,
         _ => r.base + (1u64 << mask_zeros(r.bound)),
     }
 }
 
 // Is a byte at an edge of region `n` both?
-fn edge_is_both(rs: [Region; REGIONS], n: u64, r: Region) -> bool
-    ensures { λ q. ⌜ q ≡ some (bothAt rs) (edgesOf (regionKind n) r) ⌝ }
+fn edge_is_both(rs: &[u64; REGION_NUMBERS], n: u64, r: Region) -> bool
+    ensures { λ q. ⌜ q ≡ some (bothAt (regionsOf (now (rs .entry)))) (edgesOf (regionKind n) r) ⌝ }
 {
     if keeps_rule(n, r) {
         both_at(rs, r.base) | both_at(rs, region_end(n, r))
@@ -97,14 +106,13 @@ fn edge_is_both(rs: [Region; REGIONS], n: u64, r: Region) -> bool
 }
 
 // Is some byte both?
-pub fn writable_code(rs: [Region; REGIONS]) -> bool
-    ensures { λ q. ⌜ q ≡ writableCode rs ⌝ }
+pub fn writable_code(rs: &[u64; REGION_NUMBERS]) -> bool
+    ensures { λ q. ⌜ q ≡ writableCode (regionsOf (now (rs .entry))) ⌝ }
 {
     let mut i: u64 = 0;
     while i < LAST_REGION {
-        let r = rs[i as usize];
         i += 1;
-        if edge_is_both(rs, i, r) {
+        if edge_is_both(rs, i, region_at(rs, i)) {
             return true;
         }
     }
@@ -112,11 +120,10 @@ pub fn writable_code(rs: [Region; REGIONS]) -> bool
 }
 
 // Is it a locked state with such a byte?
-pub fn exposes_code(h: HfiState) -> bool
-    ensures { λ q. ⌜ q ≡ exposesCode h ⌝ }
+pub fn exposes_code(h: Control, rs: &[u64; REGION_NUMBERS]) -> bool
+    ensures { λ q. ⌜ q ≡ exposesCode (stateWith h (regionsOf (now (rs .entry)))) ⌝ }
 {
     if locked(h) {
-        let rs = h.regions;
         writable_code(rs)
     } else {
         false

@@ -26,4 +26,4 @@ load-spec =
     (λ c. rw (c .prefixed-load5 .ensures, c .before .match .keys5) refl)
     (λ c. rw (c .prefixed-load6 .ensures, c .before .match .keys6) refl)
     (λ c. rw (c .prefixed-load7 .ensures, c .before .match .keys7) refl)
-    (λ c. let a = c .before .args in rest loadCode (λ (k : LoadKind). Legal (loadOf (a .prefixed) k (a .rd) (a .rs1) (a .imm))) Illegal loadKinds _ (c .match .rest)))
+    (λ c. let a = c .before .args in rest loadCode (λ (k : LoadKind). Legal (loadOf (a .prefixed) k (a .region) (a .rd) (a .rs1) (a .imm))) Illegal loadKinds _ (c .match .rest)))

@@ -20,4 +20,4 @@ store-spec =
     (λ c. rw (c .prefixed-store2 .ensures, c .before .match .keys2) refl)
     (λ c. rw (c .prefixed-store3 .ensures, c .before .match .keys3) refl)
     (λ c. rw (c .prefixed-store4 .ensures, c .before .match .keys4) refl)
-    (λ c. let a = c .before .args in rest storeCode (λ (k : StoreKind). Legal (storeOf (a .prefixed) k (a .rs1) (a .rs2) (a .imm))) Illegal storeKinds _ (c .match .rest)))
+    (λ c. let a = c .before .args in rest storeCode (λ (k : StoreKind). Legal (storeOf (a .prefixed) k (a .region) (a .rs1) (a .rs2) (a .imm))) Illegal storeKinds _ (c .match .rest)))

@@ -5,6 +5,7 @@ use lib.ListN.{length}
 use lib.Seq.{length-take-le}
 use Rattle.text.specs.Split.{rowWith}
 use Rattle.text.proofs.Rows.{row-in}
+use Rattle.model.specs.Machine.{lastRegion}
 use Rattle.setup.specs.Setup.{setupFields, budgetField, readSetup}
 use borrow.Author.Needs.{needs}
 use Rattle.setup.proofs.read_setup.Statement.{statement}
@@ -19,14 +20,29 @@ slice-aggregate-read-row-2 c = search needs
 read-row-requires : tie.Need-read-row-requires
 read-row-requires c κs = search needs
 
+regions-given-requires : tie.Need-regions-given-requires
+regions-given-requires c κs = search needs
+
+mul-last : tie.Need-mul-last
+mul-last c = search needs
+
+add-last : tie.Need-add-last
+add-last c = search needs
+
 slice-aggregate-regions-from : tie.Need-slice-aggregate-regions-from
 slice-aggregate-regions-from c = search needs
 
 regions-from-requires : tie.Need-regions-from-requires
 regions-from-requires c κs = search needs
 
+mul-ask : tie.Need-mul-ask
+mul-ask c = search needs
+
 array-read-ask : tie.Need-array-read-ask
 array-read-ask c = search needs
+
+mul-ask-2 : tie.Need-mul-ask-2
+mul-ask-2 c = search needs
 
 array-read-ask-2 : tie.Need-array-read-ask-2
 array-read-ask-2 c = search needs
@@ -39,12 +55,16 @@ array-share-prefix-widths c = search needs
 
 slice-aggregate-all-wide : tie.Need-slice-aggregate-all-wide
 slice-aggregate-all-wide c =
-    let ws = c .before .before .before .before .before .before .read-row .last .1 .1 .0 in
-    let long : budgetField ≤ length ws = search needs in
-    sym (length-take-le budgetField ws long)
+    let ws = c .before .before .before .before .before .before .before .read-row .last .1 .1 .0 in
+    let n = c .before .before .before .before .regions-given .result in
+    let long : budgetField n ≤ length ws = search needs in
+    sym (length-take-le (budgetField n) ws long)
 
 all-wide-requires : tie.Need-all-wide-requires
 all-wide-requires c κs = search needs
+
+mul-wide : tie.Need-mul-wide
+mul-wide c = search needs
 
 array-read-wide : tie.Need-array-read-wide
 array-read-wide c = search needs
@@ -55,8 +75,8 @@ array-read-range c = search needs
 permissions-in-range-requires : tie.Need-permissions-in-range-requires
 permissions-in-range-requires c κs = search needs
 
-array-read-t18 : tie.Need-array-read-t18
-array-read-t18 c = search needs
+array-read-t22 : tie.Need-array-read-t22
+array-read-t22 c = search needs
 
 array-read-ask-3 : tie.Need-array-read-ask-3
 array-read-ask-3 c = search needs
@@ -76,7 +96,7 @@ ask-requires-4 c κs = search needs
 returns : tie.Need-returns
 unfolding readSetup
 returns c =
-    let r = c .before .before .before .before .before .before .before .before .before .before .before .read-row in
+    let r = c .before .before .before .before .before .before .before .before .before .before .before .before .read-row in
     let row = rowWith (r .result) (r .last .1 .0) (r .last .1 .1 .0) in
     rw (
       c .ask4 .ensures,
@@ -86,8 +106,9 @@ returns c =
       c .before .before .before .before .all-wide .ensures,
       c .before .before .before .before .before .before .ask .ensures,
       c .before .before .before .before .before .before .before .regions-from .ensures,
+      c .before .before .before .before .before .before .before .before .before .regions-given .ensures .0,
     )
-    (ap readSetup (row-in setupFields (c .before .before .before .before .before .before .before .before .before .before .before .before .before .before .before .args .line .now) row (r .ensures)))
+    (ap readSetup (row-in (setupFields lastRegion) (c .before .before .before .before .before .before .before .before .before .before .before .before .before .before .before .before .args .line .now) row (r .ensures)))
 
 pub read-setup-spec : {M : Type 1} → statement M
 read-setup-spec =
@@ -96,18 +117,24 @@ read-setup-spec =
     slice-aggregate-read-row
     slice-aggregate-read-row-2
     read-row-requires
+    regions-given-requires
+    mul-last
+    add-last
     slice-aggregate-regions-from
     regions-from-requires
+    mul-ask
     array-read-ask
+    mul-ask-2
     array-read-ask-2
     ask-requires
     array-share-prefix-widths
     slice-aggregate-all-wide
     all-wide-requires
+    mul-wide
     array-read-wide
     array-read-range
     permissions-in-range-requires
-    array-read-t18
+    array-read-t22
     array-read-ask-3
     array-read-ask-4
     ask-requires-2

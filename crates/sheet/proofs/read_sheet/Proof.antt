@@ -1,7 +1,6 @@
 -- `read_sheet` meets its contract: refused as a file, refused at line 1, or read on from line 2.
 use mathlib.Core.Path.{_≡_, ap, sym, _∙_}
-use Rattle.text.specs.Split.{rowOf}
-use Rattle.setup.specs.Setup.{setupFields, readSetup}
+use Rattle.setup.specs.Setup.{setupRow, readSetup}
 use Rattle.sheet.specs.Sheet.{refusal, fileNo}
 use Rattle.sheet.specs.Words.{wordsOf, memoryOf}
 use Rattle.sheet.proofs.Laws.{file-whole, sheet-file, sheet-setup, sheet-words, word-lines, second-line}
@@ -26,7 +25,7 @@ returns c =
     let first = c .before .before .before .before .read-setup in
     let file = c .before .before .file-refusal .ensures in
     let refused = file ∙ sym (sheet-file s (λ z. c .if1 .taken (ap (λ r. r .question) file ∙ z))) in
-    ((refused, ap (λ r. r .setup) (first .ensures ∙ ap (λ l. readSetup (rowOf setupFields l)) (line .ensures))), λ z. absurd (c .if1 .taken z))
+    ((refused, ap (λ r. r .setup) (first .ensures ∙ ap (λ l. readSetup (setupRow l)) (line .ensures))), λ z. absurd (c .if1 .taken z))
 
 returns-2 : tie.Need-returns-2
 returns-2 c =
@@ -38,7 +37,7 @@ returns-2 c =
     let ok : fileNo s ≡ 0 = sym (ap (λ r. r .question) file) ∙ c .before .if1 .left in
     let question = ap (λ r. r .question) (first .ensures) in
     let refused = ap (λ n. refusal n 1) question ∙ sym (sheet-setup s (line .result .now) ok (line .ensures) (λ z. c .if2 .taken (question ∙ z))) in
-    ((refused, ap (λ r. r .setup) (first .ensures ∙ ap (λ l. readSetup (rowOf setupFields l)) (line .ensures))), λ z. absurd (c .if2 .taken z))
+    ((refused, ap (λ r. r .setup) (first .ensures ∙ ap (λ l. readSetup (setupRow l)) (line .ensures))), λ z. absurd (c .if2 .taken z))
 
 add-read-words : tie.Need-add-read-words
 add-read-words c = search needs
@@ -69,7 +68,7 @@ returns-3 c =
     let question = sym (ap (λ r. r .question) (first .ensures)) ∙ c .before .before .before .before .if2 .left in
     let words = c .before .before .read-words .ensures in
     let refused = words .0 ∙ sym (sheet-words s (line .result .now) ok (line .ensures) question) in
-    ((refused, ap (λ r. r .setup) (first .ensures ∙ ap (λ l. readSetup (rowOf setupFields l)) (line .ensures))), λ z. words .1 z ∙ ap (λ ls. memoryOf (a .mem .now) (wordsOf ls)) (sym (word-lines s (line .result .now) ok (line .ensures))))
+    ((refused, ap (λ r. r .setup) (first .ensures ∙ ap (λ l. readSetup (setupRow l)) (line .ensures))), λ z. words .1 z ∙ ap (λ ls. memoryOf (a .mem .now) (wordsOf ls)) (sym (word-lines s (line .result .now) ok (line .ensures))))
 
 pub read-sheet-spec : {M : Type 1} → statement M
 read-sheet-spec =

@@ -9,7 +9,7 @@ completed-requires : tie.Need-completed-requires
 completed-requires c κs = search needs
 
 returns : tie.Need-returns
-returns c = λ mem. rw (c .completed .ensures, c .before .assign .ensures)
+returns c = λ numbers mem. rw (c .completed .ensures, c .before .assign .ensures)
 
 pub write-back-spec : {M : Type 1} → statement M
 write-back-spec = tie.close (tie.spec assign-requires completed-requires returns)
