@@ -10,7 +10,7 @@ use Rattle.words.specs.Word.{fitsSigned}
 use Rattle.instructions.specs.Encode.{inRange}
 use Rattle.instructions.specs.declared.instruction.Instruction.{Instruction}
 use Rattle.instructions.specs.declared.instruction.Instruction.the-variants.{Upper, Jal, Jalr, Branch, Load, Store, Immediate, Shift, Addiw, ShiftWord, Register, RegisterWord, Fence, System, HLoad, HStore, Hfi}
-use Rattle.instructions.proofs.Tests.{and-both, two-all}
+use Rattle.instructions.proofs.Tests.{and-both, two-all, h-word-two}
 
 abbrev pub Below : Instruction → Type 0
 Below (Upper k rd imm) = rd < 32
@@ -27,8 +27,8 @@ Below (Register k rd rs1 rs2) = (rd < 32) × (rs1 < 32) × (rs2 < 32)
 Below (RegisterWord k rd rs1 rs2) = (rd < 32) × (rs1 < 32) × (rs2 < 32)
 Below (Fence fm pred succ rs1 rd) = Unit {0}
 Below (System k) = Unit {0}
-Below (HLoad k rd rs1 imm) = (rd < 32) × (rs1 < 32) × (fitsSigned 12 imm ≡ true)
-Below (HStore k rs1 rs2 imm) = (rs1 < 32) × (rs2 < 32) × (fitsSigned 12 imm ≡ true)
+Below (HLoad k region rd rs1 imm) = (rd < 32) × (rs1 < 32) × (fitsSigned 12 imm ≡ true)
+Below (HStore k region rs1 rs2 imm) = (rs1 < 32) × (rs2 < 32) × (fitsSigned 12 imm ≡ true)
 Below (Hfi k rd rs1 rs2) = (rd < 32) × (rs1 < 32) × (rs2 < 32)
 
 registers : (i : Instruction) → inRange i ≡ true → Below i
@@ -46,8 +46,8 @@ registers (Register k rd rs1 rs2) h = let t = two-all rd rs1 (ltb rs2 32) h in (
 registers (RegisterWord k rd rs1 rs2) h = let t = two-all rd rs1 (ltb rs2 32) h in (t .0, t .1, ltb-true rs2 32 (t .2))
 registers (Fence fm pred succ rs1 rd) h = tt
 registers (System k) h = tt
-registers (HLoad k rd rs1 imm) h = two-all rd rs1 _ h
-registers (HStore k rs1 rs2 imm) h = two-all rs1 rs2 _ h
+registers (HLoad k region rd rs1 imm) h = two-all rd rs1 _ (h-word-two region rd rs1 _ h)
+registers (HStore k region rs1 rs2 imm) h = two-all rs1 rs2 _ (h-word-two region rs1 rs2 _ h)
 registers (Hfi k rd rs1 rs2) h =
     let t = two-all rd rs1 _ h in
     (t .0, t .1, ltb-true rs2 32 (and-both (ltb rs2 32) _ (t .2) .0))

@@ -20,7 +20,7 @@ completed-requires c κs = search needs
 
 returns : tie.Need-returns
 unfolding perform branch
-returns c = λ mem.
+returns c = λ numbers mem.
     let t = c .before .before .taken in
     rw (
       c .completed .ensures,
@@ -38,9 +38,9 @@ jump-requires c κs = search needs
 
 returns-2 : tie.Need-returns-2
 unfolding perform branch jump aligned
-returns-2 c = λ mem.
+returns-2 c = λ numbers mem.
     let t = c .before .before .before .before .taken in
-    c .jump .ensures mem ∙ rw (
+    c .jump .ensures numbers mem ∙ rw (
       ← c .before .before .before .before .before .before .before .register .ensures,
       ← c .before .before .before .before .before .register2 .ensures,
       ← t .ensures,

@@ -165,19 +165,19 @@ hfi-word-requires c κs = below (c .before .before .i16 .given .1) (c .before .b
 
 returns : tie.Need-returns
 unfolding executeInstruction allowed hfiStop
-returns c = c .upper .ensures _ ∙ ap (executeInstruction _ _ _) (sym (c .before .before .before .i .given .1))
+returns c = c .upper .ensures _ _ ∙ ap (executeInstruction _ _ _) (sym (c .before .before .before .i .given .1))
 
 returns-2 : tie.Need-returns-2
 unfolding perform executeInstruction allowed hfiStop
-returns-2 c = c .jump .ensures _ ∙ rw (c .before .before .before .before .i2 .given .1, c .before .wrapping-add-u64 .ensures)
+returns-2 c = c .jump .ensures _ _ ∙ rw (c .before .before .before .before .i2 .given .1, c .before .wrapping-add-u64 .ensures)
 
 returns-3 : tie.Need-returns-3
 unfolding perform executeInstruction allowed hfiStop
-returns-3 c = c .jump2 .ensures _ ∙ rw (c .before .before .before .before .before .before .i3 .given .1, c .before .jalr-target .ensures, c .before .before .register .ensures)
+returns-3 c = c .jump2 .ensures _ _ ∙ rw (c .before .before .before .before .before .before .i3 .given .1, c .before .jalr-target .ensures, c .before .before .register .ensures)
 
 returns-4 : tie.Need-returns-4
 unfolding executeInstruction allowed hfiStop
-returns-4 c = c .branch .ensures _ ∙ ap (executeInstruction _ _ _) (sym (c .before .before .before .i4 .given .1))
+returns-4 c = c .branch .ensures _ _ ∙ ap (executeInstruction _ _ _) (sym (c .before .before .before .i4 .given .1))
 
 same-length : tie.Need-same-length
 same-length c = search needs
@@ -195,27 +195,27 @@ returns-6 c = c .before .before .store .ensures ∙ ap (executeInstruction _ _ _
 
 returns-7 : tie.Need-returns-7
 unfolding perform executeInstruction allowed hfiStop
-returns-7 c = c .write-back .ensures _ ∙ rw (c .before .before .before .before .before .before .i7 .given .1, c .before .before .operate-immediate .ensures, c .before .before .before .register2 .ensures)
+returns-7 c = c .write-back .ensures _ _ ∙ rw (c .before .before .before .before .before .before .i7 .given .1, c .before .before .operate-immediate .ensures, c .before .before .before .register2 .ensures)
 
 returns-8 : tie.Need-returns-8
 unfolding perform executeInstruction allowed hfiStop
-returns-8 c = c .write-back2 .ensures _ ∙ rw (c .before .before .before .before .before .before .i8 .given .1, c .before .before .operate-shift .ensures, c .before .before .before .register3 .ensures)
+returns-8 c = c .write-back2 .ensures _ _ ∙ rw (c .before .before .before .before .before .before .i8 .given .1, c .before .before .operate-shift .ensures, c .before .before .before .register3 .ensures)
 
 returns-9 : tie.Need-returns-9
 unfolding perform executeInstruction allowed hfiStop
-returns-9 c = c .write-back3 .ensures _ ∙ rw (c .before .before .before .before .before .before .i9 .given .1, c .before .before .add-word .ensures, c .before .before .before .register4 .ensures)
+returns-9 c = c .write-back3 .ensures _ _ ∙ rw (c .before .before .before .before .before .before .i9 .given .1, c .before .before .add-word .ensures, c .before .before .before .register4 .ensures)
 
 returns-10 : tie.Need-returns-10
 unfolding perform executeInstruction allowed hfiStop
-returns-10 c = c .write-back4 .ensures _ ∙ rw (c .before .before .before .before .before .before .before .i10 .given .1, c .before .before .operate-word .ensures, c .before .before .before .before .before .of-shift-word .ensures, c .before .before .before .register5 .ensures)
+returns-10 c = c .write-back4 .ensures _ _ ∙ rw (c .before .before .before .before .before .before .before .i10 .given .1, c .before .before .operate-word .ensures, c .before .before .before .before .before .of-shift-word .ensures, c .before .before .before .register5 .ensures)
 
 returns-11 : tie.Need-returns-11
 unfolding perform executeInstruction allowed hfiStop
-returns-11 c = c .write-back5 .ensures _ ∙ rw (c .before .before .before .before .before .before .before .before .i11 .given .1, c .before .before .operate .ensures, c .before .before .before .register7 .ensures, c .before .before .before .before .before .register6 .ensures)
+returns-11 c = c .write-back5 .ensures _ _ ∙ rw (c .before .before .before .before .before .before .before .before .i11 .given .1, c .before .before .operate .ensures, c .before .before .before .register7 .ensures, c .before .before .before .before .before .register6 .ensures)
 
 returns-12 : tie.Need-returns-12
 unfolding perform executeInstruction allowed hfiStop
-returns-12 c = c .write-back6 .ensures _ ∙ rw (c .before .before .before .before .before .before .before .before .i12 .given .1, c .before .before .operate-word2 .ensures, c .before .before .before .register9 .ensures, c .before .before .before .before .before .register8 .ensures)
+returns-12 c = c .write-back6 .ensures _ _ ∙ rw (c .before .before .before .before .before .before .before .before .i12 .given .1, c .before .before .operate-word2 .ensures, c .before .before .before .register9 .ensures, c .before .before .before .before .before .register8 .ensures)
 
 returns-13 : tie.Need-returns-13
 unfolding perform executeInstruction allowed hfiStop
@@ -223,7 +223,7 @@ returns-13 c = rw (c .before .enum-told .given .1, c .completed .ensures)
 
 returns-14 : tie.Need-returns-14
 unfolding executeInstruction allowed hfiStop
-returns-14 c = c .system .ensures _ _ _ ∙ ap (executeInstruction _ _ _) (sym (c .before .before .i13 .given .1))
+returns-14 c = c .system .ensures _ _ _ _ ∙ ap (executeInstruction _ _ _) (sym (c .before .before .i13 .given .1))
 
 same-length-3 : tie.Need-same-length-3
 same-length-3 c = search needs

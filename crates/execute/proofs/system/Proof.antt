@@ -1,5 +1,8 @@
-use mathlib.Core.Path.{sym, _∙_}
+use mathlib.Core.Path.{ap, sym, _∙_}
+use Rattle.model.specs.Machine.{machine}
+use Rattle.model.specs.Outcome.{completed}
 use Rattle.model.specs.Step.{perform}
+use Rattle.hart.specs.State.{regionsOf}
 use borrow.Author.Needs.{needs}
 use Rattle.execute.proofs.system.Statement.{statement}
 use Rattle.execute.proofs.system.Tie as tie
@@ -27,17 +30,17 @@ stopped-requires-2 c κs = search needs
 
 returns : tie.Need-returns
 unfolding perform
-returns c = λ x mem next.
+returns c = λ x numbers mem next.
     rw (
       c .before .before .before .before .enum-told .given .1,
       c .completed .ensures,
-      c .before .exited .ensures,
       sym (c .before .before .before .redirects-calls .ensures) ∙ c .before .before .if1 .taken,
     )
+    (ap (λ h. completed (machine x (c .before .before .before .before .before .args .hfi .handler) h) mem) (c .before .exited .ensures (regionsOf numbers)))
 
 returns-2 : tie.Need-returns-2
 unfolding perform
-returns-2 c = λ x mem next.
+returns-2 c = λ x numbers mem next.
     rw (
       c .before .before .before .enum-told .given .1,
       c .stopped .ensures,
@@ -46,7 +49,7 @@ returns-2 c = λ x mem next.
 
 returns-3 : tie.Need-returns-3
 unfolding perform
-returns-3 c = λ x mem next. rw (c .before .enum-told2 .given .1, c .stopped2 .ensures)
+returns-3 c = λ x numbers mem next. rw (c .before .enum-told2 .given .1, c .stopped2 .ensures)
 
 pub system-spec : {M : Type 1} → statement M
 system-spec =

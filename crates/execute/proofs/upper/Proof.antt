@@ -19,8 +19,8 @@ write-back-requires c κs = search needs
 
 returns : tie.Need-returns
 unfolding perform
-returns c = λ mem.
-    c .write-back .ensures mem ∙ ⊎-elim
+returns c = λ numbers mem.
+    c .write-back .ensures numbers mem ∙ ⊎-elim
     (λ w. rw (w .1 .given .1, w .2))
     (λ w. rw (w .1 .given .1, w .3, w .2 .ensures))
     (c .before .before .match .came)

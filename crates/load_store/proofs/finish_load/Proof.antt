@@ -36,9 +36,9 @@ absent-requires c κs = search needs
 
 returns : tie.Need-returns
 unfolding settle
-returns c =
+returns c = λ numbers.
     let m = c .before .before .before .before .before in
-    c .write-back .ensures (m .before .before .before .args .mem .now) ∙ rw (
+    c .write-back .ensures numbers (m .before .before .before .args .mem .now) ∙ rw (
       m .enum-told .given .1,
       c .before .extended .ensures,
       c .before .before .read .ensures .0,
@@ -47,11 +47,13 @@ returns c =
 
 returns-2 : tie.Need-returns-2
 unfolding settle
-returns-2 c = rw (c .before .before .v .given .1, c .faulted .ensures)
+returns-2 c = λ numbers.
+    let a = c .before .before .before .before .before .args in
+    rw (c .before .before .v .given .1) (c .faulted .ensures (a .x .now) numbers (a .mem .now))
 
 returns-3 : tie.Need-returns-3
 unfolding settle
-returns-3 c = rw (c .before .before .v2 .given .1, c .absent .ensures)
+returns-3 c = λ numbers. rw (c .before .before .v2 .given .1, c .absent .ensures)
 
 pub finish-load-spec : {M : Type 1} → statement M
 finish-load-spec =

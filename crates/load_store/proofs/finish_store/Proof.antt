@@ -35,7 +35,7 @@ same-length c = search needs
 
 returns : tie.Need-returns
 unfolding settle
-returns c = λ x.
+returns c = λ x numbers.
     rw (
       c .before .before .before .before .before .before .enum-told .given .1,
       c .completed .ensures,
@@ -45,11 +45,12 @@ returns c = λ x.
 
 returns-2 : tie.Need-returns-2
 unfolding settle
-returns-2 c = λ x. rw (c .before .before .v .given .1, c .faulted .ensures)
+returns-2 c = λ x numbers.
+    rw (c .before .before .v .given .1) (c .faulted .ensures x numbers (c .before .before .before .before .before .args .mem .now))
 
 returns-3 : tie.Need-returns-3
 unfolding settle
-returns-3 c = λ x. rw (c .before .before .v2 .given .1, c .absent .ensures)
+returns-3 c = λ x numbers. rw (c .before .before .v2 .given .1, c .absent .ensures)
 
 pub finish-store-spec : {M : Type 1} → statement M
 finish-store-spec =
