@@ -59,10 +59,17 @@ fn lent(length: u64) -> usize
     65536
 }
 
-// The numbers of a line of at most 21 fields; the first field is a word.
-fn numbers(line: &[u8]) -> [u64; 21] {
-    let mut values = [0u64; 21];
-    let mut widths = [0u64; 21];
+// The fields of a state line: a word, pc, six numbers of the HFI state, its regions and its fault record.
+const FIRST_REGION: usize = 8;
+
+const FIRST_FAULT: usize = FIRST_REGION + 3 * REGIONS;
+
+const STATE_FIELDS: usize = FIRST_FAULT + 4;
+
+// The numbers of a line of at most as many fields; the first field is a word.
+fn numbers(line: &[u8]) -> [u64; STATE_FIELDS] {
+    let mut values = [0u64; STATE_FIELDS];
+    let mut widths = [0u64; STATE_FIELDS];
     read_row(line, &mut values, &mut widths);
     values
 }
@@ -70,12 +77,12 @@ fn numbers(line: &[u8]) -> [u64; 21] {
 // The machine with these registers and the rest as a state line has it.
 fn machine(line: &[u8], x: [u64; 32]) -> Machine {
     let v = numbers(line);
-    let regions = regions_from(&v, 8);
+    let regions = regions_from(&v, FIRST_REGION, REGIONS);
     let fault = Fault {
-        occurred: v[17],
-        region: v[18],
-        op: v[19],
-        address: v[20],
+        occurred: v[FIRST_FAULT],
+        region: v[FIRST_FAULT + 1],
+        op: v[FIRST_FAULT + 2],
+        address: v[FIRST_FAULT + 3],
     };
     let hfi = HfiState {
         mode: v[2],

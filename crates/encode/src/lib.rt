@@ -5,6 +5,7 @@ ghost use Prim.Native.Nat.{_<_};
 ghost use Rattle.instructions.specs.Encode.{encodeFields, two, multiple as isMultiple, inRange, encodeWord};
 
 pub mod format;
+pub mod h_word;
 
 use crate::format::b_fields;
 use crate::format::fence_fields;
@@ -15,13 +16,14 @@ use crate::format::r_fields;
 use crate::format::s_fields;
 use crate::format::shift_fields;
 use crate::format::u_fields;
+use crate::h_word::h_load_fields;
+use crate::h_word::h_store_fields;
+use crate::h_word::h_word_in_range;
 use instructions::fields::Fields;
 use instructions::hfi_table::fields_named;
 use instructions::instruction::Encoded;
 use instructions::instruction::Instruction;
 use instructions::opcode::BRANCH;
-use instructions::opcode::H_LOAD;
-use instructions::opcode::H_STORE;
 use instructions::opcode::HFI;
 use instructions::opcode::JAL;
 use instructions::opcode::JALR;
@@ -72,8 +74,8 @@ fn in_range(i: Instruction) -> bool
             (fm < 16) & ((pred < 16) & (succ < 16)),
         ),
         Instruction::System(_) => true,
-        Instruction::HLoad(_, rd, rs1, imm) => two_registers(rd, rs1, fits_signed(imm, 12)),
-        Instruction::HStore(_, rs1, rs2, imm) => two_registers(rs1, rs2, fits_signed(imm, 12)),
+        Instruction::HLoad(_, region, rd, rs1, imm) => h_word_in_range(region, rd, rs1, imm),
+        Instruction::HStore(_, region, rs1, rs2, imm) => h_word_in_range(region, rs1, rs2, imm),
         Instruction::Hfi(k, rd, rs1, rs2) => two_registers(
             rd,
             rs1,
@@ -101,8 +103,8 @@ fn encode_fields(i: Instruction) -> Fields
         Instruction::RegisterWord(k, rd, rs1, rs2) => r_fields(OP_32, k.code(), rd, rs1, rs2),
         Instruction::Fence(fm, pred, succ, rs1, rd) => fence_fields(fm, pred, succ, rs1, rd),
         Instruction::System(k) => i_fields(SYSTEM, 0, 0, 0, k.code()),
-        Instruction::HLoad(k, rd, rs1, imm) => i_fields(H_LOAD, k.code(), rd, rs1, imm),
-        Instruction::HStore(k, rs1, rs2, imm) => s_fields(H_STORE, k.code(), rs1, rs2, imm),
+        Instruction::HLoad(k, region, rd, rs1, imm) => h_load_fields(k, region, rd, rs1, imm),
+        Instruction::HStore(k, region, rs1, rs2, imm) => h_store_fields(k, region, rs1, rs2, imm),
         Instruction::Hfi(k, rd, rs1, rs2) => r_fields(HFI, put(0, k.code(), 3), rd, rs1, rs2),
     }
 }

@@ -13,9 +13,9 @@ use Rattle.model.specs.declared.Fault.{Fault}
 use Rattle.model.specs.declared.Machine.{Machine}
 
 -- k regions, the first with n in its first place
-abbrev regionsFrom : ℕ → ℕ → List Region
-regionsFrom n zero = []
-regionsFrom n (suc k) = record { base = n; bound = n + 1; permission = n + 2 } ∷ regionsFrom (n + 3) k
+abbrev numberedFrom : ℕ → ℕ → List Region
+numberedFrom n zero = []
+numberedFrom n (suc k) = record { base = n; bound = n + 1; permission = n + 2 } ∷ numberedFrom (n + 3) k
 
 -- the places of the first region and of the fault record
 abbrev pub firstRegion : ℕ
@@ -36,7 +36,7 @@ probe =
         options = 1036;
         handler = 1037;
         selector = 1038;
-        regions = regionsFrom (1000 + firstRegion) lastRegion;
+        regions = numberedFrom (1000 + firstRegion) lastRegion;
         fault = record { occurred = 1000 + firstFault; region = 1001 + firstFault; op = 1002 + firstFault; address = 1003 + firstFault };
       };
     }

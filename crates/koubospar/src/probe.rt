@@ -37,7 +37,18 @@ pub extern "C" fn koubospar_probe() -> Machine
     x[0] = 1000;
     x[31] = 1031;
     let first = 1000 + FIRST_REGION;
-    let regions = [numbered(first), numbered(first + 3), numbered(first + 6)];
+    let regions = [
+        numbered(first),
+        numbered(first + 3),
+        numbered(first + 6),
+        numbered(first + 9),
+        numbered(first + 12),
+        numbered(first + 15),
+        numbered(first + 18),
+        numbered(first + 21),
+        numbered(first + 24),
+        numbered(first + 27),
+    ];
     let fault = Fault {
         occurred: 1000 + FIRST_FAULT,
         region: 1001 + FIRST_FAULT,

@@ -48,8 +48,8 @@ unflatten-flatten (Register k rd rs1 rs2) = register-code k .found Decoded (λ (
 unflatten-flatten (RegisterWord k rd rs1 rs2) = register-word-code k .found Decoded (λ (j : RegisterWordKind). Legal (RegisterWord j rd rs1 rs2)) Illegal
 unflatten-flatten (Fence fm pred succ rs1 rd) = refl
 unflatten-flatten (System k) = system-code k .found Decoded (λ (j : SystemKind). Legal (System j)) Illegal
-unflatten-flatten (HLoad k rd rs1 imm) = load-code k .found Decoded (λ (j : LoadKind). Legal (HLoad j rd rs1 imm)) Illegal
-unflatten-flatten (HStore k rs1 rs2 imm) = store-code k .found Decoded (λ (j : StoreKind). Legal (HStore j rs1 rs2 imm)) Illegal
+unflatten-flatten (HLoad k region rd rs1 imm) = load-code k .found Decoded (λ (j : LoadKind). Legal (HLoad j region rd rs1 imm)) Illegal
+unflatten-flatten (HStore k region rs1 rs2 imm) = store-code k .found Decoded (λ (j : StoreKind). Legal (HStore j region rs1 rs2 imm)) Illegal
 unflatten-flatten (Hfi k rd rs1 rs2) = hfi-code k .found Decoded (λ (j : HfiKind). Legal (Hfi j rd rs1 rs2)) Illegal
 
 -- ---- a record that stands for an instruction is that instruction laid out, and the other way
@@ -57,7 +57,18 @@ unflatten-flatten (Hfi k rd rs1 rs2) = hfi-code k .found Decoded (λ (j : HfiKin
 same-refl : (f : Flat) → same f f ≡ true
 same-refl f =
     let t : (n : ℕ) → eqb n n ≡ true = λ n. eq-eqb n n refl in
-    rw (t (f .group), t (f .kind), t (f .rd), t (f .rs1), t (f .rs2), t (f .imm), t (f .fm), t (f .pred), t (f .succ)) refl
+    rw (
+      t (f .group),
+      t (f .kind),
+      t (f .rd),
+      t (f .rs1),
+      t (f .rs2),
+      t (f .imm),
+      t (f .fm),
+      t (f .pred),
+      t (f .succ),
+      t (f .region),
+    ) refl
 
 same-equal : (a b : Flat) → same a b ≡ true → a ≡ b
 same-equal a b h =
@@ -68,7 +79,8 @@ same-equal a b h =
     let sources = and-both _ _ (registers .1) in
     let r = and-both _ _ (q .1) in
     let s = and-both _ _ (r .1) in
-    let t = and-both _ _ (s .1) in
+    let fence = and-both _ _ (s .0) in
+    let t = and-both _ _ (fence .1) in
     λ i. record {
       group = eqb-true (a .group) (b .group) (shape .0) i;
       kind = eqb-true (a .kind) (b .kind) (shape .1) i;
@@ -76,9 +88,10 @@ same-equal a b h =
       rs1 = eqb-true (a .rs1) (b .rs1) (sources .0) i;
       rs2 = eqb-true (a .rs2) (b .rs2) (sources .1) i;
       imm = eqb-true (a .imm) (b .imm) (r .0) i;
-      fm = eqb-true (a .fm) (b .fm) (s .0) i;
+      fm = eqb-true (a .fm) (b .fm) (fence .0) i;
       pred = eqb-true (a .pred) (b .pred) (t .0) i;
       succ = eqb-true (a .succ) (b .succ) (t .1) i;
+      region = eqb-true (a .region) (b .region) (s .1) i;
     }
 
 pub stands-flatten : (i : Instruction) → standsFor (flatten i) ≡ Legal i

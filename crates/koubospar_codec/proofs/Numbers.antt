@@ -14,7 +14,7 @@ abbrev legal : ℕ → ℕ → ℕ → ℕ → ℕ → ℕ → FlatDecoded
 legal g k d a b i =
     record {
       number = 0;
-      instruction = record { group = g; kind = k; rd = d; rs1 = a; rs2 = b; imm = i; fm = 0; pred = 0; succ = 0 };
+      instruction = record { group = g; kind = k; rd = d; rs1 = a; rs2 = b; imm = i; fm = 0; pred = 0; succ = 0; region = 0 };
     }
 
 -- FENCE: fm, pred, succ, rs1, rd
@@ -22,7 +22,15 @@ abbrev fence : ℕ → ℕ → ℕ → ℕ → ℕ → FlatDecoded
 fence f p s a d =
     record {
       number = 0;
-      instruction = record { group = 13; kind = 0; rd = d; rs1 = a; rs2 = 0; imm = 0; fm = f; pred = p; succ = s };
+      instruction = record { group = 13; kind = 0; rd = d; rs1 = a; rs2 = 0; imm = 0; fm = f; pred = p; succ = s; region = 0 };
+    }
+
+-- an h-word: group, kind, region, rd, rs1, rs2, imm
+abbrev hWord : ℕ → ℕ → ℕ → ℕ → ℕ → ℕ → ℕ → FlatDecoded
+hWord g k r d a b i =
+    record {
+      number = 0;
+      instruction = record { group = g; kind = k; rd = d; rs1 = a; rs2 = b; imm = i; fm = 0; pred = 0; succ = 0; region = r };
     }
 
 abbrev rows : List (ℕ × FlatDecoded)
@@ -41,8 +49,8 @@ rows =
     ∷ (0x41c807bb, legal 12 0x100 15 16 28 0)  -- subw x15, x16, x28
     ∷ (0xa6350a8f, fence 10 6 3 10 21)  -- .insn i 0x0f, 0, x21, x10, -0x59d
     ∷ (0x00100073, legal 14 1 0 0 0 0)  -- ebreak
-    ∷ (0xca56998b, legal 15 1 19 13 0 (2 ^ 64 - 0x35b))  -- .insn i 0x0b, 1, x19, x13, -0x35b
-    ∷ (0x2e4313ab, legal 16 1 0 6 4 0x2e7)  -- .insn s 0x2b, 1, x4, 0x2e7(x6)
+    ∷ (0xca56998b, hWord 15 1 4 3 13 0 (2 ^ 64 - 0x35b))  -- .insn i 0x0b, 1, x19, x13, -0x35b
+    ∷ (0x2e4313ab, hWord 16 1 1 0 6 4 0x2e7)  -- .insn s 0x2b, 1, x4, 0x2e7(x6)
     ∷ (0x026a805b, legal 17 1 0 21 6 0)  -- .insn r 0x5b, 0, 1, x0, x21, x6
     -- RV64M
     ∷ (0x02e806b3, legal 11 8 13 16 14 0)  -- mul x13, x16, x14

@@ -23,11 +23,16 @@ use Rattle.koubospar_codec.specs.declared.flat.FlatEncoded.{FlatEncoded}
 -- group, kind, rd, rs1, rs2, and the immediate, offset or amount
 abbrev pub layout : ℕ → ℕ → ℕ → ℕ → ℕ → ℕ → Flat
 layout group kind rd rs1 rs2 imm =
-    record { group = group; kind = kind; rd = rd; rs1 = rs1; rs2 = rs2; imm = imm; fm = 0; pred = 0; succ = 0 }
+    record { group = group; kind = kind; rd = rd; rs1 = rs1; rs2 = rs2; imm = imm; fm = 0; pred = 0; succ = 0; region = 0 }
 
 abbrev pub fenceLayout : ℕ → ℕ → ℕ → ℕ → ℕ → Flat
 fenceLayout fm pred succ rs1 rd =
-    record { group = 13; kind = 0; rd = rd; rs1 = rs1; rs2 = 0; imm = 0; fm = fm; pred = pred; succ = succ }
+    record { group = 13; kind = 0; rd = rd; rs1 = rs1; rs2 = 0; imm = 0; fm = fm; pred = pred; succ = succ; region = 0 }
+
+-- group, kind, region, rd, rs1, rs2, immediate
+abbrev pub hWordLayout : ℕ → ℕ → ℕ → ℕ → ℕ → ℕ → ℕ → Flat
+hWordLayout group kind region rd rs1 rs2 imm =
+    record { group = group; kind = kind; rd = rd; rs1 = rs1; rs2 = rs2; imm = imm; fm = 0; pred = 0; succ = 0; region = region }
 
 -- what goes with 13
 abbrev pub nothing : Flat
@@ -48,8 +53,8 @@ flatten (Register k rd rs1 rs2) = layout 11 (registerCode k) rd rs1 rs2 0
 flatten (RegisterWord k rd rs1 rs2) = layout 12 (registerWordCode k) rd rs1 rs2 0
 flatten (Fence fm pred succ rs1 rd) = fenceLayout fm pred succ rs1 rd
 flatten (System k) = layout 14 (systemCode k) 0 0 0 0
-flatten (HLoad k rd rs1 imm) = layout 15 (loadCode k) rd rs1 0 imm
-flatten (HStore k rs1 rs2 imm) = layout 16 (storeCode k) 0 rs1 rs2 imm
+flatten (HLoad k region rd rs1 imm) = hWordLayout 15 (loadCode k) region rd rs1 0 imm
+flatten (HStore k region rs1 rs2 imm) = hWordLayout 16 (storeCode k) region 0 rs1 rs2 imm
 flatten (Hfi k rd rs1 rs2) = layout 17 (hfiCode k) rd rs1 rs2 0
 
 -- what is read under each group
@@ -59,8 +64,8 @@ groups f =
     ∷ (2, Legal (Jal (f .rd) (f .imm)))
     ∷ (3, Legal (Jalr (f .rd) (f .rs1) (f .imm)))
     ∷ (4, branchAt (f .kind) (f .rs1) (f .rs2) (f .imm))
-    ∷ (5, loadAt false (f .kind) (f .rd) (f .rs1) (f .imm))
-    ∷ (6, storeAt false (f .kind) (f .rs1) (f .rs2) (f .imm))
+    ∷ (5, loadAt false (f .kind) 0 (f .rd) (f .rs1) (f .imm))
+    ∷ (6, storeAt false (f .kind) 0 (f .rs1) (f .rs2) (f .imm))
     ∷ (7, immediateAt (f .kind) (f .rd) (f .rs1) (f .imm))
     ∷ (8, shiftAt (f .kind) (f .rd) (f .rs1) (f .imm))
     ∷ (9, Legal (Addiw (f .rd) (f .rs1) (f .imm)))
@@ -69,8 +74,8 @@ groups f =
     ∷ (12, registerWordAt (f .kind) (f .rd) (f .rs1) (f .rs2))
     ∷ (13, Legal (Fence (f .fm) (f .pred) (f .succ) (f .rs1) (f .rd)))
     ∷ (14, systemAt (f .kind))
-    ∷ (15, loadAt true (f .kind) (f .rd) (f .rs1) (f .imm))
-    ∷ (16, storeAt true (f .kind) (f .rs1) (f .rs2) (f .imm))
+    ∷ (15, loadAt true (f .kind) (f .region) (f .rd) (f .rs1) (f .imm))
+    ∷ (16, storeAt true (f .kind) (f .region) (f .rs1) (f .rs2) (f .imm))
     ∷ (17, hfiAt (f .kind) (f .rd) (f .rs1) (f .rs2))
     ∷ []
 
@@ -82,7 +87,8 @@ abbrev pub same : Flat → Flat → Bool
 same a b =
     (eqb (a .group) (b .group) && eqb (a .kind) (b .kind))
     && ((eqb (a .rd) (b .rd) && (eqb (a .rs1) (b .rs1) && eqb (a .rs2) (b .rs2)))
-    && (eqb (a .imm) (b .imm) && (eqb (a .fm) (b .fm) && (eqb (a .pred) (b .pred) && eqb (a .succ) (b .succ)))))
+    && (eqb (a .imm) (b .imm)
+    && ((eqb (a .fm) (b .fm) && (eqb (a .pred) (b .pred) && eqb (a .succ) (b .succ))) && eqb (a .region) (b .region))))
 
 -- the instruction, where the record is that instruction laid out
 abbrev pub laidOut : Flat → Decoded → Decoded

@@ -1,7 +1,7 @@
 // An instruction as numbers alone, since an enum cannot cross to C: laid out, read back, decoded and encoded.
 ghost use mathlib.Core.Path.{_≡_};
 ghost use Rattle.instructions.specs.Decode.{decodeWord};
-ghost use Rattle.koubospar_codec.specs.Flat.{layout, fenceLayout, flatten as flattenOf, unflatten as unflattenOf, same as sameAs, standsFor, flatDecoded, flatEncoded, encodeFlat};
+ghost use Rattle.koubospar_codec.specs.Flat.{layout, fenceLayout, hWordLayout, flatten as flattenOf, unflatten as unflattenOf, same as sameAs, standsFor, flatDecoded, flatEncoded, encodeFlat};
 use decode::decode;
 use encode::encode;
 use instructions::instruction::Decoded;
@@ -9,7 +9,8 @@ use instructions::instruction::Encoded;
 use instructions::instruction::Instruction;
 
 // A group from 1 to 17, in the order of the enum of instructions, a kind by its code, and every field that some group
-// has. `imm` is an immediate, an offset in bytes or a shift's amount. Fields that a group lacks are 0.
+// has. `imm` is an immediate, an offset in bytes or a shift's amount, `region` the explicit region of an h-word. Fields
+// that a group lacks are 0.
 #[repr(C)]
 pub struct Flat {
     pub group: u64,
@@ -21,6 +22,7 @@ pub struct Flat {
     pub fm: u64,
     pub pred: u64,
     pub succ: u64,
+    pub region: u64,
 }
 
 // 0 and the instruction, or 13 and zeros.
@@ -50,6 +52,7 @@ fn lay_out(group: u64, kind: u64, rd: u64, rs1: u64, rs2: u64, imm: u64) -> Flat
         fm: 0,
         pred: 0,
         succ: 0,
+        region: 0,
     }
 }
 
@@ -66,6 +69,24 @@ fn lay_out_fence(fm: u64, pred: u64, succ: u64, rs1: u64, rd: u64) -> Flat
         fm: fm,
         pred: pred,
         succ: succ,
+        region: 0,
+    }
+}
+
+fn lay_out_h_word(group: u64, kind: u64, region: u64, rd: u64, rs1: u64, rs2: u64, imm: u64) -> Flat
+    ensures { λ r. ⌜ r ≡ hWordLayout group kind region rd rs1 rs2 imm ⌝ }
+{
+    Flat {
+        group: group,
+        kind: kind,
+        rd: rd,
+        rs1: rs1,
+        rs2: rs2,
+        imm: imm,
+        fm: 0,
+        pred: 0,
+        succ: 0,
+        region: region,
     }
 }
 
@@ -87,8 +108,24 @@ pub fn flatten(i: Instruction) -> Flat
         Instruction::RegisterWord(k, rd, rs1, rs2) => lay_out(12, k.code(), rd, rs1, rs2, 0),
         Instruction::Fence(fm, pred, succ, rs1, rd) => lay_out_fence(fm, pred, succ, rs1, rd),
         Instruction::System(k) => lay_out(14, k.code(), 0, 0, 0, 0),
-        Instruction::HLoad(k, rd, rs1, imm) => lay_out(15, k.code(), rd, rs1, 0, imm),
-        Instruction::HStore(k, rs1, rs2, imm) => lay_out(16, k.code(), 0, rs1, rs2, imm),
+        Instruction::HLoad(k, region, rd, rs1, imm) => lay_out_h_word(
+            15,
+            k.code(),
+            region,
+            rd,
+            rs1,
+            0,
+            imm,
+        ),
+        Instruction::HStore(k, region, rs1, rs2, imm) => lay_out_h_word(
+            16,
+            k.code(),
+            region,
+            0,
+            rs1,
+            rs2,
+            imm,
+        ),
         Instruction::Hfi(k, rd, rs1, rs2) => lay_out(17, k.code(), rd, rs1, rs2, 0),
     }
 }
@@ -103,8 +140,8 @@ pub fn unflatten(f: Flat) -> Decoded
         2 => Decoded::Legal(Instruction::Jal(f.rd, f.imm)),
         3 => Decoded::Legal(Instruction::Jalr(f.rd, f.rs1, f.imm)),
         4 => listing::branch(f.kind, f.rs1, f.rs2, f.imm),
-        5 => listing::load(false, f.kind, f.rd, f.rs1, f.imm),
-        6 => listing::store(false, f.kind, f.rs1, f.rs2, f.imm),
+        5 => listing::load(false, f.kind, 0, f.rd, f.rs1, f.imm),
+        6 => listing::store(false, f.kind, 0, f.rs1, f.rs2, f.imm),
         7 => listing::immediate(f.kind, f.rd, f.rs1, f.imm),
         8 => listing::shift(f.kind, f.rd, f.rs1, f.imm),
         9 => Decoded::Legal(Instruction::Addiw(f.rd, f.rs1, f.imm)),
@@ -113,8 +150,8 @@ pub fn unflatten(f: Flat) -> Decoded
         12 => listing::register_word(f.kind, f.rd, f.rs1, f.rs2),
         13 => Decoded::Legal(Instruction::Fence(f.fm, f.pred, f.succ, f.rs1, f.rd)),
         14 => listing::system(f.kind),
-        15 => listing::load(true, f.kind, f.rd, f.rs1, f.imm),
-        16 => listing::store(true, f.kind, f.rs1, f.rs2, f.imm),
+        15 => listing::load(true, f.kind, f.region, f.rd, f.rs1, f.imm),
+        16 => listing::store(true, f.kind, f.region, f.rs1, f.rs2, f.imm),
         17 => listing::hfi(f.kind, f.rd, f.rs1, f.rs2),
         _ => Decoded::Illegal,
     }
@@ -125,8 +162,8 @@ fn same(a: Flat, b: Flat) -> bool
 {
     let shape = (a.group == b.group) & (a.kind == b.kind);
     let registers = (a.rd == b.rd) & ((a.rs1 == b.rs1) & (a.rs2 == b.rs2));
-    let rest = (a.imm == b.imm) & ((a.fm == b.fm) & ((a.pred == b.pred) & (a.succ == b.succ)));
-    shape & (registers & rest)
+    let fence = (a.fm == b.fm) & ((a.pred == b.pred) & (a.succ == b.succ));
+    shape & (registers & ((a.imm == b.imm) & (fence & (a.region == b.region))))
 }
 
 // The instruction that the record stands for: the one that is read from it, if the record is that one laid out.

@@ -87,6 +87,10 @@ questions =
     ∷ (three ++ ascii ",100000000,42,43,51,52,53,61,62,63,71,72,73,81,82,83,91,92,93" ++ ten ++ ascii ",a", 0)
     ∷ (three ++ six ++ ascii ",a1,a2,100,a", 34)
     ∷ (three ++ six ++ ascii ",a1,a2,ff,a", 0)
+    -- an empty permission before the budget, and an empty pc
+    ∷ (ascii "0,5,100,200,10,3,0,0,0,0,fffffffffffffff0,,a", 33)
+    ∷ (three ++ six ++ ascii ",a1,a2,,a", 33)
+    ∷ (ascii ",5,100,200,10,3,0,0,0,0,fffffffffffffff0,4,a", 33)
     -- 33 is asked before 34: options of 100 and an empty field
     ∷ (ascii "0,100,100,200,10,3,0,0,0,0,,4,a", 33)
     ∷ []

@@ -22,18 +22,19 @@ budgetField n = 3 + 3 * n
 abbrev pub setupFields : ℕ → ℕ
 setupFields n = 4 + 3 * n
 
--- "A setup line has 13 fields, the other regions then being zero, or 34, with regions 1 to 10 in order and the budget last." (02, Job 7):
--- it gives three regions, or all
+-- "A setup line has 13 fields, the other regions then being zero, or 34, with regions 1 to 10 in order and the budget last." (02, Job 7)
+
+-- 13 fields give three regions, 34 give all
 abbrev pub fewRegions : ℕ
 fewRegions = 3
-
-abbrev pub regionsGiven : ℕ → ℕ
-regionsGiven count = cond (eqb count (setupFields fewRegions)) fewRegions lastRegion
 
 abbrev pub counted : ℕ → Bool
 counted count = eqb count (setupFields fewRegions) || eqb count (setupFields lastRegion)
 
--- line 1 in slots, which the 34 fields fill
+abbrev pub regionsGiven : ℕ → ℕ
+regionsGiven count = cond (eqb count (setupFields fewRegions)) fewRegions lastRegion
+
+-- line 1 as a row, with a slot for each of 34 fields
 abbrev pub setupRow : List ℕ → Row
 setupRow line = rowOf (setupFields lastRegion) line
 
@@ -41,7 +42,7 @@ setupRow line = rowOf (setupFields lastRegion) line
 abbrev pub defaultBudget : ℕ
 defaultBudget = 50000
 
--- the values of a row that gives n regions
+-- the values of a row that gives n regions, "the other regions then being zero"
 abbrev pub setupOf : ℕ → Row → Setup
 setupOf n r =
     record {

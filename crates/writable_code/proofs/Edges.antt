@@ -3,11 +3,11 @@
 use mathlib.Core.Path.{_≡_, refl, ap, ap₂, sym, _∙_}
 use mathlib.Core.Bool.{Bool, false, _||_, or-assoc}
 use mathlib.Core.List.{List, [], _∷_, _++_}
-use Prim.Native.Nat.{ℕ, suc, _+_, _<_, _≤_}
+use Prim.Native.Nat.{ℕ, suc, _+_, _-_, _<_, _≤_}
 use native.Mathlib.Omega.{arith}
 use lib.ListN.{length, getD, drop, drop-of-length-le}
 use lib.Seq.{drop-cons}
-use Rattle.model.specs.Machine.{noRegion}
+use Rattle.model.specs.Machine.{noRegion, region}
 use Rattle.model.specs.Regions.{regionKind}
 use Rattle.model.specs.WritableCode.{edgesOf, edges, some}
 use Rattle.model.specs.declared.Region.{Region}
@@ -17,14 +17,15 @@ some-of-both p [] cs = refl
 some-of-both p (b ∷ bs) cs = ap (λ t. p b || t) (some-of-both p bs cs) ∙ sym (or-assoc (p b) (some p bs) (some p cs))
 
 module _ (p : ℕ → Bool) (rs : List Region) (i : ℕ) where
-  -- from the region at index i on: the test covers at one of its edges, or the rest decides
-  pub edges-next : {q t : Bool} → i < length rs → q ≡ some p (edgesOf (regionKind (i + 1)) (getD rs i noRegion)) → q ≡ t
+  -- from the region at index i on: the test holds at one of its edges, or the rest decides
+  pub edges-next : {q t : Bool} {r : Region} → i < length rs → r ≡ region rs (i + 1) → q ≡ some p (edgesOf (regionKind (i + 1)) r) → q ≡ t
       → (t || some p (edges (i + 1 + 1) (drop (i + 1) rs))) ≡ some p (edges (i + 1) (drop i rs))
-  edges-next h e f =
+  edges-next {q} {t} {r} h g e f =
       let s : suc i ≡ i + 1 = omega arith in
       let u : suc (i + 1) ≡ i + 1 + 1 = omega arith in
+      let v : i + 1 - 1 ≡ i = omega arith in
       let here = edgesOf (regionKind (i + 1)) (getD rs i noRegion) in
-      rw (← f, e)
+      rw (← f, e ∙ ap (λ x. some p (edgesOf (regionKind (i + 1)) x)) (g ∙ ap (λ k. getD rs k noRegion) v))
       (sym (ap (λ l. some p (edges (i + 1) l)) (drop-cons rs i noRegion h)
       ∙ some-of-both p here (edges (suc (i + 1)) (drop (suc i) rs))
       ∙ ap₂ (λ n k. some p here || some p (edges n (drop k rs))) u s))

@@ -1,2 +1,3 @@
-pub mod Implicit
+pub mod ByNumber
+pub mod Explicit
 pub mod Edges

@@ -3,6 +3,7 @@
 ghost use mathlib.Core.Path.{_≡_};
 ghost use mathlib.Core.Bool.{true};
 ghost use Prim.Native.Nat.{_<_};
+ghost use Rattle.instructions.specs.HWords.{explicitRegions, among};
 ghost use Rattle.model.specs.Regions.{regionKind};
 ghost use Rattle.model.specs.WritableCode.{covers as isCovered, explicitCovers, writableAt, executableAt, bothAt, keepsRule, regionEnd, edgesOf, some, writableCode, exposesCode};
 ghost use Rattle.hart.specs.State.{regionsOf, stateWith};
@@ -73,13 +74,27 @@ fn both_at(rs: &[u64; REGION_NUMBERS], a: u64) -> bool
     }
 }
 
+// Is region `n` explicit?
+fn is_explicit(n: u64) -> bool
+    ensures { λ q. ⌜ q ≡ among n explicitRegions ⌝ }
+{
+    match n {
+        1 => true,
+        4 => true,
+        5 => true,
+        6 => true,
+        _ => false,
+    }
+}
+
 // Does the region keep the rule of number `n`'s kind?
 fn keeps_rule(n: u64, r: Region) -> bool
     ensures { λ q. ⌜ q ≡ keepsRule (regionKind n) r ⌝ }
 {
-    match n {
-        1 | 4 | 5 | 6 => explicit_rule(r),
-        _ => implicit_rule(r),
+    if is_explicit(n) {
+        explicit_rule(r)
+    } else {
+        implicit_rule(r)
     }
 }
 
@@ -88,9 +103,10 @@ fn region_end(n: u64, r: Region) -> u64
     requires { ⌜ keepsRule (regionKind n) r ≡ true ⌝ }
     ensures { λ q. ⌜ q ≡ regionEnd (regionKind n) r ⌝ }
 {
-    match n {
-        1 | 4 | 5 | 6 => r.base + r.bound,
-        _ => r.base + (1u64 << mask_zeros(r.bound)),
+    if is_explicit(n) {
+        r.base + r.bound
+    } else {
+        r.base + (1u64 << mask_zeros(r.bound))
     }
 }
 
@@ -123,9 +139,5 @@ pub fn writable_code(rs: &[u64; REGION_NUMBERS]) -> bool
 pub fn exposes_code(h: Control, rs: &[u64; REGION_NUMBERS]) -> bool
     ensures { λ q. ⌜ q ≡ exposesCode (stateWith h (regionsOf (now (rs .entry)))) ⌝ }
 {
-    if locked(h) {
-        writable_code(rs)
-    } else {
-        false
-    }
+    if locked(h) { writable_code(rs) } else { false }
 }

@@ -1,7 +1,7 @@
 use mathlib.Core.Path.{sym, ap, _∙_}
 use native.Mathlib.Omega.{arith}
 use Rattle.instructions.specs.Encode.{encodeFields, inRange}
-use Rattle.instructions.proofs.Tests.{amount-range, fence-range}
+use Rattle.instructions.proofs.Tests.{amount-range, fence-range, h-load-range, h-store-range}
 use Rattle.instructions.proofs.Tables.{hfi-code}
 use borrow.Author.Needs.{needs}
 use Rattle.encode.proofs.encode_fields.Statement.{statement}
@@ -18,6 +18,22 @@ fence-fields-requires c κs =
     let v = c .before .i13 .given in
     fence-range (v .0 .0) (v .0 .1 .0) (v .0 .1 .1 .0) (v .0 .1 .1 .1 .0) (v .0 .1 .1 .1 .1 .0)
     (ap inRange (sym (v .1)) ∙ c .before .before .before .pre)
+
+h-load-fields-requires : tie.Need-h-load-fields-requires
+h-load-fields-requires c κs =
+    let v = c .before .i15 .given in
+    let t =
+    h-load-range (v .0 .0) (v .0 .1 .0) (v .0 .1 .1 .0) (v .0 .1 .1 .1 .0) (v .0 .1 .1 .1 .1 .0)
+    (ap inRange (sym (v .1)) ∙ c .before .before .before .pre) in
+    (t .1, t .2)
+
+h-store-fields-requires : tie.Need-h-store-fields-requires
+h-store-fields-requires c κs =
+    let v = c .before .i16 .given in
+    let t =
+    h-store-range (v .0 .0) (v .0 .1 .0) (v .0 .1 .1 .0) (v .0 .1 .1 .1 .0) (v .0 .1 .1 .1 .1 .0)
+    (ap inRange (sym (v .1)) ∙ c .before .before .before .pre) in
+    (t .1, t .2)
 
 pub encode-fields-spec : {M : Type 1} → statement M
 encode-fields-spec =
@@ -61,11 +77,9 @@ encode-fields-spec =
     (λ c κs. search needs)
     (λ c κs. search needs)
     (λ c. search needs)
-    (λ c κs. search needs)
-    (λ c κs. search needs)
+    h-load-fields-requires
     (λ c. search needs)
-    (λ c κs. search needs)
-    (λ c κs. search needs)
+    h-store-fields-requires
     (λ c. search needs)
     (λ c κs. search needs)
     (λ c κs. omega (arith, hfi-code (c .before .before .i17 .given .0 .0) .small))
@@ -84,6 +98,6 @@ encode-fields-spec =
     (λ c. rw (c .r-fields3 .ensures, c .before .code8 .ensures) (ap encodeFields (sym (c .before .before .before .i12 .given .1))))
     (λ c. rw (c .fence-fields .ensures) (ap encodeFields (sym (c .before .before .i13 .given .1))))
     (λ c. rw (c .i-fields5 .ensures, c .before .code9 .ensures) (ap encodeFields (sym (c .before .before .before .i14 .given .1))))
-    (λ c. rw (c .i-fields6 .ensures, c .before .code10 .ensures) (ap encodeFields (sym (c .before .before .before .i15 .given .1))))
-    (λ c. rw (c .s-fields2 .ensures, c .before .code11 .ensures) (ap encodeFields (sym (c .before .before .before .i16 .given .1))))
-    (λ c. rw (c .r-fields4 .ensures, c .before .put .ensures, c .before .before .code12 .ensures) (ap encodeFields (sym (c .before .before .before .before .i17 .given .1)))))
+    (λ c. rw (c .h-load-fields .ensures) (ap encodeFields (sym (c .before .before .i15 .given .1))))
+    (λ c. rw (c .h-store-fields .ensures) (ap encodeFields (sym (c .before .before .i16 .given .1))))
+    (λ c. rw (c .r-fields4 .ensures, c .before .put .ensures, c .before .before .code10 .ensures) (ap encodeFields (sym (c .before .before .before .before .i17 .given .1)))))

@@ -13,7 +13,7 @@ returns-17 c =
     let rd = v .0 .1 .0 in
     let rs1 = v .0 .1 .1 .0 in
     let rs2 = v .0 .1 .1 .1 .0 in
-    rw (c .two-registers14 .ensures, c .before .fields-named .ensures, c .before .before .code .ensures)
+    rw (c .two-registers12 .ensures, c .before .fields-named .ensures, c .before .before .code .ensures)
     (ap (λ (b : Bool). two rd rs1 (ltb rs2 32 && b)) (named-row (v .0 .0) rd rs1 rs2) ∙ ap inRange (sym (v .1)))
 
 pub in-range-spec : {M : Type 1} → statement M
@@ -55,9 +55,7 @@ in-range-spec =
     (λ c. search needs)
     (λ c. search needs)
     (λ c κs. search needs)
-    (λ c κs. search needs)
     (λ c. search needs)
-    (λ c κs. search needs)
     (λ c κs. search needs)
     (λ c. search needs)
     (λ c κs. search needs)
@@ -77,6 +75,6 @@ in-range-spec =
     (λ c. rw (c .two-registers10 .ensures) (ap inRange (sym (c .before .before .i12 .given .1))))
     (λ c. rw (c .two-registers11 .ensures) (ap inRange (sym (c .before .before .i13 .given .1))))
     (λ c. ap inRange (sym (c .enum-told .given .1)))
-    (λ c. rw (c .two-registers12 .ensures, c .before .fits-signed6 .ensures) (ap inRange (sym (c .before .before .before .i14 .given .1))))
-    (λ c. rw (c .two-registers13 .ensures, c .before .fits-signed7 .ensures) (ap inRange (sym (c .before .before .before .i15 .given .1))))
+    (λ c. rw (c .h-word-in-range .ensures) (ap inRange (sym (c .before .before .i14 .given .1))))
+    (λ c. rw (c .h-word-in-range2 .ensures) (ap inRange (sym (c .before .before .i15 .given .1))))
     returns-17)

@@ -12,7 +12,7 @@ writable-code-requires c κs = search needs
 
 returns : tie.Need-returns
 unfolding exposesCode
-returns c = rw (sym (c .before .before .before .locked .ensures) ∙ c .before .before .if1 .taken) (c .writable-code .ensures)
+returns c = rw (sym (c .before .before .locked .ensures) ∙ c .before .if1 .taken) (c .writable-code .ensures)
 
 returns-2 : tie.Need-returns-2
 unfolding exposesCode

@@ -1,8 +1,11 @@
-use mathlib.Core.Path.{_∙_}
-use Rattle.writable_code.proofs.Implicit.{implicit-keeps}
+use mathlib.Core.Path.{sym, _∙_}
+use Rattle.writable_code.proofs.ByNumber.{explicit-keeps, implicit-keeps}
 use borrow.Author.Needs.{needs}
 use Rattle.writable_code.proofs.keeps_rule.Statement.{statement}
 use Rattle.writable_code.proofs.keeps_rule.Tie as tie
+
+is-explicit-requires : tie.Need-is-explicit-requires
+is-explicit-requires c κs = search needs
 
 explicit-rule-requires : tie.Need-explicit-rule-requires
 explicit-rule-requires c κs = search needs
@@ -11,11 +14,18 @@ implicit-rule-requires : tie.Need-implicit-rule-requires
 implicit-rule-requires c κs = search needs
 
 returns : tie.Need-returns
-returns c = rw (c .before .match .keys1) (c .explicit-rule .ensures)
+returns c =
+    let s = c .before .before in
+    let a = s .before .args in
+    c .explicit-rule .ensures ∙ explicit-keeps (a .n) (a .r) (sym (s .is-explicit .ensures) ∙ c .before .if1 .taken)
 
 returns-2 : tie.Need-returns-2
-returns-2 c = let a = c .before .before .args in c .implicit-rule .ensures ∙ implicit-keeps (a .n) (a .r) (c .before .match .rest .1)
+returns-2 c =
+    let s = c .before .before in
+    let a = s .before .args in
+    c .implicit-rule .ensures ∙ implicit-keeps (a .n) (a .r) (sym (s .is-explicit .ensures) ∙ c .before .if1 .left)
 
 pub keeps-rule-spec : {M : Type 1} → statement M
 keeps-rule-spec =
-    tie.close (tie.spec explicit-rule-requires implicit-rule-requires returns returns-2)
+    tie.close
+    (tie.spec is-explicit-requires explicit-rule-requires implicit-rule-requires returns returns-2)

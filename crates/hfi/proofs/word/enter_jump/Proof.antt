@@ -1,6 +1,8 @@
 use Prim.Native.Nat.{_%_}
 use borrow.Author.Tests.{eq-eqb, ne-eqb}
 use Rattle.model.specs.Outcome.{aligned}
+use Rattle.hart.specs.State.{regionsOf}
+use Rattle.hfi.proofs.Completes.{completes}
 use borrow.Author.Needs.{needs}
 use Rattle.hfi.proofs.word.enter_jump.Statement.{statement}
 use Rattle.hfi.proofs.word.enter_jump.Tie as tie
@@ -10,7 +12,7 @@ stopped-requires c κs = search needs
 
 returns : tie.Need-returns
 unfolding aligned
-returns c = λ x mem. rw (c .stopped .ensures, ne-eqb (c .before .before .args .target % 4) 0 (c .before .if1 .taken))
+returns c = λ x numbers mem. rw (c .stopped .ensures, ne-eqb (c .before .before .args .target % 4) 0 (c .before .if1 .taken))
 
 entered-requires : tie.Need-entered-requires
 entered-requires c κs = search needs
@@ -20,12 +22,9 @@ completed-requires c κs = search needs
 
 returns-2 : tie.Need-returns-2
 unfolding aligned
-returns-2 c = λ x mem.
-    rw (
-      c .completed .ensures,
-      c .before .entered .ensures,
-      eq-eqb (c .before .before .before .args .target % 4) 0 (c .before .before .if1 .left),
-    )
+returns-2 c = λ x numbers mem.
+    rw (eq-eqb (c .before .before .before .args .target % 4) 0 (c .before .before .if1 .left))
+    (completes x numbers mem (c .completed .ensures) (c .before .entered .ensures (regionsOf numbers)))
 
 pub enter-jump-spec : {M : Type 1} → statement M
 enter-jump-spec =

@@ -33,9 +33,9 @@ returns-2 : tie.Need-returns-2
 unfolding perform executeInstruction allowed hfiStop
 returns-2 c = λ mem.
     c .perform .ensures mem ∙ rw (
-      ← c .before .before .before .before .register .ensures,
-      ← c .before .before .before .hfi-stop .ensures,
-      eq-eqb (c .before .before .before .hfi-stop .result) 0 (c .before .before .if1 .left),
+      ← c .before .before .before .before .before .register .ensures,
+      ← c .before .before .before .before .hfi-stop .ensures,
+      eq-eqb (c .before .before .before .before .hfi-stop .result) 0 (c .before .before .before .if1 .left),
     )
 
 pub hfi-word-spec : {M : Type 1} → statement M

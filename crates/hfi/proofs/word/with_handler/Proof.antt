@@ -6,7 +6,7 @@ clear-handler-requires : tie.Need-clear-handler-requires
 clear-handler-requires c κs = search needs
 
 returns : tie.Need-returns
-returns c = rw (c .clear-handler .ensures)
+returns c = λ rs. rw (c .clear-handler .ensures)
 
 pub with-handler-spec : {M : Type 1} → statement M
 with-handler-spec = tie.close (tie.spec clear-handler-requires returns)
