@@ -1,10 +1,14 @@
-/* The machine's record as document 01 has it: every field 64 bits, in this
-   order. The Rust oracle has the same layout. */
+/* The machine's record as document 01 has it, with the ten regions of Job 7 of
+   document 02: every field 64 bits, in this order. The Rust oracle has the same layout. */
 #ifndef MACHINE_H
 #define MACHINE_H
 
 #include <stddef.h>
 #include <stdint.h>
+
+/* Explicit regions are 1, 4, 5, 6; implicit data regions 2, 7, 8, 9; code regions
+   3, 10. */
+#define REGIONS 10
 
 struct region {
     uint64_t base, bound, permission;
@@ -17,7 +21,7 @@ struct fault {
 struct machine {
     uint64_t x[32];
     uint64_t pc, mode, reason, exit_pc, options, handler, selector;
-    struct region regions[3]; /* region n is regions[n - 1] */
+    struct region regions[REGIONS]; /* region n is regions[n - 1] */
     struct fault fault;
 };
 

@@ -1,18 +1,20 @@
 #!/usr/bin/env python3
-"""Assembles programs/*.S with binutils and writes them as run sheets
-(programs/NAME.sheet) and as arrays of words (programs.h). The expected x10 is
-worked out here in Python, apart from any interpreter; the expected steps are
-those the oracle prints."""
+"""Assembles programs/*.S with binutils, or with LLVM where that is all there is,
+and writes them as run sheets and as arrays of words (programs.h), each twice:
+with three regions in use (programs/NAME.sheet) and with ten
+(programs/NAME-ten.sheet). The expected x10 is worked out here in Python, apart
+from any interpreter; the expected steps are those the oracle prints."""
 import os
+import shutil
 import struct
 import subprocess
-import sys
 import tempfile
 import zlib
 
 HERE = os.path.dirname(os.path.abspath(__file__))
 ONES = (1 << 64) - 1
 BINUTILS = "riscv64-linux-gnu-"
+H_LOAD, H_STORE = 0x0b, 0x2b
 
 
 def generator():
@@ -64,54 +66,135 @@ def mask(k):
     return ONES << k & ONES
 
 
-# name, regions 1 to 3 (base, bound or mask, permission), stop, x10
+NONE = (0, 0, 0)
+
+# name, regions 1 to 3 (base, bound or mask, permission), where memory is free, stop, x10
 PROGRAMS = [
-    ("crc-32", (0, 0, 0), (0x2000, mask(13), 3), (0, mask(12), 4), 18, crc()),
-    ("sieve", (0, 0, 0), (0x8000, mask(15), 3), (0, mask(12), 4), 18, primes()),
-    ("matrix", (0, 0, 0), (0x4000, mask(14), 3), (0, mask(12), 4), 18, matrix()),
-    ("copy", (0x2000, 0x800, 3), (0, 0, 0), (0, mask(13), 4), 20, copy()),
-    ("matrix-mul", (0, 0, 0), (0x4000, mask(14), 3), (0, mask(12), 4), 18, matrix()),
+    ("crc-32", NONE, (0x2000, mask(13), 3), (0, mask(12), 4), 0x8000, 18, crc()),
+    ("sieve", NONE, (0x8000, mask(15), 3), (0, mask(12), 4), 0x4000, 18, primes()),
+    ("matrix", NONE, (0x4000, mask(14), 3), (0, mask(12), 4), 0x8000, 18, matrix()),
+    ("copy", (0x2000, 0x800, 3), NONE, (0, mask(13), 4), 0x8000, 20, copy()),
+    ("matrix-mul", NONE, (0x4000, mask(14), 3), (0, mask(12), 4), 0x8000, 18, matrix()),
 ]
+
+
+def three(explicit, data, code):
+    """Regions 1 to 3 in use, the others zero."""
+    return [explicit, data, code] + [NONE] * 7
+
+
+def ten(explicit, data, code, free):
+    """All regions in use: what the program needs are the last of their kinds, 6, 9 and 10. The others keep their rules
+    and grant all that their kind can, of 256 bytes each where the program has nothing."""
+    regions = {}
+    for number in range(1, 11):
+        base = free + 0x100 * number
+        if number in (1, 4, 5, 6):
+            regions[number] = (base, 0x100, 3)
+        else:
+            regions[number] = (base, mask(8), 4 if number in (3, 10) else 3)
+    for number, needed in ((6, explicit), (9, data), (10, code)):
+        if needed != NONE:
+            regions[number] = needed
+    return [regions[number] for number in range(1, 11)]
+
+
+def is_h_word(word):
+    return word & 127 in (H_LOAD, H_STORE)
+
+
+def second(word):
+    """Where the field of rd stands, or that of rs2 in an h-store."""
+    return 7 if word & 127 == H_LOAD else 20
+
+
+def choosing_6(word):
+    """An h-word with the top bits of both its register fields set; any other word as it is."""
+    return word | 1 << 19 | 1 << second(word) + 4 if is_h_word(word) else word
+
+
+def registers_fit(words):
+    """Do the h-words name x0 to x15, and choose region 1?"""
+    return not any(is_h_word(w) and (w >> 19 & 1 or w >> second(w) + 4 & 1) for w in words)
 
 
 def assemble(path):
     folder = tempfile.mkdtemp()
     source, thing, image = (os.path.join(folder, n) for n in ("a.s", "a.o", "a.bin"))
     open(source, "w").write(".option norvc\n" + open(path).read())
-    subprocess.run([BINUTILS + "as", "-march=rv64im", "-mno-relax", source, "-o", thing], check=True)
-    subprocess.run([BINUTILS + "ld", "--no-relax", "-Ttext=0", "-e", "0", thing, "-o", thing + "2"], check=True)
-    subprocess.run([BINUTILS + "objcopy", "-O", "binary", "-j", ".text", thing + "2", image], check=True)
+    if shutil.which(BINUTILS + "as"):
+        tools = [BINUTILS + "as"], BINUTILS + "ld", BINUTILS + "objcopy"
+    else:
+        tools = ["clang", "--target=riscv64", "-c"], "ld.lld", "llvm-objcopy"
+    subprocess.run([*tools[0], "-march=rv64im", "-mno-relax", source, "-o", thing], check=True)
+    subprocess.run([tools[1], "--no-relax", "-Ttext=0", "-e", "0", thing, "-o", thing + "2"], check=True)
+    subprocess.run([tools[2], "-O", "binary", "-j", ".text", thing + "2", image], check=True)
     blob = open(image, "rb").read()
+    shutil.rmtree(folder)
     return struct.unpack("<%dI" % (len(blob) // 4), blob)
 
 
-def main():
+def sheet(regions, words):
+    """The sheet, with 13 fields in line 1 where that suffices."""
+    if regions[3:] == [NONE] * 7:
+        regions = regions[:3]
+    fields = [0, 1, 0] + [number for region in regions for number in region] + [1000000]
+    return ",".join("%x" % f for f in fields) + "\n" + "".join("%x,%08x\n" % (4 * i, w) for i, w in enumerate(words))
+
+
+def steps_of(name, text, stop, x10):
+    """The steps that the oracle makes; it must come to this stop and this x10."""
     tool = os.path.join(HERE, "..", "oracle", "target", "release", "oracle")
-    out = ["/* Made by make_programs.py from programs/. Words as binutils assembled them. */",
-           "struct program {", "    const char *name;", "    struct region regions[3];",
-           "    uint64_t stop, steps, x10;", "    const uint32_t *words;", "    size_t count;", "};", ""]
-    table = []
-    for name, r1, r2, r3, stop, x10 in PROGRAMS:
+    printed = subprocess.run([tool, "sheet"], input=text.encode(), stdout=subprocess.PIPE, check=True).stdout.decode()
+    first = printed.split("\n")[0].split(",")
+    assert first[0] == str(stop), (name, printed)
+    assert "10,%x" % x10 in printed.split("\n"), (name, "%x" % x10, printed)
+    return int(first[1], 16)
+
+
+def array(ident, words):
+    rows = ["    " + " ".join("0x%08x," % w for w in words[i:i + 8]) for i in range(0, len(words), 8)]
+    return ["static const uint32_t %s[] = {" % ident] + rows + ["};", ""]
+
+
+def entry(name, regions, stop, steps, x10, ident, words):
+    """A program's line in the table; its steps are those of its sheet, which is written too."""
+    text = sheet(regions, words)
+    open(os.path.join(HERE, "programs", name + ".sheet"), "w").write(text)
+    made = steps_of(name, text, stop, x10)
+    assert steps in (None, made), (name, made)
+    print(name, len(words), "words,", made, "steps, x10 %x" % x10)
+    while regions[-1] == NONE: # C has zeros there
+        regions = regions[:-1]
+    regions = ",\n      ".join("{%#x, %#xu, %d}" % r for r in regions)
+    return made, '    {"%s",\n     {%s},\n     %d, %d, %#xu, %s, %d},' % (name, regions, stop, made, x10, ident, len(words))
+
+
+HEAD = """/* Made by make_programs.py from programs/. First the programs with three regions in use, then the same with ten. */
+struct program {
+    const char *name;
+    struct region regions[REGIONS];
+    uint64_t stop, steps, x10;
+    const uint32_t *words;
+    size_t count;
+};
+"""
+
+
+def main():
+    out, of_three, of_ten = [HEAD], [], []
+    for name, explicit, data, code, free, stop, x10 in PROGRAMS:
         words = assemble(os.path.join(HERE, "programs", name + ".S"))
-        fields = [0, 1, 0, *r1, *r2, *r3, 1000000]
-        text = ",".join("%x" % f for f in fields) + "\n"
-        text += "".join("%x,%08x\n" % (4 * i, w) for i, w in enumerate(words))
-        path = os.path.join(HERE, "programs", name + ".sheet")
-        open(path, "w").write(text)
-        printed = subprocess.run([tool, "sheet"], input=text.encode(), stdout=subprocess.PIPE, check=True).stdout.decode()
-        first = printed.split("\n")[0].split(",")
-        assert int(first[0]) == stop, (name, printed)
-        assert "10,%x" % x10 in printed.split("\n"), (name, "%x" % x10, printed)
-        steps = int(first[1], 16)
-        ident = name.replace("-", "_")
-        out.append("static const uint32_t words_%s[] = {" % ident)
-        for i in range(0, len(words), 8):
-            out.append("    " + " ".join("0x%08x," % w for w in words[i:i + 8]))
-        out += ["};", ""]
-        regions = ", ".join("{%#x, %#xu, %d}" % r for r in (r1, r2, r3))
-        table.append('    {"%s", {%s}, %d, %d, %#xu, words_%s, %d},' % (name, regions, stop, steps, x10, ident, len(words)))
-        print(name, len(words), "words,", steps, "steps, x10 %x" % x10)
-    out += ["static const struct program programs[] = {"] + table + ["};"]
+        assert registers_fit(words), name
+        ident = "words_" + name.replace("-", "_")
+        out += array(ident, words)
+        steps, line = entry(name, three(explicit, data, code), stop, None, x10, ident, words)
+        of_three.append(line)
+        if any(is_h_word(w) for w in words):
+            words, ident = [choosing_6(w) for w in words], ident + "_ten"
+            out += array(ident, words)
+        of_ten.append(entry(name + "-ten", ten(explicit, data, code, free), stop, steps, x10, ident, words)[1])
+    out += ["static const struct program programs[] = {"] + of_three + of_ten + ["};"]
     open(os.path.join(HERE, "programs.h"), "w").write("\n".join(out) + "\n")
 
 

@@ -1,7 +1,7 @@
-/* A plain switch interpreter of the machine of document 01, with Jobs 1, 2, 5
-   and 6 of document 02: RV64I and RV64M with HFI checks on every fetch, load and
-   store. It is the measure of speed; nothing is decoded ahead or remembered
-   from one step to the next. */
+/* A plain switch interpreter of the machine of document 01, with Jobs 1, 2 and 5
+   to 7 of document 02: RV64I and RV64M with HFI checks on every fetch, load and
+   store, over ten regions. It is the measure of speed; nothing is decoded ahead
+   or remembered from one step to the next. */
 #include "machine.h"
 
 #include <string.h>
@@ -13,12 +13,31 @@
 enum { READ = 1, WRITE = 2, EXECUTE = 4, LARGE = 8 };
 enum { OP_LOAD = 1, OP_STORE = 2, OP_FETCH = 3 };
 
+/* The numbers of a kind's regions, rising. */
+struct kind {
+    unsigned count;
+    uint8_t numbers[4];
+};
+
+static const struct kind explicit_data = {4, {1, 4, 5, 6}}, implicit_data = {4, {2, 7, 8, 9}}, implicit_code = {2, {3, 10}};
+
+/* Which permission bits each region has, by its number. */
+enum { EXPLICIT_HAS = READ | WRITE | LARGE, DATA_HAS = READ | WRITE, CODE_HAS = EXECUTE };
+static const uint64_t has[REGIONS + 1] = {0, EXPLICIT_HAS, DATA_HAS, CODE_HAS, EXPLICIT_HAS, EXPLICIT_HAS,
+                                          EXPLICIT_HAS, DATA_HAS, DATA_HAS, DATA_HAS, CODE_HAS};
+
 static int well_formed(const struct machine *m)
 {
+    for (unsigned number = 1; number <= REGIONS; number++)
+        if (m->regions[number - 1].permission & ~has[number])
+            return 0;
     return m->x[0] == 0 && m->mode <= 1 && m->reason <= 2 && m->options <= 15 && !(m->handler & 0xc000000000000003u) &&
-           m->selector <= 3 && !(m->regions[0].permission & ~(uint64_t)(READ | WRITE | LARGE)) &&
-           !(m->regions[1].permission & ~(uint64_t)(READ | WRITE)) && !(m->regions[2].permission & ~(uint64_t)EXECUTE) &&
-           m->fault.occurred <= 1 && m->fault.region <= 3 && m->fault.op <= 3;
+           m->selector <= REGIONS && m->fault.occurred <= 1 && m->fault.region <= REGIONS && m->fault.op <= 3;
+}
+
+static inline const struct region *region_of(const struct machine *m, const struct kind *k, unsigned i)
+{
+    return &m->regions[k->numbers[i] - 1];
 }
 
 /* Does an implicit region keep its rule? With a good mask, low is 2^k - 1. */
@@ -28,27 +47,57 @@ static inline int implicit_rule(const struct region *r)
     return (low & (low + 1)) == 0 && low < TOP && (r->base & low) == 0 && r->base <= TOP - 1 - low;
 }
 
-/* The bytes a .. a + n - 1 of an ordinary access or a fetch. A good region is
-   one stretch below 2^48, so first and last byte decide; which byte was the
-   first refused is sought only after a no. */
-static inline int implicit_grant(struct machine *m, int number, uint64_t a, uint64_t n, uint64_t wanted, uint64_t op)
+/* The number of the first implicit region of the kind that matches a byte; 0 if
+   none does. A region that breaks its rule matches nothing. */
+static inline unsigned first_match(const struct machine *m, const struct kind *k, uint64_t a)
 {
-    const struct region *r = &m->regions[number - 1];
-    int rule = implicit_rule(r);
-    if (rule && (r->permission & wanted) && (a & r->bound) == r->base && ((a + n - 1) & r->bound) == r->base)
-        return 1;
-    uint64_t i = 0, region = 0;
-    for (; i < n; i++) {
-        int match = rule && ((a + i) & r->bound) == r->base;
-        if (!match)
-            break;
-        if (!(r->permission & wanted)) {
-            region = (uint64_t)number;
-            break;
+    for (unsigned i = 0; i < k->count; i++) {
+        const struct region *r = region_of(m, k, i);
+        if ((a & r->bound) == r->base && implicit_rule(r))
+            return k->numbers[i];
+    }
+    return 0;
+}
+
+/* The bytes of an ordinary access or a fetch, one by one; the first that is
+   refused is recorded. */
+static __attribute__((noinline, cold)) int bytes_grant(struct machine *m, const struct kind *k, uint64_t a, uint64_t n,
+                                                       uint64_t wanted, uint64_t op)
+{
+    for (uint64_t i = 0; i < n; i++) {
+        unsigned number = first_match(m, k, a + i);
+        if (number == 0 || !(m->regions[number - 1].permission & wanted)) {
+            m->fault = (struct fault){1, number, op, a + i};
+            return 0;
         }
     }
-    m->fault = (struct fault){1, region, op, a + i};
-    return 0;
+    return 1;
+}
+
+/* Has a region that keeps its rule one of the bytes a .. a + n - 1? Counted from
+   its base on, and round from 2^64 to 0, the last of them then stands before
+   its end, or up to n - 1 places past it. */
+static inline int touches(const struct region *r, uint64_t a, uint64_t n)
+{
+    return a + n - 1 - r->base <= ~r->bound + n - 1;
+}
+
+/* The bytes a .. a + n - 1 of an ordinary access or a fetch. The first region
+   that touches them decides if it has them all: it is one stretch, so its first
+   and last byte tell. They are judged one by one only where it has not, and
+   after a no. A rule is asked after the addresses, which tell more often. */
+static inline __attribute__((always_inline)) int implicit_grant(struct machine *m, const struct kind *k, uint64_t a,
+                                                                uint64_t n, uint64_t wanted, uint64_t op)
+{
+#pragma GCC unroll 4
+    for (unsigned i = 0; i < k->count; i++) {
+        const struct region *r = region_of(m, k, i);
+        if ((a & r->bound) == r->base && ((a + n - 1) & r->bound) == r->base && (r->permission & wanted) && implicit_rule(r))
+            return 1;
+        if (touches(r, a, n) && implicit_rule(r))
+            break;
+    }
+    return bytes_grant(m, k, a, n, wanted, op);
 }
 
 static inline int explicit_rule(const struct region *r)
@@ -61,39 +110,79 @@ static inline int explicit_rule(const struct region *r)
     return base >> 32 == (base + bound - 1) >> 32;
 }
 
-/* The bytes of an h-prefixed access. The offset is rs1's value, unsigned, plus
-   the immediate, a whole number that does not wrap; the address of the first
-   byte, which does, goes to *a. No good bound is above 2^48, so a value or an
-   offset with its top bit set is refused, and other offsets have not wrapped. */
-static inline int explicit_grant(struct machine *m, uint64_t value, int64_t immediate, uint64_t n, uint64_t wanted, uint64_t op,
-                                 uint64_t *a)
+/* Records the first refused byte of an h-prefixed access: its first, or where only
+   the bound refuses, the first that is not below it. */
+static __attribute__((noinline, cold)) int refuse_offset(struct machine *m, uint64_t number, int good, uint64_t offset,
+                                                         uint64_t op)
 {
-    const struct region *r = &m->regions[0];
+    const struct region *r = &m->regions[number - 1];
+    uint64_t i = 0;
+    if (good)
+        while (offset + i < r->bound)
+            i++;
+    m->fault = (struct fault){1, number, op, r->base + offset + i};
+    return 0;
+}
+
+/* The bytes of an h-prefixed access, by the region it chooses alone. The offset
+   is rs1's value, unsigned, plus the immediate, a whole number that does not
+   wrap; the address of the first byte, which does, goes to *a. No good bound is
+   above 2^48, so a value or an offset with its top bit set is refused, and other
+   offsets have not wrapped. */
+static inline int explicit_grant(struct machine *m, uint64_t number, uint64_t value, int64_t immediate, uint64_t n,
+                                 uint64_t wanted, uint64_t op, uint64_t *a)
+{
+    const struct region *r = &m->regions[number - 1];
     uint64_t offset = value + (uint64_t)immediate;
     *a = r->base + offset;
     int good = explicit_rule(r) && (r->permission & wanted) && !((value | offset) >> 63);
     if (good && offset + n <= r->bound)
         return 1;
-    uint64_t i = 0;
-    if (good)
-        while (offset + i < r->bound)
-            i++;
-    m->fault = (struct fault){1, 1, op, *a + i};
+    return refuse_offset(m, number, good, offset, op);
+}
+
+/* May a store or an h-store write the byte? An h-store may choose any explicit
+   region, so these do not hide each other. */
+static int writable(const struct machine *m, uint64_t a)
+{
+    for (unsigned i = 0; i < explicit_data.count; i++) {
+        const struct region *r = region_of(m, &explicit_data, i);
+        if ((r->permission & WRITE) && explicit_rule(r) && a - r->base < r->bound)
+            return 1;
+    }
+    unsigned number = first_match(m, &implicit_data, a);
+    return number != 0 && (m->regions[number - 1].permission & WRITE);
+}
+
+static int executable(const struct machine *m, uint64_t a)
+{
+    unsigned number = first_match(m, &implicit_code, a);
+    return number != 0 && (m->regions[number - 1].permission & EXECUTE);
+}
+
+static int both(const struct machine *m, uint64_t a)
+{
+    return executable(m, a) && writable(m, a);
+}
+
+/* Is the first byte past a region of the kind both? The mask is -2^k. */
+static int both_past(const struct machine *m, const struct kind *k)
+{
+    for (unsigned i = 0; i < k->count; i++)
+        if (both(m, region_of(m, k, i)->base - region_of(m, k, i)->bound))
+            return 1;
     return 0;
 }
 
-/* Is a byte both writable, through region 1 or 2, and executable? A good region
-   is one stretch, and its last byte is below 2^48. Asked once a call and by an
-   enter that locks, so it need not be part of the loop of steps. */
+/* Is a byte both writable and executable? The lowest such byte is the first of a
+   region, or the first past an implicit one that hid it. Asked once a call and
+   by an enter that locks, so it need not be part of the loop of steps. */
 static __attribute__((noinline)) int code_is_writable(const struct machine *m)
 {
-    const struct region *one = &m->regions[0], *two = &m->regions[1], *code = &m->regions[2];
-    if (!(code->permission & EXECUTE) || !implicit_rule(code))
-        return 0;
-    uint64_t first = code->base, last = code->base + ~code->bound;
-    if ((one->permission & WRITE) && explicit_rule(one) && one->base <= last && one->base + one->bound - 1 >= first)
-        return 1;
-    return (two->permission & WRITE) && implicit_rule(two) && two->base <= last && two->base + ~two->bound >= first;
+    for (unsigned i = 0; i < REGIONS; i++)
+        if (both(m, m->regions[i].base))
+            return 1;
+    return both_past(m, &implicit_data) || both_past(m, &implicit_code);
 }
 
 static inline int locked_code_is_writable(const struct machine *m)
@@ -151,8 +240,13 @@ static inline uint64_t word_product_or_quotient(unsigned funct3, uint64_t p, uin
     return word_value(product_or_quotient(funct3, word_value(p), word_value(q)));
 }
 
-/* Which permission bits each region has. */
-static const uint64_t has[4] = {0, READ | WRITE | LARGE, READ | WRITE, EXECUTE};
+/* The region that an h-word chooses by the top bits of rs1's field and of rd's,
+   or rs2's in a store. The low four bits name x0 to x15. */
+static inline uint64_t chosen(unsigned rs1, unsigned other)
+{
+    uint64_t choice = 2 * (rs1 >> 4) + (other >> 4);
+    return explicit_data.numbers[choice];
+}
 
 #define STOP(number)  \
     do {              \
@@ -168,7 +262,7 @@ static inline uint64_t one_step(struct machine *m, uint8_t *memory, size_t lengt
 
     if (pc & 3)
         STOP(10);
-    if (m->mode && !implicit_grant(m, 3, pc, 4, EXECUTE, OP_FETCH))
+    if (m->mode && !implicit_grant(m, &implicit_code, pc, 4, EXECUTE, OP_FETCH))
         STOP(11);
     if (!present(pc, 4, length, address))
         return 12;
@@ -233,11 +327,12 @@ static inline uint64_t one_step(struct machine *m, uint8_t *memory, size_t lengt
         if (w & 8) {
             if (!m->mode)
                 STOP(14);
-            if (!explicit_grant(m, x[rs1], i_value, n, READ, OP_LOAD, &a))
+            if (!explicit_grant(m, chosen(rs1, rd), x[rs1 & 15], i_value, n, READ, OP_LOAD, &a))
                 STOP(16);
+            rd &= 15;
         } else {
             a = x[rs1] + (uint64_t)i_value;
-            if (m->mode && !implicit_grant(m, 2, a, n, READ, OP_LOAD))
+            if (m->mode && !implicit_grant(m, &implicit_data, a, n, READ, OP_LOAD))
                 STOP(16);
         }
         if (!present(a, n, length, address))
@@ -261,11 +356,12 @@ static inline uint64_t one_step(struct machine *m, uint8_t *memory, size_t lengt
         if (w & 8) {
             if (!m->mode)
                 STOP(14);
-            if (!explicit_grant(m, x[rs1], s_value, n, WRITE, OP_STORE, &a))
+            if (!explicit_grant(m, chosen(rs1, rs2), x[rs1 & 15], s_value, n, WRITE, OP_STORE, &a))
                 STOP(16);
+            rs2 &= 15;
         } else {
             a = x[rs1] + (uint64_t)s_value;
-            if (m->mode && !implicit_grant(m, 2, a, n, WRITE, OP_STORE))
+            if (m->mode && !implicit_grant(m, &implicit_data, a, n, WRITE, OP_STORE))
                 STOP(16);
         }
         if (!present(a, n, length, address))
@@ -417,7 +513,7 @@ static inline uint64_t one_step(struct machine *m, uint8_t *memory, size_t lengt
                 next = m->handler;
             break;
         case 3:
-            if (operand < 1 || operand > 3)
+            if (operand < 1 || operand > REGIONS)
                 STOP(14);
             m->selector = operand;
             break;

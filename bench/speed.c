@@ -1,7 +1,7 @@
-/* speed RUNS: times runs of the five programs by both engines in turn, and prints the steps a second of each and the
-   ratio. speed ENGINE PROGRAM: one run, for counting instructions; PROGRAM from 0 on, or no run at all for 9.
-   Every run starts from a fresh machine in locked HFI mode and fresh memory; only the run call is timed. Stop, steps
-   and x10 are checked each time. */
+/* speed RUNS: times runs of the programs, with three regions in use and with ten, by both engines in turn, and prints the
+   steps a second of each and the ratio. speed programs: their numbers, names and steps. speed ENGINE PROGRAM: one run, for
+   counting instructions; PROGRAM from 0 on, or no run at all past the last. Every run starts from a fresh machine in locked
+   HFI mode and fresh memory; only the run call is timed. Stop, steps and x10 are checked each time. */
 #include "../c/koubospar.h"
 #include "machine.h"
 #include "programs.h"
@@ -66,6 +66,24 @@ static double one_run(const struct engine *e, const struct program *p)
     return end - start;
 }
 
+/* Times a program by both engines and prints a line. */
+static void compare(const struct program *p, size_t runs)
+{
+    double rate[2], middle[2], steps = (double)p->steps;
+    double *t = malloc(2 * runs * sizeof *t);
+    for (size_t i = 0; i < runs; i++) /* in turn, so that both meet the same machine */
+        for (size_t e = 0; e < 2; e++)
+            t[e * runs + i] = one_run(&engines[e], p);
+    for (size_t e = 0; e < 2; e++) {
+        qsort(t + e * runs, runs, sizeof *t, less);
+        rate[e] = steps / t[e * runs] / 1e6;
+        middle[e] = steps / t[e * runs + runs / 2] / 1e6;
+    }
+    printf("%-14s %9.0f   %6.1f (%6.1f) M/s   %6.1f (%6.1f) M/s   %.2f (%.2f)\n", p->name, steps, rate[0], middle[0], rate[1],
+           middle[1], rate[1] / rate[0], middle[1] / middle[0]);
+    free(t);
+}
+
 int main(int argc, char **argv)
 {
     size_t number = sizeof programs / sizeof programs[0];
@@ -75,22 +93,14 @@ int main(int argc, char **argv)
             one_run(&engines[strcmp(argv[1], "proved") == 0], &programs[p]);
         return 0;
     }
-    int runs = argc > 1 ? atoi(argv[1]) : 50;
-    printf("program        steps   plain best (median)  proved best (median)  ratio of the best (of the medians)\n");
-    for (size_t p = 0; p < number; p++) {
-        double rate[2], middle[2];
-        double *t = malloc(2 * (size_t)runs * sizeof *t);
-        for (int i = 0; i < runs; i++) /* in turn, so that both meet the same machine */
-            for (int e = 0; e < 2; e++)
-                t[e * runs + i] = one_run(&engines[e], &programs[p]);
-        for (int e = 0; e < 2; e++) {
-            qsort(t + e * runs, (size_t)runs, sizeof *t, less);
-            rate[e] = (double)programs[p].steps / t[e * runs] / 1e6;
-            middle[e] = (double)programs[p].steps / t[e * runs + runs / 2] / 1e6;
-        }
-        printf("%-10s %9.0f   %6.1f (%6.1f) M/s   %6.1f (%6.1f) M/s   %.2f (%.2f)\n", programs[p].name, (double)programs[p].steps,
-               rate[0], middle[0], rate[1], middle[1], rate[1] / rate[0], middle[1] / middle[0]);
-        free(t);
+    if (argc == 2 && strcmp(argv[1], "programs") == 0) {
+        for (size_t p = 0; p < number; p++)
+            printf("%zu %s %llu\n", p, programs[p].name, (unsigned long long)programs[p].steps);
+        return 0;
     }
+    int runs = argc > 1 ? atoi(argv[1]) : 50;
+    printf("program            steps   plain best (median)   proved best (median)  ratio of the best (of the medians)\n");
+    for (size_t p = 0; p < number; p++)
+        compare(&programs[p], runs > 0 ? (size_t)runs : 1);
     return 0;
 }

@@ -1,6 +1,7 @@
 /* example: guest programs in sandboxes, as a controller runs them. Each result is printed as the sheet program
  * prints it. The second program makes a system call; the controller answers it and goes on. A third sandbox grants a
- * byte of its code for writing too, and its run is refused. In a fourth the program tries to widen what it was granted. */
+ * byte of its code for writing too, and its run is refused. In a fourth the program tries to widen what it was granted. The
+ * fifth has several regions at once: a stack, a curve, and a shared table that it may only read. */
 #include "koubospar.h"
 
 #include <inttypes.h>
@@ -22,17 +23,40 @@ static void place(uint8_t *memory, const struct placed *words, size_t count)
             memory[words[i].address + byte] = (uint8_t)(words[i].word >> 8 * byte);
 }
 
-/* A machine in locked HFI mode that hands exits to 100: 16 bytes of explicit data at 200, which it may read and write,
- * and code from 0 on, as many bytes as the mask leaves. */
-static struct koubospar_machine sandbox(uint64_t code_mask)
+static void grant(struct koubospar_machine *m, int number, uint64_t base, uint64_t bound, uint64_t permission)
+{
+    m->hfi.regions[number - 1] = (struct koubospar_region){.base = base, .bound = bound, .permission = permission};
+}
+
+/* A machine in locked HFI mode that hands exits to 100, with code from 0 on, as many bytes as the mask leaves. */
+static struct koubospar_machine only_code(uint64_t code_mask)
 {
     struct koubospar_machine m;
     memset(&m, 0, sizeof m);
     m.hfi.mode = 1;
     m.hfi.options = 5;
     m.hfi.handler = 0x100;
-    m.hfi.regions[0] = (struct koubospar_region){.base = 0x200, .bound = 0x10, .permission = 3};
-    m.hfi.regions[2] = (struct koubospar_region){.base = 0, .bound = code_mask, .permission = 4};
+    grant(&m, KOUBOSPAR_CODE_0, 0, code_mask, 4);
+    return m;
+}
+
+/* The same with 16 bytes of explicit data at 200, which it may read and write. */
+static struct koubospar_machine sandbox(uint64_t code_mask)
+{
+    struct koubospar_machine m = only_code(code_mask);
+    grant(&m, KOUBOSPAR_EXPLICIT_0, 0x200, 0x10, 3);
+    return m;
+}
+
+/* Three kinds of data: a stack of 256 bytes that grows down from 1100; in its last 16, from 1000 on, a table that several
+ * programs share, which region 2 lets this one only read, since it is asked before region 7; and a curve of 32 bytes at
+ * 2000, for h-words alone. */
+static struct koubospar_machine several(void)
+{
+    struct koubospar_machine m = only_code(0xffffffffffffff80);
+    grant(&m, KOUBOSPAR_DATA_0, 0x1000, 0xfffffffffffffff0, 1);
+    grant(&m, KOUBOSPAR_DATA_1, 0x1000, 0xffffffffffffff00, 3);
+    grant(&m, KOUBOSPAR_EXPLICIT_1, 0x2000, 0x20, 3);
     return m;
 }
 
@@ -74,6 +98,29 @@ static const struct placed widening[] = {
     {0x8, 0x0c02805b}, /* set bound x5: it never comes to this */
 };
 
+/* c/regions.sheet: the sum of products of table and curve */
+static const struct placed summing[] = {
+    {0x0, 0x00001137},  /* lui x2, 1 */
+    {0x4, 0x10010113},  /* addi x2, x2, 256: the stack's end */
+    {0x8, 0x00001437},  /* lui x8, 1: the table */
+    {0xc, 0x00000493},  /* addi x9, x0, 0 */
+    {0x10, 0x0004aa8b}, /* hlw x5, 0(x9): of region 4, as the top bit of rd's field says (21 for x5) */
+    {0x14, 0x00940333}, /* add x6, x8, x9 */
+    {0x18, 0x00032303}, /* lw x6, 0(x6): region 2 grants it */
+    {0x1c, 0x026282b3}, /* mul x5, x5, x6 */
+    {0x20, 0x00550533}, /* add x10, x10, x5 */
+    {0x24, 0xff810113}, /* addi x2, x2, -8 */
+    {0x28, 0x00a13023}, /* sd x10, 0(x2): region 7 grants it */
+    {0x2c, 0x00448493}, /* addi x9, x9, 4 */
+    {0x30, 0x0104a393}, /* slti x7, x9, 16 */
+    {0x34, 0xfc039ee3}, /* bne x7, x0, -36 */
+    {0x38, 0x01a0382b}, /* hsd x10, 16(x0): in region 4 (26 for x10) */
+    {0x3c, 0x00042023}, /* sw x0, 0(x8): region 2 refuses it, though region 7 would grant it */
+    {0x40, 0x0400005b}, /* hfiexit */
+    {0x1000, 2}, {0x1004, 4}, {0x1008, 6}, {0x100c, 8}, /* the table */
+    {0x2000, 3}, {0x2004, 5}, {0x2008, 7}, {0x200c, 9}, /* the curve */
+};
+
 int main(void)
 {
     static uint8_t memory[LENGTH];
@@ -94,7 +141,7 @@ int main(void)
     }
 
     m = sandbox(0xfffffffffffffff0);
-    m.hfi.regions[0].base = 0xf; /* the last byte of the code: c/writable.sheet */
+    m.hfi.regions[KOUBOSPAR_EXPLICIT_0 - 1].base = 0xf; /* the last byte of the code: c/writable.sheet */
     r = koubospar_run(&m, memory, sizeof memory, 10);
     print(r, &m); /* KOUBOSPAR_WRITABLE_CODE */
 
@@ -102,5 +149,10 @@ int main(void)
     m = sandbox(0xfffffffffffffff0);
     r = koubospar_run(&m, memory, sizeof memory, 10);
     print(r, &m); /* KOUBOSPAR_SETTING_FORBIDDEN, at the pc of the select */
+
+    place(memory, summing, sizeof summing / sizeof summing[0]);
+    m = several();
+    r = koubospar_run(&m, memory, sizeof memory, 100);
+    print(r, &m); /* KOUBOSPAR_DATA_REFUSED, by region 2 */
     return 0;
 }

@@ -30,18 +30,42 @@ extern "C" {
 
 /* ---- the machine ---------------------------------------------------------------------------------------------- */
 
-/* "permissions: bit 0 read, bit 1 write, bit 2 execute, bit 3 large". Region 1, explicit data, has bits 0, 1 and 3, and
- * a bound; region 2, implicit data, bits 0 and 1, and a mask; region 3, implicit code, bit 2, and a mask. An h-load or
- * h-store asks region 1 alone, at an offset of "the unsigned value of rs1 plus the signed immediate, as a whole number that
- * does not wrap": in a region that keeps its rule and has the permission it reaches every byte from base on, below
- * base + bound. */
+/* The regions' numbers by kind: "Explicit are 1, 4, 5, 6; implicit data 2, 7, 8, 9; code 3, 10." Region n stands at n - 1
+ * of the machine's regions, and n is its number in the selector and in the fault record. */
+enum {
+    KOUBOSPAR_EXPLICIT_0 = 1, /* an h-word chooses one of these four by 0 to 3 */
+    KOUBOSPAR_EXPLICIT_1 = 4,
+    KOUBOSPAR_EXPLICIT_2 = 5,
+    KOUBOSPAR_EXPLICIT_3 = 6,
+    KOUBOSPAR_DATA_0 = 2, /* ordinary loads and stores ask these, in this order */
+    KOUBOSPAR_DATA_1 = 7,
+    KOUBOSPAR_DATA_2 = 8,
+    KOUBOSPAR_DATA_3 = 9,
+    KOUBOSPAR_CODE_0 = 3, /* fetches ask these */
+    KOUBOSPAR_CODE_1 = 10,
+    KOUBOSPAR_REGIONS = 10
+};
+
+/* "permissions: bit 0 read, bit 1 write, bit 2 execute, bit 3 large". An explicit region has bits 0, 1 and 3, and a bound;
+ * an implicit data region bits 0 and 1, and a mask; a code region bit 2, and a mask. A region that breaks its rule matches
+ * nothing, and so does one of zeros.
+ *
+ * Each byte of a fetch, a load or a store is judged singly: "the lowest-numbered matching region of the kind decides, even
+ * if a later one would grant more". So a small region with a low number takes something out of a large one behind it, and
+ * an access may lie over two regions.
+ *
+ * Not so h-words: "an h-word asks only the region it chooses". The top bit of rs1's field counts 2, that of rd's (of rs2's
+ * in an h-store) 1, and 0 to 3 mean region 1, 4, 5, 6. The low four bits of those fields name x0 to x15. The offset is "the
+ * unsigned value of rs1 plus the signed immediate, as a whole number that does not wrap": in a region that keeps its rule
+ * and has the permission it reaches every byte from base on, below base + bound. */
 struct koubospar_region {
     uint64_t base;
     uint64_t bound;
     uint64_t permission;
 };
 
-/* "Fault record: occurred (0 or 1), region, op (0 none, 1 load, 2 store, 3 fetch), and the address". */
+/* "Fault record: occurred (0 or 1), region, op (0 none, 1 load, 2 store, 3 fetch), and the address". The region is 1 to 10:
+ * the one that an h-word chose, or the one that decided; 0 where none matched the byte. */
 struct koubospar_fault {
     uint64_t occurred;
     uint64_t region;
@@ -55,8 +79,8 @@ struct koubospar_hfi {
     uint64_t epc;      /* exit pc */
     uint64_t options;  /* bit 0 lock regions, 1 redirect system calls, 2 redirect exits, 3 serialize */
     uint64_t handler;  /* exit handler; bits 0, 1, 62 and 63 clear */
-    uint64_t selector; /* 0 to 3, 0 for none */
-    struct koubospar_region regions[3]; /* region n stands at n - 1 */
+    uint64_t selector; /* 0 to 10, 0 for none */
+    struct koubospar_region regions[KOUBOSPAR_REGIONS]; /* region n stands at n - 1 */
     struct koubospar_fault fault;
 };
 
@@ -88,9 +112,11 @@ struct koubospar_machine {
 /* ---- the calls on a machine ----------------------------------------------------------------------------------- */
 
 /* The number that ended a call. Of those that a call can answer, the first whose question is answered no. 4 is asked
- * after 3, of the regions alone: a byte below 2^48 counts whether or not memory has it, and a region that breaks its rule
- * does not. It is asked once a call; no step of a run can bring about what it refuses. What HFI forbids is asked after
- * 13 and before 15, in the order 23, 24, 25, 14, 22; a caller to whom that is all one looks for all five. */
+ * after 3, of the ten regions alone: a byte below 2^48 counts whether or not memory has it, and a region that breaks its
+ * rule does not. A byte whose lowest-numbered data region lacks write is not writable by stores, whatever a later one has,
+ * and likewise with code; of the explicit regions each counts for itself. It is asked once a call; no step of a run can
+ * bring about what it refuses. What HFI forbids is asked after 13 and before 15, in the order 23, 24, 25, 14, 22; a caller
+ * to whom that is all one looks for all five. */
 enum {
     KOUBOSPAR_COMPLETED = 0,           /* a completed step, or a resumption */
     KOUBOSPAR_MEMORY_TOO_LONG = 1,     /* memory is longer than 16,777,216 bytes */
@@ -156,8 +182,8 @@ enum {
     KOUBOSPAR_REGISTER_WORD = 12, /* rd, rs1, rs2 */
     KOUBOSPAR_FENCE = 13,         /* fm, pred, succ, rs1, rd; kind 0 */
     KOUBOSPAR_SYSTEM = 14,        /* no field */
-    KOUBOSPAR_H_LOAD = 15,        /* rd, rs1, imm */
-    KOUBOSPAR_H_STORE = 16,       /* rs1, rs2, imm */
+    KOUBOSPAR_H_LOAD = 15,        /* rd, rs1, imm, region; rd and rs1 are 0 to 15 */
+    KOUBOSPAR_H_STORE = 16,       /* rs1, rs2, imm, region; rs1 and rs2 are 0 to 15 */
     KOUBOSPAR_HFI = 17            /* those of rd, rs1, rs2 that the row of document 01's table names */
 };
 
@@ -175,6 +201,7 @@ struct koubospar_instruction {
     uint64_t fm;
     uint64_t pred;
     uint64_t succ;
+    uint64_t region; /* in an h-word the region that it chooses: 1, 4, 5 or 6 */
 };
 
 struct koubospar_decoded {
@@ -201,7 +228,8 @@ struct koubospar_encoded koubospar_encode(struct koubospar_instruction instructi
 
 /* What the sheet program prints for the sheet `input`: either the one line of a refusal (30 to 35), or the result of the
  * run and its registers. It stands at the start of `output`; the number of bytes is answered, and those after them are
- * left as they were. The run has a memory of its own, on the stack (64 KiB). "An empty budget now means 50,000": such a
+ * left as they were. The run has a memory of its own, on the stack (64 KiB). "A setup line has 13 fields, the other regions
+ * then being zero, or 34, with regions 1 to 10 in order and the budget last." "An empty budget now means 50,000": such a
  * sheet is answered like the same sheet with c350 written there, where that has at most 65,536 bytes. koubospar_run has no
  * default. */
 size_t koubospar_respond(const uint8_t *input, size_t length, uint8_t output[KOUBOSPAR_MOST]);
@@ -223,16 +251,16 @@ uint64_t koubospar_place(struct koubospar_machine machine, uint64_t i);
 #endif
 KOUBOSPAR_HOLDS(sizeof(struct koubospar_region) == 24, "region");
 KOUBOSPAR_HOLDS(sizeof(struct koubospar_fault) == 32, "fault");
-KOUBOSPAR_HOLDS(sizeof(struct koubospar_hfi) == 152, "HFI state");
+KOUBOSPAR_HOLDS(sizeof(struct koubospar_hfi) == 320, "HFI state");
 KOUBOSPAR_HOLDS(offsetof(struct koubospar_hfi, regions) == 48, "regions");
-KOUBOSPAR_HOLDS(offsetof(struct koubospar_hfi, fault) == 120, "fault record");
-KOUBOSPAR_HOLDS(sizeof(struct koubospar_machine) == 416, "machine");
+KOUBOSPAR_HOLDS(offsetof(struct koubospar_hfi, fault) == 288, "fault record");
+KOUBOSPAR_HOLDS(sizeof(struct koubospar_machine) == 584, "machine");
 KOUBOSPAR_HOLDS(offsetof(struct koubospar_machine, pc) == 256, "pc");
 KOUBOSPAR_HOLDS(offsetof(struct koubospar_machine, hfi) == 264, "HFI state in the machine");
 KOUBOSPAR_HOLDS(sizeof(struct koubospar_stop) == 16, "stop");
 KOUBOSPAR_HOLDS(sizeof(struct koubospar_run_stop) == 24, "stop of a run");
-KOUBOSPAR_HOLDS(sizeof(struct koubospar_instruction) == 72, "instruction");
-KOUBOSPAR_HOLDS(sizeof(struct koubospar_decoded) == 80, "decoded");
+KOUBOSPAR_HOLDS(sizeof(struct koubospar_instruction) == 80, "instruction");
+KOUBOSPAR_HOLDS(sizeof(struct koubospar_decoded) == 88, "decoded");
 KOUBOSPAR_HOLDS(sizeof(struct koubospar_encoded) == 16 && offsetof(struct koubospar_encoded, word) == 8, "encoded");
 
 #ifdef __cplusplus

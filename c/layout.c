@@ -16,38 +16,32 @@ static void is(const char *what, uint64_t got, uint64_t expected)
 #define IS(e, v) is(#e, (e), (v))
 
 /* the fields of a machine by their names, in the order of their places; x stands for its first and last */
-#define PLACES 22
-static const uint64_t place_of[PLACES] = {0,  31, 32, 33, 34, 35, 36, 37, 38, 39, 40,
-                                          41, 42, 43, 44, 45, 46, 47, 48, 49, 50, 51};
+#define BEFORE 9
+#define AFTER 4
+#define PLACES (BEFORE + 3 * KOUBOSPAR_REGIONS + AFTER)
+
+static uint64_t place_of(int n)
+{
+    return n == 0 ? 0 : 30 + (uint64_t)n; /* x1 to x30 are left out */
+}
+
+static uint64_t *of_region(struct koubospar_region *r, int n)
+{
+    uint64_t *all[3] = {&r->base, &r->bound, &r->permission};
+    return all[n];
+}
 
 static uint64_t *named(struct koubospar_machine *m, int n)
 {
     struct koubospar_hfi *h = &m->hfi;
-    uint64_t *all[PLACES] = {
-        &m->x[0],
-        &m->x[31],
-        &m->pc,
-        &h->mode,
-        &h->reason,
-        &h->epc,
-        &h->options,
-        &h->handler,
-        &h->selector,
-        &h->regions[0].base,
-        &h->regions[0].bound,
-        &h->regions[0].permission,
-        &h->regions[1].base,
-        &h->regions[1].bound,
-        &h->regions[1].permission,
-        &h->regions[2].base,
-        &h->regions[2].bound,
-        &h->regions[2].permission,
-        &h->fault.occurred,
-        &h->fault.region,
-        &h->fault.op,
-        &h->fault.address,
-    };
-    return all[n];
+    uint64_t *before[BEFORE] = {&m->x[0], &m->x[31],   &m->pc,      &h->mode,    &h->reason,
+                                &h->epc,  &h->options, &h->handler, &h->selector};
+    uint64_t *after[AFTER] = {&h->fault.occurred, &h->fault.region, &h->fault.op, &h->fault.address};
+    if (n < BEFORE)
+        return before[n];
+    if (n >= PLACES - AFTER)
+        return after[n - (PLACES - AFTER)];
+    return of_region(&h->regions[(n - BEFORE) / 3], (n - BEFORE) % 3);
 }
 
 static void machine(void)
@@ -56,16 +50,18 @@ static void machine(void)
     memset(&m, 0xee, sizeof m);
     m = koubospar_probe();
     for (int n = 0; n < PLACES; n++)
-        is("a field of the probe", *named(&m, n), 1000 + place_of[n]);
+        is("a field of the probe", *named(&m, n), 1000 + place_of(n));
     for (int i = 1; i < 31; i++)
         is("a register of the probe", m.x[i], 0);
     for (int n = 0; n < PLACES; n++) { /* one field at a time, all others different from it */
         memset(&m, 0xee, sizeof m);
         *named(&m, n) = 77 + (uint64_t)n;
         for (int k = 0; k < PLACES; k++)
-            is("a field that the library reads", koubospar_place(m, place_of[k]),
+            is("a field that the library reads", koubospar_place(m, place_of(k)),
                k == n ? 77 + (uint64_t)n : 0xeeeeeeeeeeeeeeee);
     }
+    IS(place_of(PLACES - 1), 72); /* the last of 73 */
+    IS(koubospar_place(m, 73), 0);
 }
 
 /* x1 to x30, and the order of the answers' fields */
@@ -119,6 +115,7 @@ static void instruction(uint32_t word, struct koubospar_instruction expected)
     IS(d.instruction.fm, expected.fm);
     IS(d.instruction.pred, expected.pred);
     IS(d.instruction.succ, expected.succ);
+    IS(d.instruction.region, expected.region);
     struct koubospar_encoded e = koubospar_encode(expected);
     IS(e.number, 0);
     IS(e.word, word);
@@ -135,13 +132,37 @@ static void instruction(uint32_t word, struct koubospar_instruction expected)
         wrong.pred = 1;
         IS(koubospar_encode(wrong).number, 5);
     }
+    wrong = expected;
+    wrong.region = expected.region == 0 ? 1 : 2; /* no region, or none that an h-word can choose */
+    IS(koubospar_encode(wrong).number, 5);
+}
+
+/* h-words: the four regions that they choose, and registers up to x15 */
+static void h_words(void)
+{
+    typedef struct koubospar_instruction I;
+    static const uint64_t chosen[] = {KOUBOSPAR_EXPLICIT_0, KOUBOSPAR_EXPLICIT_1, KOUBOSPAR_EXPLICIT_2, KOUBOSPAR_EXPLICIT_3};
+    for (uint32_t c = 0; c < 4; c++) {
+        uint32_t rs1 = c / 2 << 19, other = c % 2;
+        I load = {.group = KOUBOSPAR_H_LOAD, .kind = 3, .rd = 15, .rs1 = 9, .imm = 8, .region = chosen[c]};
+        instruction(0x0084b78b | rs1 | other << 11, load);
+        I store = {.group = KOUBOSPAR_H_STORE, .kind = 3, .rs1 = 9, .rs2 = 15, .imm = 8, .region = chosen[c]};
+        instruction(0x00f4b42b | rs1 | other << 24, store);
+        load.rd = store.rs2 = 16;
+        IS(koubospar_encode(load).number, 5);
+        IS(koubospar_encode(store).number, 5);
+        load.rd = store.rs2 = 15;
+        load.rs1 = store.rs1 = 16;
+        IS(koubospar_encode(load).number, 5);
+        IS(koubospar_encode(store).number, 5);
+    }
 }
 
 static void codec(void)
 {
     typedef struct koubospar_instruction I;
     instruction(0x00500513, (I){.group = KOUBOSPAR_IMMEDIATE, .kind = 0, .rd = 10, .imm = 5});
-    instruction(0x00a001ab, (I){.group = KOUBOSPAR_H_STORE, .kind = 0, .rs2 = 10, .imm = 3});
+    instruction(0x00a001ab, (I){.group = KOUBOSPAR_H_STORE, .kind = 0, .rs2 = 10, .imm = 3, .region = 1});
     instruction(0x0400005b, (I){.group = KOUBOSPAR_HFI, .kind = 2});
     instruction(0xfffff0b7, (I){.group = KOUBOSPAR_UPPER, .kind = 0x37, .rd = 1, .imm = 0xfffffffffffff000});
     instruction(0x40628233, (I){.group = KOUBOSPAR_REGISTER, .kind = 256, .rd = 4, .rs1 = 5, .rs2 = 6});
@@ -157,6 +178,24 @@ static void codec(void)
     struct koubospar_decoded d = koubospar_decode(0x0400015b); /* case C */
     IS(d.number, 13);
     IS(d.instruction.group, 0);
+}
+
+/* each region's name against the permission bits with which the library takes a machine */
+static void regions(void)
+{
+    static const int kinds[][2] = {
+        {KOUBOSPAR_EXPLICIT_0, 0xb}, {KOUBOSPAR_EXPLICIT_1, 0xb}, {KOUBOSPAR_EXPLICIT_2, 0xb}, {KOUBOSPAR_EXPLICIT_3, 0xb},
+        {KOUBOSPAR_DATA_0, 3},       {KOUBOSPAR_DATA_1, 3},       {KOUBOSPAR_DATA_2, 3},       {KOUBOSPAR_DATA_3, 3},
+        {KOUBOSPAR_CODE_0, 4},       {KOUBOSPAR_CODE_1, 4},
+    };
+    for (int k = 0; k < KOUBOSPAR_REGIONS; k++)
+        for (int bit = 0; bit < 5; bit++) {
+            struct koubospar_machine m;
+            memset(&m, 0, sizeof m);
+            m.hfi.regions[kinds[k][0] - 1].permission = 1ull << bit;
+            is("a step with a permission bit", koubospar_step(&m, NULL, 0).stop,
+               kinds[k][1] >> bit & 1 ? KOUBOSPAR_FETCH_ABSENT : KOUBOSPAR_ILL_FORMED);
+        }
 }
 
 /* each stop's name against the documents' number, and each group's against what the library says of a word of it */
@@ -208,6 +247,8 @@ int main(void)
     machine();
     calls();
     codec();
+    h_words();
+    regions();
     names();
     sheet();
     puts(failed ? "layout FAILED" : "layout: every field as declared");

@@ -99,6 +99,29 @@ static void measure(int n)
         all[n].stops |= 1ull << run_stop.stop;
 }
 
+static void region(int number, uint64_t base, uint64_t bound, uint64_t permission)
+{
+    before.hfi.regions[number - 1] = (struct koubospar_region){.base = base, .bound = bound, .permission = permission};
+}
+
+/* Regions that are asked before those that a program needs: data inside its data, data where it ends, others elsewhere. */
+static void regions_before(void)
+{
+    region(KOUBOSPAR_EXPLICIT_0, 0x700, 0x10, 3);
+    region(KOUBOSPAR_EXPLICIT_1, 0x710, 0x10, 3);
+    region(KOUBOSPAR_EXPLICIT_2, 0x720, 0x10, 3);
+    region(KOUBOSPAR_DATA_0, 0x410, ~3ull, 3);
+    region(KOUBOSPAR_DATA_1, 0x500, ~0xffull, 1);
+    region(KOUBOSPAR_DATA_2, 0x600, ~0xffull, 3);
+    region(KOUBOSPAR_CODE_0, 0x300, ~0xffull, 4);
+}
+
+/* The numbers of the regions that a program needs: the first of their kinds, or the last where ten are in use. */
+static int ten;
+static int explicit_region(void) { return ten ? KOUBOSPAR_EXPLICIT_3 : KOUBOSPAR_EXPLICIT_0; }
+static int data_region(void) { return ten ? KOUBOSPAR_DATA_3 : KOUBOSPAR_DATA_0; }
+static int code_region(void) { return ten ? KOUBOSPAR_CODE_1 : KOUBOSPAR_CODE_0; }
+
 /* A machine at pc 40 whose regions grant code below 100, ordinary data from 400 to 4ff, and 64 bytes from 7e0 on, of which
  * memory has the first 32. */
 static void start(uint64_t mode, uint64_t options, uint32_t at_40)
@@ -107,10 +130,12 @@ static void start(uint64_t mode, uint64_t options, uint32_t at_40)
     before.pc = 0x40;
     before.hfi.mode = mode;
     before.hfi.options = options;
-    before.hfi.selector = 1;
-    before.hfi.regions[0] = (struct koubospar_region){.base = 0x7e0, .bound = 0x40, .permission = 3};
-    before.hfi.regions[1] = (struct koubospar_region){.base = 0x400, .bound = ~0xffull, .permission = 3};
-    before.hfi.regions[2] = (struct koubospar_region){.base = 0, .bound = ~0xffull, .permission = 4};
+    before.hfi.selector = ten ? KOUBOSPAR_REGIONS : 1;
+    if (ten)
+        regions_before();
+    region(explicit_region(), 0x7e0, 0x40, 3);
+    region(data_region(), 0x400, ~0xffull, 3);
+    region(code_region(), 0, ~0xffull, 4);
     for (int n = 1; n < 32; n++)
         before.x[n] = (uint64_t)n;
     memcpy(memory + 0x40, &at_40, 4); /* the host is little-endian */
@@ -132,7 +157,7 @@ static uint64_t operand(uint32_t opcode, uint64_t d)
     static const uint64_t offset[] = {0x10, 0x3c, 0x1c, 0xffffffffffffffff};
     switch (opcode) {
     case 0x5b:
-        return d + 1;
+        return ten ? d + 8 : d + 1; /* up to 11, which is no region */
     case 0x0b:
     case 0x2b:
         return offset[d];
@@ -141,11 +166,18 @@ static uint64_t operand(uint32_t opcode, uint64_t d)
     }
 }
 
+/* The word itself, or an h-word that chooses region 6 where ten regions are in use. */
+static uint32_t choosing(uint32_t at_40)
+{
+    uint32_t opcode = at_40 % 128;
+    return at_40 | (ten && opcode == 0x0b ? 1 << 19 | 1 << 11 : ten && opcode == 0x2b ? 1 << 19 | 1 << 24 : 0);
+}
+
 static void step_and_run_in_each_mode(uint32_t at_40)
 {
     for (uint64_t mode = 0; mode < 2; mode++)
         for (uint64_t d = 0; d < 4; d++) {
-            start(mode, d * 5, at_40);
+            start(mode, d * 5, choosing(at_40));
             before.x[6] = operand(at_40 % 128, d);
             step_and_run();
         }
@@ -157,6 +189,9 @@ static void decode_and_encode(void)
     instruction = decoded.instruction;
     measure(ENCODE);
     instruction.imm ^= 1ull << 40;
+    measure(ENCODE);
+    instruction = decoded.instruction;
+    instruction.region ^= 2; /* one that no h-word chooses, or one too many */
     measure(ENCODE);
 }
 
@@ -172,7 +207,8 @@ static void words(void)
             for (size_t f = 0; f < (o < 4 ? 6 : 1); f++) {
                 uint32_t funct7 = funct / 8 == 15 ? 0x20 : funct / 8;
                 word = funct7 << 25 | (funct % 8) << 12 | fields[f] | opcodes[o];
-                step_and_run_in_each_mode(word);
+                for (ten = 0; ten < 2; ten++)
+                    step_and_run_in_each_mode(word);
                 decode_and_encode();
             }
 }
@@ -198,7 +234,7 @@ static void stops(void)
     step_and_run(); /* 3 */
     measure(RESUME);
     start(1, 0, 0x13);
-    before.hfi.regions[2].base = 0x100;
+    region(code_region(), 0x100, ~0xffull, 4);
     step_and_run(); /* 11 */
     start(0, 0, 0x13);
     length = 0x42;
@@ -206,10 +242,10 @@ static void stops(void)
     start(0, 0, 0x00100073);
     step_and_run(); /* 19 */
     start(1, 1, 0x13);
-    before.hfi.regions[1].base = 0; /* where the code is */
+    region(data_region(), 0, ~0xffull, 3); /* where the code is */
     step_and_run(); /* 4 */
     start(0, 0, 0x0003005b); /* an enter by x6 */
-    before.hfi.regions[0].base = 0xff; /* the code's last byte */
+    region(explicit_region(), 0xff, 0x40, 3); /* the code's last byte */
     before.x[6] = 1;
     step_and_run(); /* 22 */
     start(0, 0, 0x0000006f); /* a jump to itself */
@@ -224,9 +260,13 @@ static void sheet_of(const char *text)
     measure(RESPOND);
 }
 
-/* A result, a refused run, each refusal of a sheet, an empty budget, a run of 1,000,000 steps, and the longest sheet with all registers set. */
+/* A result, one with ten regions, a refused run, each refusal of a sheet, an empty budget, a run of 1,000,000 steps, and the
+ * longest sheet with all registers set. */
 static void sheets(void)
 {
+    sheet_of("0,5,100,0,0,0,100,fffffffffffffff0,3,0,fffffffffffffff0,4,0,0,0,0,0,0,200,10,3,0,0,0,0,0,0,0,0,0,0,0,0,a\n"
+             "0,00500513\n4,01a801ab\n8,0400005b\n");
+    sheet_of("0,5,100,200,10,3,0,0,0,0,fffffffffffffff0,4,0,0,0,0,0,0,0,0,0,0,0,0,0,0,0,0,0,0,0,0,a\n");
     sheet_of("0,5,100,200,10,3,0,0,0,0,fffffffffffffff0,4,a\n0,00500513\n4,00a001ab\n8,0400005b\n");
     sheet_of("0,5,100,3,1,3,0,0,0,0,fffffffffffffff0,4,a\n");
     sheet_of("");
@@ -247,10 +287,11 @@ static void sheets(void)
 int main(void)
 {
     words();
-    stops();
+    for (ten = 0; ten < 2; ten++)
+        stops();
     sheets();
     measure(PROBE);
-    for (place = 0; place < 60; place++)
+    for (place = 0; place < 80; place++)
         measure(PLACE);
     all[STEP].missed = 0x3cffc1b & ~all[STEP].stops; /* 0, 1, 3, 4, 10 to 19, 22 to 25 */
     all[RUN].missed = 0x3fffc1e & ~all[RUN].stops;   /* 1 to 4, 10 to 25 */

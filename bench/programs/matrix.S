@@ -35,7 +35,7 @@ column:
 term:
     ld x5,0(x25)
     ld x6,0(x26)
-    beq x5,x0,zero
+    beq x5,x0,next
 product:
     andi x8,x5,1
     sub x8,x0,x8
@@ -44,7 +44,7 @@ product:
     slli x6,x6,1
     srli x5,x5,1
     bne x5,x0,product
-zero:
+next:
     addi x25,x25,8
     addi x26,x26,160
     addi x27,x27,-1

@@ -3,7 +3,7 @@
 
 Each sheet stands below with the first line of its output, worked out by hand
 from document 01, as document 02 has changed it; some of RV64M, some budgets, two
-long ones, most of Job 5 and all of Job 6 with all their registers too. `oracle sheets FOLDER` then
+long ones, most of Job 5 and all of Jobs 6 and 7 with all their registers too. `oracle sheets FOLDER` then
 prints what the oracle makes of them, and `--check FILE` holds that against the
 lines here. `--store ORACLE` writes data/index and stdout, the answers being the
 oracle's, if its first lines are those here.
@@ -491,7 +491,8 @@ sheet("locked-set-handler", program(addi(5, 0, 8), hfi(SETHANDLER, 0, 5)), "25,1
 sheet("unlocked-set-handler", program(addi(5, 0, 8), hfi(SETHANDLER, 0, 5), options=14), "25,1,4,0,0,0,0,0,0", "set handler, unlocked", HANDLER)
 NUM = "a selected number not 1 to 3"
 sheet("select-0", program(hfi(SELECT, 0, 0), options=0), "14,0,0,0,0,0,0,0,0", "number 0", NUM)
-sheet("select-4", program(addi(5, 0, 4), hfi(SELECT, 0, 5), options=0), "14,1,4,0,0,0,0,0,0", "number 4", NUM)
+sheet("select-4", program(addi(5, 0, 4), hfi(SELECT, 0, 5), options=0), "13,2,8,0,0,0,0,0,0", "number 4 passes; the zero word after it is illegal",
+      "02, Job 7: Selector, selected number and fault region go up to 10")
 sheet("select-100000001", program(addi(5, 0, 1), slli(5, 5, 32), addi(5, 5, 1), hfi(SELECT, 0, 5), options=0), "14,3,c,0,0,0,0,0,0",
       "the whole register is the number", NUM)
 SEL0 = "funct7 4 to 9 with selector 0"
@@ -805,15 +806,15 @@ sheet("group-store", program(
     P1000, addi(6, 0, -2), store(SD, 6, 5, 0), store(SB, 5, 5, 1), store(SH, 0, 5, 3), store(SW, 0, 5, 8), load(LD, 10, 5, 0), load(LD, 11, 5, 5),
     ECALL, r2=DATA), "18,8,20,0,0,0,0,0,0", "SB SH SW SD, read back", "Misaligned data is allowed.")
 sheet("group-h-load", program(
-    hload(LB, 10, 0, 0), hload(LBU, 11, 0, 0), hload(LH, 12, 0, 0), hload(LHU, 13, 0, 0), hload(LW, 14, 0, 0), hload(LWU, 15, 0, 0), hload(LD, 16, 0, 0),
-    hload(LW, 17, 0, 3), hload(LB, 0, 0, 0), ECALL, r1=(0x1000, 8, 1), more=DATA_LINES), "18,9,24,0,0,0,0,0,0", "hlb hlbu hlh hlhu hlw hlwu hld",
+    hload(LB, 10, 0, 0), hload(LBU, 11, 0, 0), hload(LH, 12, 0, 0), hload(LHU, 13, 0, 0), hload(LW, 14, 0, 0), hload(LWU, 15, 0, 0), hload(LD, 8, 0, 0),
+    hload(LW, 9, 0, 3), hload(LB, 0, 0, 0), ECALL, r1=(0x1000, 8, 1), more=DATA_LINES), "18,9,24,0,0,0,0,0,0", "hlb hlbu hlh hlhu hlw hlwu hld",
     "funct3 0 to 6 for hlb, hlh, hlw, hld, hlbu, hlhu, hlwu")
 sheet("group-h-store", program(
     addi(6, 0, -2), hstore(SD, 6, 0, 0), hstore(SB, 0, 0, 1), hstore(SH, 0, 0, 3), hstore(SW, 0, 0, 8), hload(LD, 10, 0, 0), hload(LD, 11, 0, 5),
     ECALL, r1=(0x1000, 16, 3)), "18,7,1c,0,0,0,0,0,0", "hsb hsh hsw hsd, read back", "funct3 0 to 3 for hsb, hsh, hsw, hsd")
 sheet("group-h-load-rs1", program(
     lui(7, 1), hload(LB, 10, 7, 0), hload(LBU, 11, 7, 0), hload(LH, 12, 7, 0), hload(LHU, 13, 7, 0), hload(LW, 14, 7, 0), hload(LWU, 15, 7, 0),
-    hload(LD, 16, 7, 0), hload(LW, 17, 7, 3), hload(LB, 0, 7, 0), ECALL, r1=(0, 0x1008, 1), more=DATA_LINES), "18,a,28,0,0,0,0,0,0",
+    hload(LD, 8, 7, 0), hload(LW, 9, 7, 3), hload(LB, 0, 7, 0), ECALL, r1=(0, 0x1008, 1), more=DATA_LINES), "18,a,28,0,0,0,0,0,0",
     "the seven by an rs1 of 4,096", PATH)
 sheet("group-h-store-rs1", program(
     lui(7, 1), addi(6, 0, -2), hstore(SD, 6, 7, 0), hstore(SB, 0, 7, 1), hstore(SH, 0, 7, 3), hstore(SW, 0, 7, 8), hload(LD, 10, 7, 0),
@@ -1267,7 +1268,8 @@ for name, f7, rd, rs1, shows in [("locked-select-0", SELECT, 0, 0, "number 0"), 
                                  ("locked-get-bound-into-x0", GETBOUND, 0, 0, "into x0"), ("locked-get-permission-into-x0", GETPERM, 0, 0, "into x0"),
                                  ("locked-get-handler-into-x0", GETHANDLER, 0, 0, "into x0"), ("locked-set-handler-from-x0", SETHANDLER, 0, 0, "handler 0")]:
     ruled(name, [hfi(f7, rd, rs1)], "25,0,0,0,0,0,0,0,0", "locked, " + shows, R25)
-ruled("locked-select-4", [addi(5, 0, 4), hfi(SELECT, 0, 5)], "25,1,4,0,0,0,0,0,0", "locked, number 4: 25 before 14", BAD, {5: 4})
+ruled("locked-select-4", [addi(5, 0, 4), hfi(SELECT, 0, 5)], "25,1,4,0,0,0,0,0,0", "locked, number 4, which may be selected since Job 7", R25, {5: 4})
+ruled("locked-select-11", [addi(5, 0, 11), hfi(SELECT, 0, 5)], "25,1,4,0,0,0,0,0,0", "locked, number 11: 25 before 14", BAD, {5: 11})
 ruled("locked-select-100000001", [addi(5, 0, 1), slli(5, 5, 32), addi(5, 5, 1), hfi(SELECT, 0, 5)], "25,3,c,0,0,0,0,0,0", "locked, number 2^32 + 1: 25 before 14", BAD,
       {5: 0x100000001})
 ruled("locked-permission-of-ones", [addi(5, 0, -1), hfi(SETPERM, 0, 5)], "25,1,4,0,0,0,0,0,0", "locked, all permission bits and nothing selected: 25 before 14", BAD,
@@ -1322,6 +1324,250 @@ ruled("exit-then-exit", [EXIT, EXIT], "20,1,4,1,0,0,0,0,0", "an exit after an ex
 ruled("exit-to-an-exit", [EXIT, NOP, EXIT], "20,1,8,1,0,0,0,0,0", "nor one at the handler", LEFT, options=5, handler=8)
 ruled("call-to-an-exit", [ECALL, NOP, EXIT], "20,1,8,2,0,0,0,0,0", "nor after a redirected call", LEFT, options=3, handler=8)
 
+# ---------------------------------------------------------------- ten regions
+section("Ten regions (document 02, Job 7)")
+FIELDS = "02, Job 7: A setup line has 13 fields, the other regions then being zero, or 34, with regions 1 to 10 in order and the budget last."
+LETS = "02, Job 7: 32 lets 34 pass."
+LOWEST = "02, Job 7: the lowest-numbered matching region of the kind decides, even if a later one would grant more"
+CHOSEN = "02, Job 7: the top bits of two register fields choose the explicit region: rs1's counts 2, that of rd or rs2 counts 1, and 0 to 3 mean 1, 4, 5, 6."
+FOUR_BITS = "02, Job 7: The remaining four bits name x0 to x15"
+RECORDS = "02, Job 7: an explicit fault records the region chosen"
+UP_TO = "02, Job 7: Selector, selected number and fault region go up to 10"
+ALL_TEN = "02, Job 7: isolation and Job 5 now speak of all ten"
+MEANING = "02, Job 7: H-words with a register field of x16 or above change meaning"
+SINGLY = "In HFI mode each byte is judged singly."
+NO_MATCH = "A region that breaks its rule keeps its values and matches nothing (ours)."
+EXPLICIT = (1, 4, 5, 6)
+DATA_REGIONS = (2, 7, 8, 9)
+
+
+def wide_setup(pc=0, options=1, handler=0, budget="", **regions):
+    """A setup line of 34 fields; r1 to r10, of which r3 is CODE and the others are zero unless given."""
+    fields = [pc, options, handler]
+    for n in range(1, 11):
+        fields += regions.get("r%d" % n, CODE if n == 3 else NONE)
+    text = ",".join("%x" % f if isinstance(f, int) else f for f in fields)
+    return text + "," + ("%x" % budget if isinstance(budget, int) else budget) + "\n"
+
+
+def wide(name, words, first, shows, sentence, values=None, at=0, more="", **how):
+    """A sheet of 34 fields with all its registers."""
+    registers[name] = {n: v & ONES for n, v in (values or {}).items()}
+    sheet(name, wide_setup(**how) + code(*words, at=at) + more, first, shows, sentence)
+
+
+def refused_line(name, content, question, shows, sentence):
+    sheet(name, content, "sheet,%d,1" % question, shows, sentence)
+
+
+def h_fields(number, rs1, other):
+    """The fields that make an h-word choose a region, with these low four bits."""
+    choice = EXPLICIT.index(number)
+    return rs1 + 16 * (choice // 2), other + 16 * (choice % 2)
+
+
+def hl(f3, number, rd, rs1, imm):
+    rs1, rd = h_fields(number, rs1, rd)
+    return hload(f3, rd, rs1, imm)
+
+
+def hs(f3, number, rs2, rs1, imm):
+    rs1, rs2 = h_fields(number, rs1, rs2)
+    return hstore(f3, rs2, rs1, imm)
+
+
+# setup lines
+wide("fields-34", [addi(10, 0, 5), ECALL], "18,1,4,0,0,0,0,0,0", "34 fields, the other regions zero", FIELDS, {10: 5})
+wide("fields-34-budget-a", [LOOP], "21,a,0,0,0,0,0,0,0", "the budget is the last of 34", FIELDS, budget=10)
+wide("fields-34-empty-budget", [LOOP], "21,c350,0,0,0,0,0,0,0", "an empty budget in a line of 34", "33: ... (an empty budget passes)")
+wide("fields-34-budget-f4241", [LOOP], "2,0,0,0,0,0,0,0,0", "1,000,001 steps in a line of 34", Q2, budget=1000001)
+sheet("fields-34-sixteen-digits", ",".join(["0" * 15 + "%x" % v if v < 16 else "%x" % v for v in [0, 1, 0] + [0] * 6 + [0, mask(12), 4] + [0] * 21])
+      + "," + "0" * 15 + "a\n" + code(ECALL), "18,0,0,0,0,0,0,0,0", "16 digits in all 34 fields", "33: has each field 1 to 16 digits")
+for count in (16, 31, 33, 35, 36):
+    fields = "0,1,0,0,0,0,0,0,0,0,fffffffffffff000,4" + ",0" * (count - 12)
+    refused_line("fields-%d" % count, fields + "\n" + code(ECALL), 32, "%d fields" % count, LETS)
+refused_line("fields-33-empty-budget", wide_setup().replace("0,0,0,\n", "0,0,\n"), 32, "33 fields, the last empty", LETS)
+sheet("fields-34-in-line-2", wide_setup() + wide_setup(), "sheet,32,2", "34 fields in line 2", LETS)
+sheet("fields-13-in-line-2-after-34", wide_setup() + setup(), "sheet,32,2", "13 fields in line 2", LETS)
+refused_line("fields-34-all-empty", "," * 33 + "\n", 33, "34 empty fields: only the budget may be", Q33)
+for name, how, shows in [
+    ("empty-pc", dict(pc=""), "pc"), ("empty-base-four", dict(r4=("", 0, 0)), "base of region 4"), ("empty-bound-six", dict(r6=(0, "", 0)), "bound of region 6"),
+    ("empty-mask-nine", dict(r9=(0, "", 0)), "mask of region 9"), ("empty-permission-ten", dict(r10=(0, 0, "")), "permission of region 10, beside an empty budget"),
+    ("seventeen-digits-ten", dict(r10=("0" * 17, 0, 0)), "17 digits as base of region 10"),
+]:
+    refused_line("fields-34-" + name, wide_setup(**how), 33, "an empty " + shows if "digits" not in shows else shows, Q33)
+for n in range(4, 11):
+    refused_line("permission-%d-100" % n, wide_setup(**{"r%d" % n: (0, 0, 0x100)}), 34, "permission of region %d above ff" % n, Q34)
+refused_line("fields-34-options-100", wide_setup(options=0x100), 34, "options above ff in a line of 34", Q34)
+refused_line("fields-34-budget-100000000", wide_setup(budget=0x100000000), 34, "a budget above ffffffff in a line of 34", Q34)
+refused_line("fields-34-order-33-34", wide_setup(handler="", r10=(0, 0, 0x100)), 33, "33 before 34 in a line of 34", "The first no is printed")
+for n, permission, shows in [(4, 4, "execute"), (5, 0x10, "bit 4"), (6, 0xff, "all of ff"), (7, 4, "execute"), (8, 8, "large"), (9, 7, "execute too"),
+                             (10, 1, "read"), (10, 2, "write"), (10, 0xff, "all of ff")]:
+    wide("ill-formed-%d-%x" % (n, permission), [NOP], "3,0,0,0,0,0,0,0,0", "region %d with %s" % (n, shows), PB, **{"r%d" % n: (0x4000, mask(4), permission)})
+wide("permissions-of-ten", [ECALL], "18,0,0,0,0,0,0,0,0", "all the bits that each region has", PB, r1=(0x10000, 0x10000, 0xb), r2=(0x4000, mask(4), 3),
+     r4=(0x20000, 0x10000, 0xb), r5=(0x30000, 0x10000, 0xb), r6=(0x40000, 0x10000, 0xb), r7=(0x5000, mask(4), 3), r8=(0x6000, mask(4), 3), r9=(0x7000, mask(4), 3),
+     r10=(0x8000, mask(4), 4))
+
+# the four choices
+FOUR = dict(r1=(0x2000, 0x100, 3), r4=(0x2100, 0x100, 3), r5=(0x2200, 0x100, 3), r6=(0x2300, 0x100, 3))
+EACH = "".join("%x,%08x\n%x,88776655\n" % (0x2000 + 0x100 * i, 0xc433a290 + n, 0x2004 + 0x100 * i) for i, n in enumerate(EXPLICIT))
+for i, n in enumerate(EXPLICIT):
+    low = 0xc433a290 + n
+    wide("h-load-through-%d" % n, [hl(f3, n, 8 + f3, 0, 0) for f3 in range(7)] + [ECALL], "18,7,1c,0,0,0,0,0,0", "all seven through region %d" % n, CHOSEN,
+         {8: low & 0xff | ONES << 8, 9: low & 0xffff | ONES << 16, 10: low | ONES << 32, 11: 0x8877665500000000 | low, 12: low & 0xff, 13: low & 0xffff, 14: low},
+         more=EACH, **FOUR)
+    back = [load(LD, 10 + k, 7, 0x100 * i + 8 * k) for k in range(4)]
+    wide("h-store-through-%d" % n, [addi(5, 0, -2)] + [hs(f3, n, 5, 0, 8 * k) for k, f3 in enumerate((SD, SW, SH, SB))] + [lui(7, 2)] + back + [ECALL],
+         "18,a,28,0,0,0,0,0,0", "all four through region %d, read back by ordinary loads" % n, CHOSEN,
+         {5: -2, 7: 0x2000, 10: -2, 11: 0xfffffffe, 12: 0xfffe, 13: 0xfe}, r2=(0x2000, mask(12), 1), **FOUR)
+BYTES = "".join("%x,%08x\n" % (base + 4 * k, first * 0x01010101 + 0x04040404 * k + 0x03020100)
+                for base, first in ((0x2100, 0x40), (0x2200, 0x60), (0x2300, 0xa0)) for k in range(8))
+wide("h-fields-rd-16-to-31", [hload(LBU, 16 + r, 0, r) for r in range(16)] + [ECALL], "18,10,40,0,0,0,0,0,0", "rd fields 16 to 31 are x0 to x15, region 4", FOUR_BITS,
+     {r: 0x40 + r for r in range(1, 16)}, more=BYTES, **FOUR)
+wide("h-fields-rs1-16-to-31", [addi(r, 0, 2 * r) for r in range(1, 16)] + [hload(LBU, r, 16 + r, 0) for r in range(16)] + [ECALL], "18,1f,7c,0,0,0,0,0,0",
+     "rs1 fields 16 to 31 are x0 to x15, region 5", FOUR_BITS, {r: 0x60 + 2 * r for r in range(1, 16)}, more=BYTES, **FOUR)
+wide("h-fields-both-16-to-31", [addi(r, 0, 2 * r) for r in range(1, 16)] + [hload(LBU, 16 + r, 16 + r, 1) for r in range(16)] + [ECALL], "18,1f,7c,0,0,0,0,0,0",
+     "both fields 16 to 31, region 6", FOUR_BITS, {r: 0xa1 + 2 * r for r in range(1, 16)}, more=BYTES, **FOUR)
+wide("h-fields-rs2-16-to-31", [addi(r, 0, r) for r in range(1, 16)] + [hstore(SB, 16 + r, 0, r) for r in range(16)] + [lui(18, 2), load(LD, 16, 18, 0x100),
+     load(LD, 17, 18, 0x108), ECALL], "18,22,88,0,0,0,0,0,0", "rs2 fields 16 to 31 are x0 to x15, region 4", FOUR_BITS,
+     dict([(r, r) for r in range(1, 16)] + [(16, 0x0706050403020100), (17, 0x0f0e0d0c0b0a0908), (18, 0x2000)]), r2=(0x2000, mask(12), 1), **FOUR)
+wide("ordinary-words-keep-five-bits", [lui(31, 2), load(LBU, 30, 31, 0x104), store(SB, 30, 31, 0x100), load(LBU, 29, 31, 0x100), ECALL], "18,4,10,0,0,0,0,0,0",
+     "ordinary loads and stores name x31 and x30", "02, Job 7: In an h-word", {29: 0x44, 30: 0x44, 31: 0x2000}, more=BYTES, r2=(0x2000, mask(12), 3), **FOUR)
+registers["h-load-rd-was-x16"] = {10: 0xffffffffffffff88}
+sheet("h-load-rd-was-x16", program(hload(LB, 10, 0, 0), hload(LD, 16, 0, 0), ECALL, r1=(0x1000, 8, 1), more=DATA_LINES), "16,1,4,0,0,1,4,1,0",
+      "hld to x16 before Job 7: now x0 through region 4, which a line of 13 leaves zero", MEANING)
+registers["h-load-rs1-was-x17"] = {17: 0x1000}
+sheet("h-load-rs1-was-x17", program(lui(17, 1), hload(LD, 10, 17, 0), ECALL, r1=(0, 0x1008, 1), more=DATA_LINES), "16,1,4,0,0,1,5,1,0",
+      "hld by x17 before Job 7: now by x1 through region 5", MEANING)
+registers["h-store-rs2-was-x31"] = {31: 7}
+sheet("h-store-rs2-was-x31", program(addi(31, 0, 7), hstore(SD, 31, 16, 8), r1=SMALL), "16,1,4,0,0,1,6,2,8", "both fields above x15: now x15 by x0 through region 6", MEANING)
+
+# what an explicit fault records
+for n in (4, 5, 6):
+    def through(base, bound, permission): return {"r%d" % n: (base, bound, permission)}
+    wide("h-load-%d-beyond" % n, [hl(LD, n, 10, 0, 9)], "16,0,0,0,0,1,%d,1,2010" % n, "region %d: one byte past its end" % n, RECORDS, **through(0x2000, 16, 3))
+    wide("h-store-%d-beyond" % n, [hs(SD, n, 10, 0, 9)], "16,0,0,0,0,1,%d,2,2010" % n, "region %d: one byte past its end" % n, RECORDS, **through(0x2000, 16, 3))
+    wide("h-store-%d-minus-one" % n, [hs(SB, n, 10, 0, -1)], "16,0,0,0,0,1,%d,2,1fff" % n, "region %d: offset -1" % n, RECORDS, **through(0x2000, 16, 3))
+    wide("h-load-%d-zero" % n, [hl(LB, n, 10, 0, 5)], "16,0,0,0,0,1,%d,1,5" % n, "region %d is zero, region 1 grants" % n, RECORDS, r1=(0, 0x100, 1))
+    wide("h-load-%d-broken" % n, [hl(LB, n, 10, 0, 0)], "16,0,0,0,0,1,%d,1,2000" % n, "region %d with bound 0" % n, RECORDS, **through(0x2000, 0, 3))
+    wide("h-store-%d-not-writable" % n, [hs(SB, n, 10, 0, 3)], "16,0,0,0,0,1,%d,2,2003" % n, "region %d without write" % n, RECORDS, **through(0x2000, 16, 1))
+wide("h-load-6-large", [lui(7, 1), hl(LD, 6, 10, 7, -8), ECALL], "18,2,8,0,0,0,0,0,0", "a large region 6", CHOSEN, {7: 0x1000}, r6=(0, 0x10000, 9))
+wide("h-load-4-large-base-odd", [hl(LD, 4, 10, 0, 0)], "16,0,0,0,0,1,4,1,2000", "a large region 4 with base 2000", RECORDS, r4=(0x2000, 0x10000, 9))
+wide("h-load-5-absent", [hl(LD, 5, 10, 0, 0)], "17,0,0,0,0,0,0,0,0", "region 5 past memory", Q11, r5=(0x10000, 16, 1))
+
+# ordinary data
+ABOVE = [lui(5, 2), store(SW, 5, 5, 8), load(LWU, 10, 5, 8), ECALL]     # at 2008
+SAME_BYTES = (0x2000, mask(12), 3)
+
+
+def data_pair(name, words, first, shows, lower, low, higher, high, values=None, sentence=LOWEST):
+    wide(name, words, first, shows, sentence, values if values is not None else {5: 0x2000}, **{"r%d" % lower: low, "r%d" % higher: high})
+
+
+for n in (7, 8, 9):
+    wide("data-%d" % n, ABOVE, "18,3,c,0,0,0,0,0,0", "ordinary data in region %d" % n, "02, Job 7: implicit data 2, 7, 8, 9", {5: 0x2000, 10: 0x2000}, **{"r%d" % n: SAME_BYTES})
+    wide("data-%d-not-writable" % n, ABOVE, "16,1,4,0,0,1,%d,2,2008" % n, "region %d without write" % n, UP_TO, {5: 0x2000}, **{"r%d" % n: (0x2000, mask(12), 1)})
+for lower, higher in [(2, 7), (2, 9), (7, 8), (8, 9)]:
+    pair = "%d-%d" % (lower, higher)
+    data_pair("hidden-write-" + pair, ABOVE, "16,1,4,0,0,1,%d,2,2008" % lower, "the lower region reads only", lower, (0x2000, mask(12), 1), higher, SAME_BYTES)
+    data_pair("hidden-read-" + pair, [lui(5, 2), load(LB, 10, 5, 8)], "16,1,4,0,0,1,%d,1,2008" % lower, "the lower region writes only", lower, (0x2000, mask(12), 2),
+              higher, SAME_BYTES)
+    data_pair("broken-passes-" + pair, ABOVE, "18,3,c,0,0,0,0,0,0", "the lower region breaks its rule, the next decides", lower, (0x2008, mask(12), 0), higher, SAME_BYTES,
+              {5: 0x2000, 10: 0x2000}, NO_MATCH)
+    OVER = [lui(5, 3), addi(6, 0, -2), store(SD, 6, 5, -4), load(LD, 10, 5, -4), ECALL]     # 2ffc to 3003
+    for way, one, other in [("", lower, higher), ("-back", higher, lower)]:
+        data_pair("across-%s%s" % (pair, way), OVER, "18,4,10,0,0,0,0,0,0", "sd and ld over regions %d and %d" % (one, other), one, SAME_BYTES, other, (0x3000, mask(12), 3),
+                  {5: 0x3000, 6: -2, 10: -2}, SINGLY)
+    data_pair("across-%s-refused" % pair, OVER, "16,2,8,0,0,1,%d,2,3000" % higher, "refused in the second", lower, SAME_BYTES, higher, (0x3000, mask(12), 1), {5: 0x3000, 6: -2}, SINGLY)
+data_pair("across-7-2-refused", OVER, "16,2,8,0,0,1,2,2,3000", "refused in the second, the lower number", 7, SAME_BYTES, 2, (0x3000, mask(12), 1), {5: 0x3000, 6: -2}, SINGLY)
+data_pair("across-first-refused", OVER, "16,2,8,0,0,1,9,2,2ffc", "refused in the first", 9, (0x2000, mask(12), 1), 8, (0x3000, mask(12), 3), {5: 0x3000, 6: -2}, SINGLY)
+data_pair("across-to-none", OVER, "16,2,8,0,0,1,0,2,3000", "no region has the second part", 8, SAME_BYTES, 9, (0x4000, mask(12), 3), {5: 0x3000, 6: -2}, SINGLY)
+data_pair("hidden-all", [lui(5, 2), load(LB, 10, 5, 8)], "16,1,4,0,0,1,2,1,2008", "the lower region grants nothing", 2, (0x2000, mask(12), 0), 7, SAME_BYTES)
+data_pair("lower-grants-more", ABOVE, "18,3,c,0,0,0,0,0,0", "a later region with fewer permissions is not asked", 2, SAME_BYTES, 7, (0x2000, mask(12), 0), {5: 0x2000, 10: 0x2000})
+data_pair("zero-lower-passes", ABOVE, "18,3,c,0,0,0,0,0,0", "mask 0 matches nothing, the next decides", 2, (0, 0, 3), 8, SAME_BYTES, {5: 0x2000, 10: 0x2000}, NO_MATCH)
+INSIDE = dict(r2=(0x2010, mask(4), 1), r8=SAME_BYTES)
+wide("lower-inside-up-to-it", [lui(5, 2), store(SD, 5, 5, 8), store(SD, 5, 5, 0x20), load(LD, 10, 5, 0xc), ECALL], "18,4,10,0,0,0,0,0,0",
+     "stores up to a region 2 inside region 8 and after it, a load over its edge", LOWEST, {5: 0x2000}, **INSIDE)
+wide("lower-inside-into-it", [lui(5, 2), store(SD, 5, 5, 9)], "16,1,4,0,0,1,2,2,2010", "a store over its first byte", LOWEST, {5: 0x2000}, **INSIDE)
+wide("lower-inside-out-of-it", [lui(5, 2), store(SH, 5, 5, 0x1f)], "16,1,4,0,0,1,2,2,201f", "a store over its last byte", LOWEST, {5: 0x2000}, **INSIDE)
+
+# fetches
+CODES = "02, Job 7: code 3, 10"
+wide("code-10", [NOP, ECALL], "18,1,2004,0,0,0,0,0,0", "code in region 10", CODES, pc=0x2000, at=0x2000, r10=(0x2000, mask(12), 4))
+wide("code-10-not-executable", [NOP], "11,0,2000,0,0,1,a,3,2000", "fault region 10 prints as a", UP_TO + " (Reading A47.)", pc=0x2000, at=0x2000, r10=(0x2000, mask(12), 0))
+wide("code-3-hides-10", [NOP], "11,0,0,0,0,1,3,3,0", "region 3 without execute hides region 10", LOWEST, r3=(0, mask(12), 0), r10=(0, mask(12), 4))
+wide("code-3-grants-before-10", [ECALL], "18,0,0,0,0,0,0,0,0", "region 10 without execute is not asked", LOWEST, r10=(0, mask(12), 0))
+wide("code-3-broken-10-grants", [ECALL], "18,0,0,0,0,0,0,0,0", "region 3 breaks its rule, region 10 decides", NO_MATCH, r3=(8, mask(12), 4), r10=(0, mask(12), 4))
+wide("code-3-zero-10-grants", [ECALL], "18,0,0,0,0,0,0,0,0", "region 3 is zero, region 10 decides", NO_MATCH, r3=NONE, r10=(0, mask(12), 4))
+wide("code-3-zero-10-refuses", [ECALL], "11,0,0,0,0,1,a,3,0", "region 3 is zero, region 10 lacks execute", LOWEST, r3=NONE, r10=(0, mask(12), 0))
+wide("code-3-and-10-broken", [ECALL], "11,0,0,0,0,1,0,3,0", "no region matches", NO_MATCH, r3=(8, mask(12), 4), r10=(0, mask(49), 4))
+wide("word-over-3-and-10", [ECALL], "18,0,0,0,0,0,0,0,0", "two bytes in each", SINGLY, r3=(0, mask(1), 4), r10=(2, mask(1), 4))
+wide("word-over-10-and-3", [ECALL], "18,0,0,0,0,0,0,0,0", "two bytes in each, the other way round", SINGLY, r3=(2, mask(1), 4), r10=(0, mask(1), 4))
+wide("word-over-3-and-10-refused", [ECALL], "11,0,0,0,0,1,a,3,2", "the second two lack execute", SINGLY, r3=(0, mask(1), 4), r10=(2, mask(1), 0))
+wide("word-hidden-in-10", [ECALL], "11,0,0,0,0,1,3,3,3", "region 3 hides the last byte", LOWEST, r3=(3, mask(0), 0), r10=(0, mask(12), 4))
+wide("from-3-to-10-and-out", [J(0, 0xffc)], "11,3,1004,0,0,1,0,3,1004", "from region 3 into region 10 and past it", CODES, more="ffc,13\n1000,13\n",
+     r10=(0x1000, mask(2), 4))
+
+# region instructions, unlocked
+for n in range(4, 11):
+    permission = 0xb if n in EXPLICIT else 3 if n in DATA_REGIONS else 4
+    words = [addi(5, 0, n), hfi(SELECT, 0, 5), hfi(GETBASE, 10), hfi(GETBOUND, 11), hfi(GETPERM, 12), addi(6, 0, -n), hfi(SETBASE, 0, 6), hfi(SETBOUND, 0, 5),
+             addi(7, 0, permission), hfi(SETPERM, 0, 7), hfi(GETBASE, 13), hfi(GETBOUND, 14), hfi(GETPERM, 15), ECALL]
+    wide("set-and-get-%d" % n, words, "18,d,34,0,0,0,0,0,0", "region %d: get, set, get" % n, UP_TO,
+         {k: v for k, v in {5: n, 6: -n, 7: permission, 10: 0x5000 + n, 11: 0x60 + n, 12: permission & 5, 13: -n, 14: n, 15: permission}.items() if v},
+         options=0, **{"r%d" % n: (0x5000 + n, 0x60 + n, permission & 5)})
+for name, number in [("11", 11), ("16", 16)]:
+    registers["select-" + name] = {5: number}
+    sheet("select-" + name, program(addi(5, 0, number), hfi(SELECT, 0, 5), options=0), "14,1,4,0,0,0,0,0,0", "number " + name, UP_TO)
+registers["select-10"] = {5: 10}
+sheet("select-10", program(addi(5, 0, 10), hfi(SELECT, 0, 5), hfi(GETBASE, 6), ECALL, options=0), "18,3,c,0,0,0,0,0,0", "number 10, which a line of 13 leaves zero", FIELDS)
+for n, value in [(4, 4), (5, 0x10), (6, 7), (7, 4), (8, 8), (9, 0xb), (10, 1), (10, 2), (10, 8), (10, 5)]:
+    name = "lacking-%d-%x" % (n, value)
+    registers[name] = {5: value}
+    sheet(name, program(addi(5, 0, n), hfi(SELECT, 0, 5), addi(5, 0, value), hfi(SETPERM, 0, 5), options=0), "14,3,c,0,0,0,0,0,0",
+          "permission %x for region %d" % (value, n), LACK)
+wide("unlocked-reset-of-ten", [NOP, hfi(RESET), NOP], "11,2,8,0,0,1,0,3,8", "after a reset neither region 3 nor region 10 matches", "Reset zeroes regions and selector.",
+     options=0, r10=(0, mask(12), 4))
+wide("unlocked-region-10-moved", [addi(5, 0, 10), hfi(SELECT, 0, 5), lui(6, 1), hfi(SETBASE, 0, 6), J(0, 0xff0)], "18,5,1000,0,0,0,0,0,0",
+     "region 10 set over 1000, then code there", UP_TO, {5: 10, 6: 0x1000}, options=0, r10=(0x8000, mask(12), 4), more="1000,73\n")
+wide("locked-get-base-of-10", [addi(5, 0, 10), hfi(SELECT, 0, 5)], "25,1,4,0,0,0,0,0,0", "locked", R25, {5: 10}, r10=(0x8000, mask(12), 4))
+
+# Job 5
+REST = dict(r10=(0x3000, mask(12), 4))
+
+
+def four_of_ten(name, shows, sentence=ALL_TEN, **how):
+    wide(name, [NOP, ECALL], "4,0,0,0,0,0,0,0,0", shows, sentence, **how)
+
+
+def ten_go_on(name, shows, sentence=ALL_TEN, **how):
+    wide(name, [NOP, ECALL], "18,1,4,0,0,0,0,0,0", shows, sentence, **how)
+
+
+for n in (1, 4, 5, 6, 2, 7, 8, 9):
+    def byte(address): return (address, 1, 2) if n in EXPLICIT else (address, mask(0), 2)
+    if n > 3:
+        four_of_ten("four-%d-against-3" % n, "region %d writes code's last byte" % n, **{"r%d" % n: byte(0xfff)})
+    four_of_ten("four-%d-against-10" % n, "region %d writes the first byte of region 10" % n, **dict(REST, **{"r%d" % n: byte(0x3000)}))
+APART = dict(r1=(0x4000, 0x100, 3), r2=(0x5000, mask(8), 3), r4=(0x1000, 0x100, 3), r5=(0x2fff, 1, 3), r6=(0x2000, 0x10, 3), r7=(0x6000, mask(8), 3), r8=(0x7000, mask(8), 3),
+             r9=(0x2000, mask(8), 3), **REST)
+ten_go_on("ten-regions-apart", "ten regions, no byte both ways", **APART)
+four_of_ten("ten-regions-one-byte", "the same, region 5 a byte longer", **dict(APART, r5=(0x2fff, 2, 3)))
+for lower, higher in [(2, 7), (2, 9), (7, 8), (8, 9)]:
+    pair = "%d-%d" % (lower, higher)
+    names = ("r%d" % lower, "r%d" % higher)
+    ten_go_on("hidden-from-four-" + pair, "the lower region lacks write and hides the later one in code", LOWEST, **dict(zip(names, [(0, mask(12), 1), (0, mask(12), 3)])))
+    four_of_ten("four-lower-ends-inside-" + pair, "the lower region lacks write and ends inside", LOWEST, **dict(zip(names, [(0, mask(11), 1), (0, mask(12), 3)])))
+    four_of_ten("four-lower-broken-" + pair, "the lower region breaks its rule and hides nothing", NO_MATCH, **dict(zip(names, [(8, mask(12), 1), (0, mask(12), 3)])))
+four_of_ten("four-explicit-not-hidden", "region 2 without write hides nothing of region 4", "02, Job 7: an h-word asks only the region it chooses", r2=(0, mask(12), 1), r4=(0x800, 4, 2))
+four_of_ten("four-explicit-hides-nothing", "region 1 without write hides nothing of region 6", "02, Job 7: an h-word asks only the region it chooses", r1=(0, 0x1000, 1), r6=(0x800, 4, 2))
+wide("hidden-code-not-executable", [NOP], "11,0,0,0,0,1,3,3,0", "region 3 hides region 10, so its bytes may be written", LOWEST, r2=(0, mask(12), 3), r3=(0, mask(12), 0),
+     r10=(0, mask(12), 4))
+four_of_ten("four-code-3-ends-inside-10", "region 3 without execute ends inside region 10", LOWEST, r2=(0, mask(12), 3), r3=(0, mask(11), 0), r10=(0, mask(12), 4))
+four_of_ten("four-code-10-past-memory", "region 6 and region 10 share bytes past memory", A53, r6=(0x7fff0000, 0x10000, 0xb), r10=(0x70000000, mask(28), 4))
+four_of_ten("four-code-10-of-one-byte", "region 10 is one byte, which region 9 writes", A30, r9=(0x2000, mask(8), 2), r10=(0x2003, mask(0), 4))
+ten_go_on("code-10-without-execute-written", "region 10 without execute may be written", r9=(0x3000, mask(12), 3), r10=(0x3000, mask(12), 0))
+
 
 def write():
     names = [r[0] for r in rows]
@@ -1334,7 +1580,7 @@ def write():
     out = ["# Stored sheets", "",
            "One file a sheet. The first lines were worked out by hand from document 01, or from",
            "document 02 where a row says `02` (they stand in `oracle/authoring/make_sheets.py`, which",
-           "writes this page, and so do the registers of most RV64M sheets, of some budgets, of two long ones, of most of Job 5 and of Job 6), and then confirmed by the oracle. The sheets stand in `crates/sheets/data`; `crates/sheets/stdout` has",
+           "writes this page, and so do the registers of most RV64M sheets, of some budgets, of two long ones, of most of Job 5 and of Jobs 6 and 7), and then confirmed by the oracle. The sheets stand in `crates/sheets/data`; `crates/sheets/stdout` has",
            "for each a line with its name and then the whole output.", ""]
     starts = dict(sections)
     for i, (name, _, first, shows, sentence) in enumerate(rows):

@@ -6,11 +6,16 @@
 
 use crate::compare::Engine;
 use crate::hfi_rules;
-use crate::instruction::{encode, m_kind, Instruction, M_WORDS};
+use crate::instruction::{decode, encode, m_kind, Instruction, M_WORDS};
 use crate::m_words::PAIRS;
-use crate::machine::{Machine, Region};
+use crate::machine::{with_others_zero, Machine, Region};
+use crate::region::address;
+use crate::step::data_access;
 use crate::supply::Supply;
-use crate::writable_code::{aimed_call, aims, WAYS};
+use crate::ten_regions;
+use crate::writable_code::{aimed_call, aims, hiding_aims, WAYS};
+
+mod ten;
 
 /// The bytes that a call has room for; the first `length` of them are lent.
 pub const ROOM: usize = 65_536;
@@ -159,11 +164,11 @@ fn outside(word: u32) -> World {
     for n in [1, 5, 6, 7, 8, 10, 31] {
         machine.x[n] = 0x100 + n as u64;
     }
-    machine.regions = [
+    machine.regions = with_others_zero([
         Region { base: 0x200, bound: 0x40, permission: 3 },
         Region { base: 0x400, bound: mask(8), permission: 3 },
         Region { base: 0, bound: mask(8), permission: 4 },
-    ];
+    ]);
     machine.fault = crate::Fault { occurred: 1, region: 2, op: 2, address: 0xabc };
     World { machine, length: 0x800, bytes: vec![0; ROOM] }.put(0x40, word)
 }
@@ -548,13 +553,17 @@ impl List {
         }
     }
 
-    /// Select, set and get; "a selected number not 1 to 3; funct7 4 to 9 with selector 0".
+    /// Select, set and get; "a selected number not 1 to 3; funct7 4 to 9 with selector 0". With Job 7 it goes up to 10.
     fn regions(&mut self) {
-        for number in [1, 2, 3] {
+        for number in 1..=10 {
             let chosen = |m: &mut Machine| (m.selector, m.pc) = (number, 0x44);
-            self.step(&format!("select {number}"), outside(hfi(SELECT)).with(|m| m.x[5] = number), 0, chosen);
+            self.step(&format!("select {number:x}"), outside(hfi(SELECT)).with(|m| m.x[5] = number), 0, chosen);
         }
-        for number in [0, 4, 5, (1 << 32) + 1, 1 << 63, ALL] {
+        for number in [4, 5, 10] {
+            let world = inside(hfi(SELECT)).with(|m| (m.x[5], m.options) = (number, 0));
+            self.step(&format!("select {number:x} inside"), world, 0, |m| (m.selector, m.pc) = (number, 0x44));
+        }
+        for number in [0, 11, 12, (1 << 32) + 1, 1 << 63, ALL] {
             self.step(&format!("select {number:x}"), outside(hfi(SELECT)).with(|m| m.x[5] = number), 14, unchanged);
             let world = inside(hfi(SELECT)).with(|m| (m.x[5], m.options) = (number, 0));
             self.step(&format!("select {number:x} inside"), world, 14, unchanged);
@@ -663,6 +672,10 @@ impl List {
             self.run(&format!("{name}, not well formed"), world(), 5, (3, 0), unchanged);
             self.resume(&format!("{name}, not well formed"), world(), 7, 3, unchanged);
         }
+        // Ill-formed before Job 7. The word after the NOP is 0.
+        let ran = |m: &mut Machine| m.pc = 0x44;
+        self.run("selector 4, well formed, budget 5", outside(NOP).with(|m| m.selector = 4), 5, (13, 1), ran);
+        self.run("fault region 4, well formed, budget 5", outside(NOP).with(|m| m.fault.region = 4), 5, (13, 1), ran);
         let two = |budget: u64| format!("budget {budget:x}");
         for budget in [1_000_001, 1 << 32, ALL] {
             self.run(&two(budget), outside(NOP), budget, (2, 0), unchanged);
@@ -848,7 +861,7 @@ impl List {
 
     /// Which register is rs1: the others hold what would be refused, or, for x0, all ones.
     fn offset_registers(&mut self) {
-        for n in 1..32u32 {
+        for n in 1..16u32 {
             let other = if n == 6 { 5 } else { 6 };
             let world = |word: u32| {
                 let base = inside(word).put(0x210, 0x8765_4321);
@@ -1011,7 +1024,7 @@ impl List {
             let half = operands(inside(word)).with(|m| m.regions[2] = Region { base: 0x40, bound: mask(1), permission: 4 });
             self.step(&format!("{}, its third byte is refused", row.0), half, 11, |m| m.fault = fault(0, 3, 0x42));
             self.step(&format!("{}, pc 3e", row.0), operands(outside(word)).with(|m| m.pc = 0x3e), 10, unchanged);
-            self.step(&format!("{}, not well formed", row.0), operands(outside(word)).with(|m| m.selector = 4), 3, unchanged);
+            self.step(&format!("{}, not well formed", row.0), operands(outside(word)).with(|m| m.selector = 11), 3, unchanged);
             self.run(&format!("{}, budget 0", row.0), operands(outside(word)), 0, (21, 0), unchanged);
         }
     }
@@ -1169,7 +1182,7 @@ impl List {
     /// would begin such a state ... 4 leaves what 3 leaves, count 0, and 22 what 14 leaves."
     fn code_refused(&mut self) {
         for (name, regions) in writable_code() {
-            let world = |base: World| base.with(|m| (m.regions, m.x[5], m.x[6]) = (regions, 1, 0x80));
+            let world = |base: World| base.with(|m| (m.regions, m.x[5], m.x[6]) = (with_others_zero(regions), 1, 0x80));
             self.step(&format!("locked, {name}"), world(locked(NOP)), 4, unchanged);
             self.run(&format!("locked, {name}"), world(locked(NOP)), 5, (4, 0), unchanged);
             self.step(&format!("enter locked, {name}"), world(outside(hfi(ENTER))), 22, unchanged);
@@ -1180,7 +1193,7 @@ impl List {
     /// "it says no only when such a byte address exists": regions beside code, without the permission, or broken.
     fn code_not_refused(&mut self) {
         for (name, regions, refusing) in code_apart() {
-            let world = |base: World| base.with(|m| (m.regions, m.x[5]) = (regions, 1));
+            let world = |base: World| base.with(|m| (m.regions, m.x[5]) = (with_others_zero(regions), 1));
             // The fetch at 40 passes, or is refused by that region.
             match refusing {
                 None => self.step(&format!("locked, {name}"), world(locked(NOP)), 0, |m| m.pc = 0x44),
@@ -1211,6 +1224,8 @@ impl List {
             spoil(&mut world.machine);
             self.run(&format!("writable code, {name}"), world, 0, (3, 0), unchanged);
         }
+        self.run("writable code, selector 4", world(locked(NOP)).with(|m| m.selector = 4), 0, (4, 0), unchanged);
+        self.run("writable code, fault region 4", world(locked(NOP)).with(|m| m.fault.region = 4), 0, (4, 0), unchanged);
         self.step("writable code, options 11", world(locked(NOP)).with(|m| m.options = 17), 3, unchanged);
         for pc in [0x41, 0x100, 0x400, 0x800, ALL - 3] {
             self.step(&format!("writable code, pc {pc:x}"), world(locked(NOP)).with(|m| m.pc = pc), 4, unchanged);
@@ -1359,7 +1374,12 @@ impl List {
                 self.step(&format!("enter with jump inside, {place}, operand {value:x}, to {target:x}"), jump, 23, unchanged);
             }
             let number = if options == 1 { 25 } else { 14 };
-            for value in [0, 4, 5, (1 << 32) + 1, 1 << 63, ALL] {
+            if options == 1 {
+                for value in [4, 5, 10] {
+                    self.step(&format!("select {value:x} inside, {place}"), world(hfi(SELECT), value), 25, unchanged);
+                }
+            }
+            for value in [0, 11, 12, (1 << 32) + 1, 1 << 63, ALL] {
                 self.step(&format!("select {value:x} inside, {place}"), world(hfi(SELECT), value), number, unchanged);
             }
             for (selector, value) in [(1, 4), (1, 1 << 63), (2, 4), (2, 0xb), (3, 1), (3, 1 << 32)] {
@@ -1524,7 +1544,7 @@ fn cases(funct7: u32) -> Vec<(&'static str, u64, u64, u64, Option<u64>)> {
             ("to 82", 1, 0x82, 2, Some(15)),
             ("operand 10, to 82", 16, 0x82, 2, Some(14)),
         ],
-        SELECT => vec![good, unselected(None), ("number 0", 0, 0x80, 2, Some(14)), ("number 4", 4, 0x80, 0, Some(14))],
+        SELECT => vec![good, unselected(None), ("number 0", 0, 0x80, 2, Some(14)), ("number 4", 4, 0x80, 0, None), ("number b", 11, 0x80, 0, Some(14))],
         SET_PERMISSION => vec![good, unselected(Some(14)), ("bit 2, which region 2 lacks", 4, 0x80, 2, Some(14))],
         SET_BASE..=GET_PERMISSION => vec![good, unselected(Some(14))],
         EXIT => vec![good], // others select nothing
@@ -1703,7 +1723,7 @@ fn broken() -> Vec<Change> {
     for place in [0, 1, 62, 63] {
         all.push(change(&format!("handler bit {place}"), move |m| m.handler |= 1 << place));
     }
-    for value in [4, 1 << 32] {
+    for value in [11, 1 << 32] {
         all.push(change(&format!("selector {value:x}"), move |m| m.selector = value));
     }
     for (number, places) in [(1, [2, 4, 63].as_slice()), (2, &[2, 3, 63]), (3, &[0, 1, 3, 63])] {
@@ -1714,7 +1734,7 @@ fn broken() -> Vec<Change> {
     for value in [2, 1 << 32] {
         all.push(change(&format!("occurred {value:x}"), move |m| m.fault.occurred = value));
     }
-    for value in [4, 1 << 32] {
+    for value in [11, 1 << 32] {
         all.push(change(&format!("fault region {value:x}"), move |m| m.fault.region = value));
     }
     for value in [4, 1 << 32] {
@@ -1732,17 +1752,22 @@ fn largest() -> Vec<Change> {
         change("options f", |m| m.options = 15),
         change("handler 3ffffffffffffffc", |m| m.handler = 0x3fff_ffff_ffff_fffc),
         change("selector 3", |m| m.selector = 3),
+        change("selector 4", |m| m.selector = 4),
+        change("selector a", |m| m.selector = 10),
         change("region 1 permission b", |m| m.regions[0].permission = 0xb),
         change("region 2 permission 3", |m| m.regions[1].permission = 3),
         change("region 3 permission 4", |m| m.regions[2].permission = 4),
         change("base and bound of ones", |m| (m.regions[0].base, m.regions[0].bound) = (ALL, ALL)),
         change("fault region 3", |m| m.fault.region = 3),
+        change("fault region 4", |m| m.fault.region = 4),
+        change("fault region a", |m| m.fault.region = 10),
         change("fault op 3", |m| m.fault.op = 3),
         change("fault address of ones", |m| m.fault.address = ALL),
         change("x1 to x31 of ones", |m| (1..32).for_each(|n| m.x[n] = ALL)),
     ];
     let each = largest_of_all;
     all.push(change("every field at its largest", each));
+    all.push(change("every field of ten regions at its largest", largest_of_ten));
     all
 }
 
@@ -1752,6 +1777,14 @@ fn largest_of_all(m: &mut Machine) {
     m.regions[1] = Region { base: ALL, bound: ALL, permission: 3 };
     m.fault = crate::Fault { occurred: 1, region: 3, op: 3, address: ALL };
     (1..32).for_each(|n| m.x[n] = ALL);
+}
+
+fn largest_of_ten(m: &mut Machine) {
+    largest_of_all(m);
+    (m.selector, m.fault.region) = (10, 10);
+    for n in 4..=10 {
+        m.regions[n - 1] = Region { base: ALL, bound: ALL, permission: ten::largest_permission(n) };
+    }
 }
 
 pub fn directed() -> Vec<Directed> {
@@ -1793,6 +1826,7 @@ pub fn directed() -> Vec<Directed> {
     list.enters_asked();
     list.code_in_runs();
     list.which_rule();
+    list.ten_regions();
     // A call that two subjects share stands once, under the first.
     let mut seen = std::collections::HashSet::new();
     list.all.retain(|row| seen.insert(row.call.unnamed()));
@@ -1800,15 +1834,17 @@ pub fn directed() -> Vec<Directed> {
 }
 
 /// Random calls: those of the base, then those with RV64M words, then those of
-/// Job 5, then those of Job 6. Of the first two some are refused by Job 5.
+/// Job 5, then those of Job 6, then those of Job 7. Of the first two some are
+/// refused by Job 5.
 pub fn random() -> Vec<Call> {
-    let (mut base, mut rv64m, mut code, mut supply) =
-        (Supply::of_base(20), Supply::of_rv64m(21), Supply::of_writable_code(22), Supply::new(23));
+    let (mut base, mut rv64m, mut code, mut rules, mut supply) =
+        (Supply::of_base(20), Supply::of_rv64m(21), Supply::of_writable_code(22), Supply::of_rules(23), Supply::new(24));
     let first = (0..RANDOM).map(|n| random_call(&mut base, n));
     let second = (0..RANDOM_M).map(|n| random_m_call(&mut rv64m, n));
     let third = (0..RANDOM_CODE).map(|n| random_code_call(&mut code, n));
-    let fourth = (0..RANDOM_RULES).map(|n| random_rule_call(&mut supply, n));
-    let all = first.chain(second).chain(third).chain(fourth).enumerate();
+    let fourth = (0..RANDOM_RULES).map(|n| random_rule_call(&mut rules, n));
+    let fifth = (0..RANDOM_TEN).map(|n| random_ten_call(&mut supply, n));
+    let all = first.chain(second).chain(third).chain(fourth).chain(fifth).enumerate();
     all.map(|(n, (request, machine, lent))| random_named(n, request, machine, &lent)).collect()
 }
 
@@ -1888,6 +1924,44 @@ fn random_rule_call(supply: &mut Supply, n: usize) -> (Request, Machine, Vec<u8>
     (call.request, call.machine, call.bytes)
 }
 
+/// Accesses over two regions of a kind and h-words through each region, regions
+/// that hide others where Job 5 asks, and runs that cross the mode with ten.
+fn random_ten_call(supply: &mut Supply, n: usize) -> (Request, Machine, Vec<u8>) {
+    match n % 6 {
+        0 => {
+            let (machine, memory) = supply.crossing_world(7);
+            (Request::Run(supply.below(60)), machine, memory)
+        }
+        1 | 2 => {
+            let all = [aims(), hiding_aims()].concat();
+            let call = aimed_call(supply, all[n * 11 % all.len()], n % 7);
+            (call.request, call.machine, call.bytes)
+        }
+        _ => {
+            let all = ten_regions::aims();
+            let call = supply.aimed_at_ten(all[n * 37 % all.len()]).call;
+            let request = if n % 2 == 0 { Request::Step } else { Request::Run(1) };
+            let bytes = about_the_access(&call);
+            (request, call.machine, bytes)
+        }
+    }
+}
+
+/// The bytes of a call at its word and about its access; the others 0, for want
+/// of room.
+fn about_the_access(call: &Call) -> Vec<u8> {
+    let at = call.machine.pc as usize;
+    let word = u32::from_le_bytes(call.bytes[at..at + 4].try_into().unwrap());
+    let mut kept = vec![at..at + 4];
+    if let Some(access) = decode(word).and_then(|word| data_access(&call.machine, &word)) {
+        let address = address(&call.machine, &access, 0) as usize;
+        kept.push(address - 4..address + 12);
+    }
+    let mut bytes = vec![0; call.bytes.len()];
+    kept.into_iter().for_each(|part| bytes[part.clone()].copy_from_slice(&call.bytes[part]));
+    bytes
+}
+
 fn random_named(n: usize, request: Request, machine: Machine, lent: &[u8]) -> Call {
     let length = lent.len();
     let mut bytes = vec![0; ROOM];
@@ -1915,8 +1989,9 @@ pub fn stored() -> (String, String) {
     (data, printed)
 }
 
-/// How many of the stored calls are random: of the base, with RV64M words, of Job 5, of Job 6.
+/// How many of the stored calls are random: of the base, with RV64M words, of Job 5, of Job 6, of Job 7.
 const RANDOM: usize = 160;
 const RANDOM_M: usize = 80;
 const RANDOM_CODE: usize = 80;
 const RANDOM_RULES: usize = 40;
+const RANDOM_TEN: usize = 60;

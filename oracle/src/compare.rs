@@ -5,14 +5,15 @@ use std::collections::BTreeMap;
 use crate::hfi_rules;
 use crate::instruction::{decode, encode, name, HfiKind, Instruction, LOAD_TABLE, M_WORDS, STORE_TABLE};
 use crate::m_words::{self, M_CLASSES, PAIRS};
-use crate::machine::Machine;
+use crate::machine::{Machine, EXPLICIT, REGIONS};
 use crate::numbers::{bit, power};
 use crate::overlap::locked_code_is_writable;
 use crate::reach::{executable, writable};
 use crate::region::{keeps_rule, Place};
 use crate::step::{data_access, load_size, step_asked, store_size};
 use crate::supply::{sheet_of, written_out, Supply, AIMS};
-use crate::writable_code::{self, CLASSES, WAYS};
+use crate::ten_regions;
+use crate::writable_code::{self, WAYS};
 
 /// What an engine under test offers. `None` means that it lacks the call.
 pub trait Engine {
@@ -127,12 +128,18 @@ pub struct Counts {
     /// Aimed regions by what they are (`writable_code::CLASSES`), and the stops of the ways in which they were put.
     pub code_classes: writable_code::Met,
     pub code_stops: BTreeMap<u64, u64>,
+    /// The same by the numbers of the writable region and of code: refused, not refused.
+    pub code_numbers: writable_code::Numbers,
     /// Words of question 8 by where they stand and what else is wrong (`hfi_rules::Aim`): steps, runs, sheets.
     pub rules: hfi_rules::Met,
+    /// Accesses aimed at two regions of a kind, and h-words by region and registers (`ten_regions::Aim`).
+    pub ten_regions: ten_regions::Met,
     /// What happened in the runs that cross the mode, by kind.
     pub crossings: BTreeMap<&'static str, u64>,
     pub resume_stops: BTreeMap<u64, u64>,
     pub sheet_lines: BTreeMap<String, u64>,
+    /// Sheets by how many fields line 1 has and what became of them (`FIELD_CLASSES`).
+    pub sheet_fields: BTreeMap<&'static str, u64>,
     /// Valid long sheets, and the words of the longest.
     pub long_valid: u64,
     pub long_most: usize,
@@ -148,6 +155,8 @@ pub struct Counts {
     pub isolation_steps: u64,
     /// Isolation pairs whose memories truly differed.
     pub isolation_differing: u64,
+    /// Isolation pairs with a region past the third that keeps its rule.
+    pub isolation_ten: u64,
     /// Isolation pairs whose run left another memory than it began with.
     pub isolation_stored: u64,
     /// Isolation pairs that ended in HFI mode, where 4 was asked again.
@@ -170,9 +179,11 @@ impl Counts {
         all(&mut self.run_stops, other.run_stops);
         all(&mut self.code_stops, other.code_stops);
         all(&mut self.code_classes, other.code_classes);
+        all(&mut self.ten_regions, other.ten_regions);
         all(&mut self.crossings, other.crossings);
         all(&mut self.resume_stops, other.resume_stops);
         all(&mut self.sheet_lines, other.sheet_lines);
+        all(&mut self.sheet_fields, other.sheet_fields);
         all(&mut self.empty_pairs, other.empty_pairs);
         all(&mut self.isolation_stops, other.isolation_stops);
         for (name, (completed, stopped)) in other.instructions {
@@ -192,6 +203,10 @@ impl Counts {
             let entry = self.rules.entry(aim).or_default();
             (0..3).for_each(|n| entry[n] += met[n]);
         }
+        for (numbers, met) in other.code_numbers {
+            let entry = self.code_numbers.entry(numbers).or_default();
+            (0..2).for_each(|n| entry[n] += met[n]);
+        }
         for (place, met) in other.long_refused {
             let entry = self.long_refused.entry(place).or_default();
             (0..5).for_each(|n| entry[n] += met[n]);
@@ -206,6 +221,7 @@ impl Counts {
         self.run_steps += other.run_steps;
         self.isolation_steps += other.isolation_steps;
         self.isolation_differing += other.isolation_differing;
+        self.isolation_ten += other.isolation_ten;
         self.isolation_stored += other.isolation_stored;
         self.isolation_inside += other.isolation_inside;
         self.compared += other.compared;
@@ -475,6 +491,7 @@ fn both_answers(left: &dyn Engine, right: &dyn Engine, sheet: &[u8], counts: &mu
     let first: Vec<&str> = text.split(',').collect();
     let key = if first[0] == "sheet" { format!("sheet,{}", first[1]) } else { first[0].to_string() };
     *counts.sheet_lines.entry(key).or_default() += 1;
+    *counts.sheet_fields.entry(field_class(sheet, &text)).or_default() += 1;
     let answer = right.respond(sheet);
     if let Some(b) = &answer {
         counts.compared += 1;
@@ -490,6 +507,50 @@ fn both_answers(left: &dyn Engine, right: &dyn Engine, sheet: &[u8], counts: &mu
         }
     }
     (text, answer)
+}
+
+/// What line 1 of a sheet has, and what becomes of it.
+pub const FIELD_CLASSES: [&str; 6] =
+    ["13 fields, run", "34 fields, run", "13 fields, refused", "34 fields, refused", "other fields, refused with 32", "refused before that"];
+
+fn field_class(sheet: &[u8], printed: &str) -> &'static str {
+    let line = sheet.split(|byte| *byte == b'\n').next().unwrap_or_default();
+    let fields = 1 + line.iter().filter(|byte| **byte == b',').count();
+    let refused = printed.starts_with("sheet");
+    match fields {
+        13 => FIELD_CLASSES[2 * refused as usize],
+        34 => FIELD_CLASSES[1 + 2 * refused as usize],
+        _ if printed == "sheet,32,1\n" => FIELD_CLASSES[4],
+        _ => FIELD_CLASSES[5],
+    }
+}
+
+/// Setup lines of 1 to 40 fields: 32 refuses all but those of 13 and 34, and 33 these where pc is empty.
+pub fn field_counts(left: &dyn Engine, right: &dyn Engine, supply: &mut Supply, counts: &mut Counts) {
+    for fields in 1..=40 {
+        let values: Vec<String> = (1..fields).map(|_| format!("{:x}", supply.below(16))).collect();
+        let budget = if supply.once_in(2) { "" } else { "8" };
+        let sheet = format!("{}\n", [values, vec![budget.to_string()]].concat().join(","));
+        let printed = compare_budgets(left, right, sheet.as_bytes(), counts);
+        if (printed == "sheet,32,1\n") == [13, 34].contains(&fields) {
+            counts.difference(format!("{fields} fields are answered by {printed:?}"));
+        }
+        let empty = sheet[sheet.find(',').unwrap_or(0)..].to_string();
+        let printed = compare_budgets(left, right, empty.as_bytes(), counts);
+        if (printed == "sheet,33,1\n") != [13, 34].contains(&fields) {
+            counts.difference(format!("{fields} fields, the first empty, are answered by {printed:?}"));
+        }
+    }
+}
+
+/// The classes of sheets by fields that were not met.
+pub fn fields_unmet(counts: &Counts) -> Vec<String> {
+    let lacking = FIELD_CLASSES[..5].iter().filter(|class| !counts.sheet_fields.contains_key(*class));
+    let mut unmet: Vec<String> = lacking.map(|class| format!("no sheet of: {class}")).collect();
+    if counts.isolation_ten == 0 {
+        unmet.push("no isolation pair with more than three regions".to_string());
+    }
+    unmet
 }
 
 /// One sheet to both engines, and if its budget is empty the same with c350 there, which the right one must answer alike.
@@ -552,7 +613,8 @@ pub fn empty_budget(left: &dyn Engine, right: &dyn Engine, supply: &mut Supply, 
 /// A sheet with an empty budget and another empty field, for each of line 1 and for both of line 2; 33 refuses it.
 pub fn empty_elsewhere(left: &dyn Engine, right: &dyn Engine, supply: &mut Supply, counts: &mut Counts) {
     let (lines, _) = supply.lasting_lines(20, false);
-    for (line, place) in (0..12).map(|place| (0, place)).chain([(1, 0), (1, 1)]) {
+    let budget = lines[0].iter().filter(|byte| **byte == b',').count();
+    for (line, place) in (0..budget).map(|place| (0, place)).chain([(1, 0), (1, 1)]) {
         let mut changed = lines.clone();
         let mut fields: Vec<&[u8]> = lines[line].split(|byte| *byte == b',').collect();
         fields[place] = b"";
@@ -777,6 +839,7 @@ pub fn isolation(
     *counts.isolation_stops.entry(first.0).or_default() += 1;
     counts.isolation_steps += first.1;
     counts.isolation_differing += (one != two) as u64;
+    counts.isolation_ten += (4..=REGIONS).any(|number| keeps_rule(number, &machine.regions[number - 1])) as u64;
     counts.isolation_stored += (one != a || two != b) as u64;
     if first != second || m != n {
         counts.difference(format!(
@@ -844,6 +907,7 @@ pub fn rounds(left: &dyn Engine, right: &dyn Engine, seed: u64, number: u64, cou
         m_word_pairs(left, right, &mut supply, round as usize, counts);
         writable_code::compare(left, right, &mut supply, counts);
         hfi_rules::compare(left, right, &mut supply, round as usize, counts);
+        ten_regions::compare(left, right, &mut supply, counts);
         for _ in 0..4 {
             steady_run(left, right, &mut supply, counts);
             crossing_run(left, right, &mut supply, counts);
@@ -859,6 +923,7 @@ pub fn rounds(left: &dyn Engine, right: &dyn Engine, seed: u64, number: u64, cou
         }
         if round % LONG_EVERY == 0 {
             long_sheets(left, right, &mut supply, round / LONG_EVERY, counts);
+            field_counts(left, right, &mut supply, counts);
         }
         if round % EMPTY_EVERY == 0 {
             empty_elsewhere(left, right, &mut supply, counts);
@@ -908,7 +973,7 @@ fn h_words(left: &dyn Engine, right: &dyn Engine, supply: &mut Supply, round: us
     for (place, aim) in AIMS.into_iter().enumerate() {
         for n in [(round + place) % 7, 7 + (round + place) % 4] {
             let mut bytes = memory.clone();
-            let mut machine = supply.aimed_h_word(aim, n, &mut bytes);
+            let mut machine = supply.aimed_h_word(aim, n, EXPLICIT[place % 4], &mut bytes);
             compare_run(left, right, &machine, &bytes, 2, counts);
             compare_step(left, right, &mut machine, &mut bytes, counts);
         }
@@ -992,7 +1057,7 @@ pub fn long_memories(left: &dyn Engine, right: &dyn Engine, seed: u64, counts: &
                 compare_step(left, right, &mut machine.clone(), &mut memory, counts);
             }
         }
-        let (mut machine, _) = supply.aimed_regions_world(writable_code::aims()[0]);
+        let (mut machine, _, _) = supply.aimed_regions_world(writable_code::aims()[0]);
         compare_run(left, right, &machine, &memory, 10, counts);
         compare_step(left, right, &mut machine, &mut memory, counts);
     }
@@ -1018,6 +1083,7 @@ pub fn print_counts(counts: &Counts) {
         println!("  {kind} {count}");
     }
     println!("sheet lines {:?}", counts.sheet_lines);
+    println!("sheets by the fields of line 1: {:?}", counts.sheet_fields);
     println!("long sheets: {} valid, of up to {} words; refused with 31 32 33 34 35:", counts.long_valid, counts.long_most);
     for (place, _) in LONG_PLACES {
         let met = counts.long_refused.get(place).copied().unwrap_or_default();
@@ -1043,21 +1109,34 @@ pub fn print_counts(counts: &Counts) {
 fn print_isolation(counts: &Counts) {
     println!(
         "isolation stops {:?}, steps {}, pairs with different memories {}, pairs in which a run changed its memory {}, \
-         pairs that ended in HFI mode and were asked again {}",
-        counts.isolation_stops, counts.isolation_steps, counts.isolation_differing, counts.isolation_stored, counts.isolation_inside
+         pairs that ended in HFI mode and were asked again {}, pairs with more than three regions {}",
+        counts.isolation_stops,
+        counts.isolation_steps,
+        counts.isolation_differing,
+        counts.isolation_stored,
+        counts.isolation_inside,
+        counts.isolation_ten
     );
 }
 
 fn print_classes(counts: &Counts) {
-    println!("h-words in HFI mode, region 1 grants: {}", H_NAMES.join(" "));
+    println!("h-words in HFI mode, the region chosen grants: {}", H_NAMES.join(" "));
     for (class, _, _) in H_CLASSES {
         let met = counts.h_words.get(class).copied().unwrap_or_default();
         println!("  {class}: {}", met.map(|count| count.to_string()).join(" "));
     }
     println!("regions aimed at code, each as {}: stops {:?}", WAYS.map(|way| way.0).join("; "), counts.code_stops);
-    for (class, refused, _) in CLASSES {
+    for (class, refused) in writable_code::class_names() {
         let met = counts.code_classes.get(class).copied().unwrap_or_default();
         println!("  {class}, {}: {met}", if refused { "refused" } else { "not refused" });
+    }
+    println!("of them, by the writable region and code, refused and not:");
+    for ((data, code), met) in &counts.code_numbers {
+        println!("  regions {data} and {code}: {}", met.map(|count| count.to_string()).join(" "));
+    }
+    println!("accesses aimed at two regions of a kind, and h-words by the region chosen:");
+    for (shape, count) in ten_regions::by_shape(&counts.ten_regions) {
+        println!("  {shape}: {count}");
     }
     println!("words of question 8, as steps, in runs, on sheets, by what they get (0: none of 14, 23, 24, 25):");
     for (number, met) in hfi_rules::by_number(&counts.rules) {

@@ -31,7 +31,7 @@ pub const PLACES: [Place; 4] = [Place::Outside, Place::OutsideLock, Place::Unloc
 #[derive(Clone, Copy, Debug, PartialEq, Eq, PartialOrd, Ord)]
 pub enum Flaw {
     Nothing,
-    /// An options operand above 15, a number not 1 to 3, or a permission bit
+    /// An options operand above 15, a number not 1 to 10, or a permission bit
     /// that the region lacks.
     Operand,
     /// Nothing is selected.
@@ -165,10 +165,18 @@ impl Supply {
 
     fn no_region(&mut self) -> u64 {
         match self.below(3) {
+            0 if self.ten() => self.pick(&[0, 11, 12, 1 << 63, ALL]),
+            1 if self.ten() => 1 + self.below(10) + (1 << (32 + self.below(32))),
+            _ if self.ten() => self.edge() | 16,
             0 => self.pick(&[0, 4, 5, 1 << 63, ALL]),
             1 => 1 + self.below(3) + (1 << (32 + self.below(32))),
             _ => self.edge() | 4,
         }
+    }
+
+    /// The number of a region; before Job 7 of one of three.
+    fn some_region(&mut self) -> u64 {
+        1 + self.below(if self.ten() { 10 } else { 3 })
     }
 
     /// A permission with or without a bit that the region lacks.
@@ -190,7 +198,7 @@ impl Supply {
             ENTER | ENTER_JUMP if aim.flaw == Flaw::Code => self.below(8) * 2 + 1,
             ENTER | ENTER_JUMP => self.below(16),
             SELECT if bad => self.no_region(),
-            SELECT => 1 + self.below(3),
+            SELECT => self.some_region(),
             SET_PERMISSION if selector > 0 => self.permission(selector as usize, !bad),
             _ => self.edge(),
         }
@@ -200,8 +208,14 @@ impl Supply {
     fn rule_word(&mut self, aim: Aim, rd: u64, rs1: u64, rs2: u64) -> Instruction {
         let offset = self.below(8) as i64;
         match aim.word {
-            H_LOAD => Instruction::HLoad { kind: self.pick(&LOAD_TABLE).0, rd, rs1: 0, offset },
-            H_STORE => Instruction::HStore { kind: self.pick(&STORE_TABLE).0, rs1: 0, rs2, offset },
+            H_LOAD => {
+                let kind = self.pick(&LOAD_TABLE).0;
+                Instruction::HLoad { kind, region: self.choice(), rd: rd % 16, rs1: 0, offset }
+            }
+            H_STORE => {
+                let kind = self.pick(&STORE_TABLE).0;
+                Instruction::HStore { kind, region: self.choice(), rs1: 0, rs2: rs2 % 16, offset }
+            }
             funct7 => {
                 let (kind, has_rd, has_rs1, has_rs2) = HFI_TABLE[funct7];
                 let keep = |has: bool, register: u64| if has { register } else { 0 };
@@ -221,7 +235,7 @@ impl Supply {
         let lock = [Place::OutsideLock, Place::Locked].contains(&aim.place) as u64;
         machine.mode = (aim.place >= Place::Unlocked) as u64;
         machine.options = self.below(8) * 2 + lock;
-        machine.selector = if aim.flaw == Flaw::Selection { 0 } else { 1 + self.below(3) };
+        machine.selector = if aim.flaw == Flaw::Selection { 0 } else { self.some_region() };
         machine.regions[2] = Region { base: 0, bound: ALL << 7, permission: 4 };
         if aim.flaw == Flaw::Code {
             machine.regions[1] = Region { base: 0, bound: ALL << (3 + self.below(8)), permission: 2 + self.below(2) };
@@ -255,7 +269,7 @@ impl Supply {
     /// The lines of a sheet that comes to the word of an aim, and how many steps
     /// it takes to there.
     fn rule_lines(&mut self, aim: Aim) -> (Vec<Vec<u8>>, u64) {
-        let selector = if aim.flaw == Flaw::Selection || aim.place == Place::Locked { 0 } else { 1 + self.below(3) };
+        let selector = if aim.flaw == Flaw::Selection || aim.place == Place::Locked { 0 } else { self.some_region() };
         let options = self.below(8) * 2 + (aim.place == Place::Locked) as u64;
         let mut program = Vec::new();
         if selector > 0 {
@@ -271,7 +285,12 @@ impl Supply {
         // Ordinary data is code's neighbour, or code itself; h-words have 64 bytes elsewhere.
         let data = if aim.flaw == Flaw::Code { 0 } else { 0x1000 };
         let budget = steps + 1 + self.below(4);
-        let setup = [0, options, self.below(64) * 4, 0x8000, 0x40, 3, data, ALL << 12, 3, 0, ALL << 12, 4, budget];
+        let mut setup = vec![0, options, self.below(64) * 4, 0x8000, 0x40, 3, data, ALL << 12, 3, 0, ALL << 12, 4];
+        if self.once_in(2) {
+            setup.extend([0x8000, 0x40, 3].repeat(3));
+            setup.extend([0; 12]);
+        }
+        setup.push(budget);
         let first: Vec<String> = setup.into_iter().map(|value| format!("{value:x}")).collect();
         let mut lines = vec![first.join(",").into_bytes()];
         for (n, instruction) in program.iter().enumerate() {

@@ -2,6 +2,7 @@
 //! upper immediates and FENCE are plain numbers; offsets and immediates are
 //! signed whole numbers.
 
+use crate::machine::EXPLICIT;
 use crate::numbers::{bits, signed};
 
 #[derive(Clone, Copy, Debug, PartialEq, Eq)]
@@ -134,8 +135,9 @@ pub enum Instruction {
     /// `spare` is the 12-bit field fm, pred, succ.
     Fence { rd: u64, rs1: u64, spare: u64 },
     System { kind: SystemKind },
-    HLoad { kind: LoadKind, rd: u64, rs1: u64, offset: i64 },
-    HStore { kind: StoreKind, rs1: u64, rs2: u64, offset: i64 },
+    /// `region` is one of `EXPLICIT`, registers are x0 to x15.
+    HLoad { kind: LoadKind, region: u64, rd: u64, rs1: u64, offset: i64 },
+    HStore { kind: StoreKind, region: u64, rs1: u64, rs2: u64, offset: i64 },
     /// A register field that the table's row does not name is 0.
     Hfi { kind: HfiKind, rd: u64, rs1: u64, rs2: u64 },
 }
@@ -248,6 +250,12 @@ pub fn m_kind(n: usize) -> RegisterKind {
     REGISTER_TABLE[BASE_ROWS + n].0
 }
 
+/// "the top bits of two register fields choose the explicit region: rs1's counts 2, that of rd or rs2 counts 1, and 0 to
+/// 3 mean 1, 4, 5, 6" (document 02, Job 7). `other` is rd of a load, rs2 of a store.
+fn chosen_region(rs1: u64, other: u64) -> u64 {
+    EXPLICIT[(2 * (rs1 / 16) + other / 16) as usize] as u64
+}
+
 /// The instruction a 32-bit word stands for; none if the word is illegal.
 pub fn decode(word: u32) -> Option<Instruction> {
     let opcode = bits(word, 6, 0);
@@ -292,11 +300,11 @@ pub fn decode(word: u32) -> Option<Instruction> {
         }
         0x0b => {
             let (kind, _) = *LOAD_TABLE.iter().find(|row| row.1 == funct3)?;
-            Some(Instruction::HLoad { kind, rd, rs1, offset: i_value })
+            Some(Instruction::HLoad { kind, region: chosen_region(rs1, rd), rd: rd % 16, rs1: rs1 % 16, offset: i_value })
         }
         0x2b => {
             let (kind, _) = *STORE_TABLE.iter().find(|row| row.1 == funct3)?;
-            Some(Instruction::HStore { kind, rs1, rs2, offset: s_value })
+            Some(Instruction::HStore { kind, region: chosen_region(rs1, rs2), rs1: rs1 % 16, rs2: rs2 % 16, offset: s_value })
         }
         0x13 | 0x1b => {
             if let Some(row) = IMMEDIATE_TABLE.iter().find(|row| row.1 == opcode && row.2 == funct3) {
@@ -407,6 +415,13 @@ fn r_type(opcode: u64, funct3: u64, funct7: u64, rd: u64, rs1: u64, rs2: u64) ->
         .finish()
 }
 
+/// The fields rs1 and rd, or rs2, of an h-word with this region; none if the
+/// region is not explicit or a register is not x0 to x15.
+fn h_fields(region: u64, rs1: u64, other: u64) -> Option<(u64, u64)> {
+    let choice = EXPLICIT.iter().position(|number| *number as u64 == region)? as u64;
+    (rs1 < 16 && other < 16).then(|| (rs1 + choice / 2 * 16, other + choice % 2 * 16))
+}
+
 /// The word of an instruction; none (answer 5, word 0) if a field is outside
 /// its range.
 pub fn encode(instruction: &Instruction) -> Option<u32> {
@@ -444,16 +459,18 @@ pub fn encode(instruction: &Instruction) -> Option<u32> {
             let funct3 = LOAD_TABLE.iter().find(|row| row.0 == kind)?.1;
             i_type(0x03, funct3, rd, rs1, offset)
         }
-        Instruction::HLoad { kind, rd, rs1, offset } => {
+        Instruction::HLoad { kind, region, rd, rs1, offset } => {
             let funct3 = LOAD_TABLE.iter().find(|row| row.0 == kind)?.1;
+            let (rs1, rd) = h_fields(region, rs1, rd)?;
             i_type(0x0b, funct3, rd, rs1, offset)
         }
         Instruction::Store { kind, rs1, rs2, offset } => {
             let funct3 = STORE_TABLE.iter().find(|row| row.0 == kind)?.1;
             s_type(0x23, funct3, rs1, rs2, offset)
         }
-        Instruction::HStore { kind, rs1, rs2, offset } => {
+        Instruction::HStore { kind, region, rs1, rs2, offset } => {
             let funct3 = STORE_TABLE.iter().find(|row| row.0 == kind)?.1;
+            let (rs1, rs2) = h_fields(region, rs1, rs2)?;
             s_type(0x2b, funct3, rs1, rs2, offset)
         }
         Instruction::Immediate { kind, rd, rs1, value } => {

@@ -1,5 +1,5 @@
 //! A second implementation of the machine of document 01 as document 02 has
-//! changed it (Jobs 1 to 6), written from those and from the RISC-V unprivileged
+//! changed it (Jobs 1 to 7), written from those and from the RISC-V unprivileged
 //! specification alone. It is meant to be read side by side with them, so it
 //! prefers the plain form: whole numbers in u128 and i128, one byte at a time,
 //! one question after the other.
@@ -20,6 +20,7 @@ pub mod run;
 pub mod sheet;
 pub mod step;
 pub mod supply;
+pub mod ten_regions;
 pub mod vectors;
 pub mod writable_code;
 

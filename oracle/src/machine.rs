@@ -2,7 +2,7 @@
 
 use crate::numbers::bit;
 
-pub const REGIONS: usize = 3;
+pub const REGIONS: usize = 10;
 
 #[repr(C)]
 #[derive(Clone, Copy, Debug, PartialEq, Eq, Default)]
@@ -41,6 +41,11 @@ pub struct Machine {
     pub fault: Fault,
 }
 
+/// Ten regions of which the first three are these and the others zero.
+pub fn with_others_zero(first: [Region; 3]) -> [Region; REGIONS] {
+    std::array::from_fn(|n| first.get(n).copied().unwrap_or_default())
+}
+
 pub const READ: u32 = 0;
 pub const WRITE: u32 = 1;
 pub const EXECUTE: u32 = 2;
@@ -57,19 +62,26 @@ pub enum RegionKind {
     ImplicitCode,
 }
 
-/// What kind region `number` (from 1) is.
-pub fn region_kind(number: usize) -> RegionKind {
-    match number {
-        1 => RegionKind::Explicit,
-        2 => RegionKind::ImplicitData,
-        3 => RegionKind::ImplicitCode,
-        _ => panic!("no region {number}"),
+pub const KINDS: [RegionKind; 3] = [RegionKind::Explicit, RegionKind::ImplicitData, RegionKind::ImplicitCode];
+
+/// "Explicit are 1, 4, 5, 6; implicit data 2, 7, 8, 9; code 3, 10" (document
+/// 02, Job 7), each list rising.
+pub const EXPLICIT: [usize; 4] = [1, 4, 5, 6];
+pub const IMPLICIT_DATA: [usize; 4] = [2, 7, 8, 9];
+pub const IMPLICIT_CODE: [usize; 2] = [3, 10];
+
+/// The numbers of the regions of a kind, rising.
+pub fn numbers_of_kind(kind: RegionKind) -> &'static [usize] {
+    match kind {
+        RegionKind::Explicit => &EXPLICIT,
+        RegionKind::ImplicitData => &IMPLICIT_DATA,
+        RegionKind::ImplicitCode => &IMPLICIT_CODE,
     }
 }
 
-/// The numbers of the regions of a kind, rising.
-pub fn numbers_of_kind(kind: RegionKind) -> Vec<usize> {
-    (1..=REGIONS).filter(|number| region_kind(*number) == kind).collect()
+/// What kind region `number` (from 1) is.
+pub fn region_kind(number: usize) -> RegionKind {
+    KINDS.into_iter().find(|kind| numbers_of_kind(*kind).contains(&number)).expect("a region's number")
 }
 
 /// The permission bits that a region of a kind has.

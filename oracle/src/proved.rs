@@ -17,6 +17,7 @@ pub struct Flat {
     pub fm: u64,
     pub pred: u64,
     pub succ: u64,
+    pub region: u64,
 }
 
 #[repr(C)]
@@ -47,8 +48,8 @@ struct RunStop {
 /// The most bytes that the answer to a sheet takes.
 const MOST: usize = 1373;
 
-// The oracle's machine has the layout of `struct koubospar_machine`: 52 numbers in the same order.
-const _: () = assert!(std::mem::size_of::<Machine>() == 416);
+// The oracle's machine has the layout of `struct koubospar_machine`: 73 numbers in the same order.
+const _: () = assert!(std::mem::size_of::<Machine>() == 584);
 
 #[link(name = "koubospar_codec", kind = "static")]
 extern "C" {
@@ -123,11 +124,11 @@ pub fn flat(instruction: &Instruction) -> Flat {
             };
             Flat { group: 14, kind, ..nothing }
         }
-        Instruction::HLoad { kind, rd, rs1, offset } => {
-            Flat { group: 15, kind: load_code(kind), rd, rs1, imm: offset as u64, ..nothing }
+        Instruction::HLoad { kind, region, rd, rs1, offset } => {
+            Flat { group: 15, kind: load_code(kind), rd, rs1, imm: offset as u64, region, ..nothing }
         }
-        Instruction::HStore { kind, rs1, rs2, offset } => {
-            Flat { group: 16, kind: store_code(kind), rs1, rs2, imm: offset as u64, ..nothing }
+        Instruction::HStore { kind, region, rs1, rs2, offset } => {
+            Flat { group: 16, kind: store_code(kind), rs1, rs2, imm: offset as u64, region, ..nothing }
         }
         Instruction::Hfi { kind, rd, rs1, rs2 } => {
             let funct7 = HFI_TABLE.iter().position(|row| row.0 == kind).unwrap() as u64;

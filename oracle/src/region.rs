@@ -1,6 +1,6 @@
 //! Regions: their rules, and the judgement of a single byte.
 
-use crate::machine::{region_kind, Machine, Region, RegionKind, EXECUTE, LARGE, READ, REGIONS, WRITE};
+use crate::machine::{numbers_of_kind, region_kind, Machine, Region, RegionKind, EXECUTE, LARGE, READ, WRITE};
 use crate::numbers::{bit, power, wrap};
 
 /// The number of trailing zero bits, counted one by one; 64 for zero.
@@ -140,11 +140,11 @@ pub fn refusal(machine: &Machine, access: &Access, i: u64) -> Option<u64> {
                 Op::Load | Op::Store => RegionKind::ImplicitData,
             };
             let byte = address(machine, access, i);
-            // The first region of the kind that matches decides.
-            for number in 1..=REGIONS {
+            // "the lowest-numbered matching region of the kind decides, even if a later one would grant more"
+            for number in numbers_of_kind(kind) {
                 let region = &machine.regions[number - 1];
-                if region_kind(number) == kind && matches(region, byte) {
-                    return if bit(region.permission, access.op.wanted()) { None } else { Some(number as u64) };
+                if matches(region, byte) {
+                    return if bit(region.permission, access.op.wanted()) { None } else { Some(*number as u64) };
                 }
             }
             Some(0)

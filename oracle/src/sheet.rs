@@ -1,13 +1,15 @@
 //! The run sheet: reading, refusing, running, printing.
 
-use crate::machine::{Machine, Region, REGIONS};
+use crate::machine::{Machine, Region};
 use crate::run::run;
 
 pub const SHEET_LIMIT: usize = 65_536;
 pub const SHEET_MEMORY: usize = 65_536;
 /// Document 02, Job 4: "An empty budget now means 50,000."
 pub const EMPTY_BUDGET: u64 = 50_000;
-const SETUP_FIELDS: usize = 13;
+/// "A setup line has 13 fields, the other regions then being zero, or 34" (document 02, Job 7): three before the regions,
+/// three for each of the first 3 regions or of all, and the budget.
+const SETUP_FIELDS: [usize; 2] = [13, 34];
 const WORD_FIELDS: usize = 2;
 
 /// A sheet that passed questions 30 to 35.
@@ -66,13 +68,14 @@ pub fn read_sheet(input: &[u8]) -> Result<Sheet, Refusal> {
         let line_number = index + 1;
         let first = line_number == 1;
         let fields: Vec<&[u8]> = line.split(|byte| *byte == b',').collect();
-        // 32: are there 13 fields (line 1) or 2?
-        if fields.len() != if first { SETUP_FIELDS } else { WORD_FIELDS } {
+        // 32: are there 13 or 34 fields (line 1) or 2?
+        let fits = if first { SETUP_FIELDS.contains(&fields.len()) } else { fields.len() == WORD_FIELDS };
+        if !fits {
             return Err((32, line_number));
         }
         // 33: has each field 1 to 16 digits (an empty budget passes)?
         for (place, field) in fields.iter().enumerate() {
-            let empty_budget = first && place == SETUP_FIELDS - 1 && field.is_empty();
+            let empty_budget = first && place == fields.len() - 1 && field.is_empty();
             if !empty_budget && (field.is_empty() || field.len() > 16) {
                 return Err((33, line_number));
             }
@@ -82,12 +85,12 @@ pub fn read_sheet(input: &[u8]) -> Result<Sheet, Refusal> {
             machine.pc = values[0];
             machine.options = values[1];
             machine.handler = values[2];
-            for n in 0..REGIONS {
-                machine.regions[n] =
-                    Region { base: values[3 + 3 * n], bound: values[4 + 3 * n], permission: values[5 + 3 * n] };
+            let last = fields.len() - 1;
+            for (n, three) in values[3..last].chunks(3).enumerate() {
+                machine.regions[n] = Region { base: three[0], bound: three[1], permission: three[2] };
             }
-            if !fields[SETUP_FIELDS - 1].is_empty() {
-                budget = values[SETUP_FIELDS - 1];
+            if !fields[last].is_empty() {
+                budget = values[last];
             }
             // 34: are options and permissions at most ff, budget at most ffffffff?
             let permissions_fit = machine.regions.iter().all(|region| region.permission <= 0xff);

@@ -174,7 +174,7 @@ fn operand_forbidden(machine: &Machine, instruction: &Instruction) -> bool {
     match kind {
         // an options operand above 15
         HfiKind::Enter | HfiKind::EnterJump => operand > 15,
-        // a selected number not 1 to 3
+        // a selected number not 1 to 10
         HfiKind::Select => operand < 1 || operand > REGIONS as u64,
         // funct7 4 to 9 with selector 0, and a permission bit the region lacks
         HfiKind::SetBase | HfiKind::GetBase | HfiKind::SetBound | HfiKind::GetBound | HfiKind::GetPermission => {
@@ -248,19 +248,22 @@ fn explicit_offset(machine: &Machine, rs1: u64, immediate: i64) -> i128 {
 pub fn data_access(machine: &Machine, instruction: &Instruction) -> Option<Access> {
     let ordinary =
         |rs1: u64, offset: i64| Place::Implicit { address: wrap(machine.get(rs1) as i128 + offset as i128) };
-    let explicit = |rs1: u64, offset: i64| Place::Explicit { region: 1, offset: explicit_offset(machine, rs1, offset) };
+    let explicit = |region: u64, rs1: u64, offset: i64| Place::Explicit {
+        region: region as usize,
+        offset: explicit_offset(machine, rs1, offset),
+    };
     match *instruction {
         Instruction::Load { kind, rs1, offset, .. } => {
             Some(Access { op: Op::Load, place: ordinary(rs1, offset), size: load_size(kind) })
         }
-        Instruction::HLoad { kind, rs1, offset, .. } => {
-            Some(Access { op: Op::Load, place: explicit(rs1, offset), size: load_size(kind) })
+        Instruction::HLoad { kind, region, rs1, offset, .. } => {
+            Some(Access { op: Op::Load, place: explicit(region, rs1, offset), size: load_size(kind) })
         }
         Instruction::Store { kind, rs1, offset, .. } => {
             Some(Access { op: Op::Store, place: ordinary(rs1, offset), size: store_size(kind) })
         }
-        Instruction::HStore { kind, rs1, offset, .. } => {
-            Some(Access { op: Op::Store, place: explicit(rs1, offset), size: store_size(kind) })
+        Instruction::HStore { kind, region, rs1, offset, .. } => {
+            Some(Access { op: Op::Store, place: explicit(region, rs1, offset), size: store_size(kind) })
         }
         _ => None,
     }

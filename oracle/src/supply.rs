@@ -4,7 +4,7 @@ use crate::instruction::{
     decode, encode, BranchKind, HfiKind, ImmediateKind, Instruction, LoadKind, RegisterKind, ShiftKind, SystemKind, UpperKind, BASE_ROWS, BRANCH_TABLE,
     HFI_TABLE, IMMEDIATE_TABLE, LOAD_TABLE, REGISTER_TABLE, SHIFT_TABLE, STORE_TABLE,
 };
-use crate::machine::{region_kind, Fault, Machine, Region, RegionKind, REGIONS, WRITE};
+use crate::machine::{numbers_of_kind, region_kind, Fault, Machine, Region, RegionKind, EXPLICIT, IMPLICIT_DATA, REGIONS, WRITE};
 use crate::numbers::bit;
 use crate::overlap::{code_is_writable, executable_intervals, extent, locked_code_is_writable, Interval};
 use crate::reach::{executable, readable};
@@ -75,7 +75,7 @@ pub const AIMS: [Aim; 18] = [
 pub const AIMED_LENGTH: usize = 12_288;
 
 /// Registers that a run leaves alone: two offsets inside region 1 and an edge.
-const OFFSETS: [u64; 3] = [17, 18, 29];
+const OFFSETS: [u64; 3] = [4, 12, 13];
 
 /// Another, which counts the rounds of a loop.
 const ROUNDS: u64 = 20;
@@ -92,26 +92,34 @@ pub struct Supply {
     parts: bool,
     /// Does it put words that question 8 refuses where runs cross the mode?
     strays: bool,
+    /// Does it draw all ten regions, and h-words that choose among them?
+    ten: bool,
 }
 
 impl Supply {
     pub fn new(seed: u64) -> Supply {
-        Supply { state: seed, rows: REGISTER_TABLE.len(), parts: true, strays: true }
+        Supply { state: seed, rows: REGISTER_TABLE.len(), parts: true, strays: true, ten: true }
     }
 
     /// As before Job 2, so that what was stored then stays as it was.
     pub fn of_base(seed: u64) -> Supply {
-        Supply { state: seed, rows: BASE_ROWS, parts: false, strays: false }
+        Supply { state: seed, rows: BASE_ROWS, parts: false, strays: false, ten: false }
     }
 
     /// As before Job 5, likewise.
     pub fn of_rv64m(seed: u64) -> Supply {
-        Supply { state: seed, rows: REGISTER_TABLE.len(), parts: false, strays: false }
+        Supply { state: seed, rows: REGISTER_TABLE.len(), parts: false, strays: false, ten: false }
     }
 
     /// As before Job 6, likewise.
     pub fn of_writable_code(seed: u64) -> Supply {
-        Supply { state: seed, rows: REGISTER_TABLE.len(), parts: true, strays: false }
+        Supply { state: seed, rows: REGISTER_TABLE.len(), parts: true, strays: false, ten: false }
+    }
+
+    /// As before Job 7, likewise; an h-word then names x0 to x15 by the low
+    /// four bits of what was drawn, and chooses region 1.
+    pub fn of_rules(seed: u64) -> Supply {
+        Supply { ten: false, ..Supply::new(seed) }
     }
 
     pub fn next(&mut self) -> u64 {
@@ -189,6 +197,19 @@ impl Supply {
         }
     }
 
+    pub fn ten(&self) -> bool {
+        self.ten
+    }
+
+    /// The region that an h-word chooses.
+    pub fn choice(&mut self) -> u64 {
+        if self.ten {
+            self.pick(&EXPLICIT) as u64
+        } else {
+            1
+        }
+    }
+
     /// A legal instruction.
     pub fn instruction(&mut self) -> Instruction {
         let (rd, rs1, rs2) = (self.register(), self.register(), self.register());
@@ -204,8 +225,14 @@ impl Supply {
             }
             8..=12 => Instruction::Load { kind: self.pick(&LOAD_TABLE).0, rd, rs1, offset: value },
             13..=16 => Instruction::Store { kind: self.pick(&STORE_TABLE).0, rs1, rs2, offset: value },
-            17..=20 => Instruction::HLoad { kind: self.pick(&LOAD_TABLE).0, rd, rs1, offset: value },
-            21..=23 => Instruction::HStore { kind: self.pick(&STORE_TABLE).0, rs1, rs2, offset: value },
+            17..=20 => {
+                let kind = self.pick(&LOAD_TABLE).0;
+                Instruction::HLoad { kind, region: self.choice(), rd: rd % 16, rs1: rs1 % 16, offset: value }
+            }
+            21..=23 => {
+                let kind = self.pick(&STORE_TABLE).0;
+                Instruction::HStore { kind, region: self.choice(), rs1: rs1 % 16, rs2: rs2 % 16, offset: value }
+            }
             24..=27 => Instruction::Immediate { kind: self.pick(&IMMEDIATE_TABLE).0, rd, rs1, value },
             28..=29 => {
                 let row = self.pick(&SHIFT_TABLE);
@@ -245,7 +272,11 @@ impl Supply {
     /// region 2, x3 into region 3; offsets are small; few words stop.
     fn steady_instruction(&mut self) -> Instruction {
         let mut instruction = self.instruction();
-        let rd_steady = self.pick(&[5, 6, 7, 9, 10, 11, 12, 13, 14, 15, 16, 30, 31, 0]);
+        // What a run may write; the low four bits of each too, for an h-word. `OFFSETS` are not among them.
+        let rd_steady = match self.ten {
+            true => self.pick(&[5, 6, 7, 9, 10, 11, 14, 15, 16, 30, 31, 0]),
+            false => self.pick(&[5, 6, 7, 9, 10, 11, 12, 13, 14, 15, 16, 30, 31, 0]),
+        };
         let pointer = self.pick(&[1, 2, 8]);
         let near = self.below(96) as i64 - 48;
         let ahead = if self.once_in(24) { self.below(2048) as i64 } else { self.below(48) as i64 };
@@ -261,7 +292,7 @@ impl Supply {
                 *offset = near;
             }
             Instruction::HLoad { rd, offset, .. } => {
-                *rd = rd_steady;
+                *rd = rd_steady % 16;
                 *offset = ahead;
             }
             Instruction::HStore { offset, .. } => *offset = ahead,
@@ -310,21 +341,33 @@ impl Supply {
         (machine, memory)
     }
 
-    /// Puts offsets inside region 1 into registers that a run leaves alone,
-    /// and lets most h-words of the lower half use them, so that runs go on;
-    /// a longer memory often has a region past what an immediate reaches, and
-    /// where that must not have code, more bytes for it.
-    pub fn give_offsets(&mut self, machine: &mut Machine, memory: &mut Vec<u8>) {
+    /// An explicit region's number. In a longer memory it is often one past what
+    /// an immediate reaches, and where that must not have code, memory gets more
+    /// bytes for it.
+    fn far_region(&mut self, machine: &mut Machine, memory: &mut Vec<u8>) -> usize {
         let half = memory.len() as u64 / 2;
+        let number = self.pick(&EXPLICIT);
         if half > 2_000 && !self.once_in(5) {
             let permission = self.pick(&[3, 3, 3, 3, 1, 2]);
-            machine.regions[0] = Region { base: self.below(64), bound: half + self.below(half), permission };
+            machine.regions[number - 1] = Region { base: self.below(64), bound: half + self.below(half), permission };
             if locked_code_is_writable(machine) && !self.once_in(8) {
-                machine.regions[0].base += half;
+                machine.regions[number - 1].base += half;
                 memory.extend((0..half).map(|_| self.next() as u8));
             }
         }
-        let region = machine.regions[0];
+        if locked_code_is_writable(machine) && !self.once_in(4) {
+            self.part(machine);
+        }
+        number
+    }
+
+    /// Puts offsets inside an explicit region into registers that a run leaves
+    /// alone, and lets most h-words of the lower half use them there, so that
+    /// runs go on.
+    pub fn give_offsets(&mut self, machine: &mut Machine, memory: &mut Vec<u8>) {
+        let half = memory.len() as u64 / 2;
+        let number = self.far_region(machine, memory);
+        let region = machine.regions[number - 1];
         let end = region.bound.min((memory.len() as u64).saturating_sub(region.base)); // of what is in memory
         let last = end.saturating_sub(48).max(1);
         machine.x[OFFSETS[0] as usize] = self.below(last).max(24);
@@ -332,15 +375,21 @@ impl Supply {
         machine.x[OFFSETS[2] as usize] = self.edge();
         for at in (0..half as usize / 4).map(|n| 4 * n) {
             let word = u32::from_le_bytes(memory[at..at + 4].try_into().unwrap());
-            let (register, immediate) = match self.below(48) {
+            let (register, immediate, there) = match self.below(48) {
                 0 => continue,
-                1 => (OFFSETS[2], self.immediate()),
-                2..=12 => (0, self.below(40) as i64),
-                n => (OFFSETS[n as usize % 2], self.below(64) as i64 - 24),
+                1 => (OFFSETS[2], self.immediate(), true),
+                2..=8 => (0, self.below(40) as i64, false),
+                n => (OFFSETS[n as usize % 2], self.below(64) as i64 - 24, true),
             };
             let aimed = match decode(word) {
-                Some(Instruction::HLoad { kind, rd, .. }) => Instruction::HLoad { kind, rd, rs1: register, offset: immediate },
-                Some(Instruction::HStore { kind, rs2, .. }) => Instruction::HStore { kind, rs1: register, rs2, offset: immediate },
+                Some(Instruction::HLoad { kind, region, rd, .. }) => {
+                    let region = if there { number as u64 } else { region };
+                    Instruction::HLoad { kind, region, rd, rs1: register, offset: immediate }
+                }
+                Some(Instruction::HStore { kind, region, rs2, .. }) => {
+                    let region = if there { number as u64 } else { region };
+                    Instruction::HStore { kind, region, rs1: register, rs2, offset: immediate }
+                }
                 _ => continue,
             };
             let word = encode(&aimed).expect("in range");
@@ -457,26 +506,28 @@ impl Supply {
     }
 
     /// A machine in HFI mode about to make an h-word, the n-th of the loads
-    /// and stores, that is aimed so, through a region that grants it if its
-    /// offset is good. Half of them, and each `Back`, name one register twice.
-    pub fn aimed_h_word(&mut self, aim: Aim, n: usize, memory: &mut [u8]) -> Machine {
+    /// and stores, that is aimed so, through the explicit region `number`, which
+    /// grants it if its offset is good. Half of them, and each `Back`, name one
+    /// register twice.
+    pub fn aimed_h_word(&mut self, aim: Aim, n: usize, number: usize, memory: &mut [u8]) -> Machine {
         let mut machine = self.well_formed_machine(memory.len());
         machine.mode = 1;
         machine.pc = self.below(memory.len() as u64 / 4) * 4;
         machine.regions[2] = Region { base: 0, bound: ALL << 16, permission: 4 };
-        let rs1 = if aim == Aim::X0 { 0 } else { 1 + self.below(31) };
-        let other = if aim == Aim::Back || self.once_in(2) { rs1 } else { self.register() };
+        let rs1 = if aim == Aim::X0 { 0 } else { 1 + self.below(15) };
+        let other = if aim == Aim::Back || self.once_in(2) { rs1 } else { self.register() % 16 };
         let (size, wanted) = match n {
             0..=6 => (load_size(LOAD_TABLE[n].0), 1),
             _ => (store_size(STORE_TABLE[n - 7].0), 2),
         };
         let (value, offset, region) = self.aimed_offset(aim, size, wanted);
-        machine.regions[0] = region;
+        machine.regions[number - 1] = region;
         machine.set(rs1, value);
         self.unrefused(&mut machine);
+        let region = number as u64;
         let word = match n {
-            0..=6 => Instruction::HLoad { kind: LOAD_TABLE[n].0, rd: other, rs1, offset },
-            _ => Instruction::HStore { kind: STORE_TABLE[n - 7].0, rs1, rs2: other, offset },
+            0..=6 => Instruction::HLoad { kind: LOAD_TABLE[n].0, region, rd: other, rs1, offset },
+            _ => Instruction::HStore { kind: STORE_TABLE[n - 7].0, region, rs1, rs2: other, offset },
         };
         let at = machine.pc as usize;
         memory[at..at + 4].copy_from_slice(&encode(&word).expect("in range").to_le_bytes());
@@ -497,9 +548,9 @@ impl Supply {
     /// The same through any region, good or broken, with or without the
     /// permission.
     pub fn h_word_of_any_region(&mut self, memory: &mut [u8]) -> Machine {
-        let (aim, n) = (self.pick(&AIMS), self.below(11) as usize);
-        let mut machine = self.aimed_h_word(aim, n, memory);
-        machine.regions[0] = self.explicit_region(memory.len());
+        let (aim, n, number) = (self.pick(&AIMS), self.below(11) as usize, self.pick(&EXPLICIT));
+        let mut machine = self.aimed_h_word(aim, n, number, memory);
+        machine.regions[number - 1] = self.explicit_region(memory.len());
         self.part_if_locked(&mut machine);
         machine
     }
@@ -531,18 +582,72 @@ impl Supply {
             let base = start + self.below(half as u64);
             machine.regions[0] = Region { base, bound: 8 + self.below(half as u64), permission };
         }
+        if self.ten {
+            self.spread_regions(&mut machine, half as u64, k, (base, inner));
+        }
         if self.parts && locked_code_is_writable(&machine) && !self.once_in(12) {
             self.part_above(&mut machine, half as u64);
         }
+        self.point_into(&mut machine, half as u64, (base, inner));
+        (machine, memory)
+    }
+
+    /// Pointers into ordinary data and into code, and a place to begin.
+    fn point_into(&mut self, machine: &mut Machine, half: u64, (base, inner): (u64, u64)) {
         for pointer in [1, 2, 8] {
             machine.x[pointer] = base + self.below(1 << inner);
             if !self.once_in(8) {
                 machine.x[pointer] = base + 48 + self.below((1u64 << inner).saturating_sub(104).max(1));
             }
         }
-        machine.x[3] = self.below(half as u64 / 8) * 4;
-        machine.pc = self.below(half as u64 / 8) * 4;
-        (machine, memory)
+        machine.x[3] = self.below(half / 8) * 4;
+        machine.pc = self.below(half / 8) * 4;
+    }
+
+    /// Other regions for a steady world: explicit ones like region 1; the block
+    /// of ordinary data, 2^inner bytes from a base on, in one region, in four
+    /// that touch, or with a small one inside; code in one region or in two.
+    fn spread_regions(&mut self, machine: &mut Machine, half: u64, k: u64, (base, inner): (u64, u64)) {
+        for number in [4, 5, 6] {
+            let permission = self.pick(&[3, 3, 3, 3, 3, 3, 3, 3, 1, 2]);
+            let start = if self.once_in(2) { half } else { 0 };
+            let region = Region { base: start + self.below(half), bound: 48 + self.below(half), permission };
+            machine.regions[number - 1] = if self.once_in(12) { self.explicit_region(half as usize) } else { region };
+        }
+        let order = self.shuffled(IMPLICIT_DATA);
+        match self.below(4) {
+            0 => {}
+            1 => {
+                // A quarter each, whichever number it is.
+                for (n, number) in order.into_iter().enumerate() {
+                    let quarter = base + ((n as u64) << (inner - 2));
+                    machine.regions[number - 1] = Region { base: quarter, bound: ALL << (inner - 2), permission: self.pick(&[3, 3, 3, 3, 3, 3, 1, 2]) };
+                }
+            }
+            _ => {
+                // One has the block, a lower or a higher one some bytes of it.
+                let place = base + (self.below(1 << (inner - 4)) << 4);
+                let (small, whole) = (Region { base: place, bound: ALL << 4, permission: self.pick(&[3, 3, 1, 2, 0]) }, machine.regions[1]);
+                IMPLICIT_DATA.iter().for_each(|number| machine.regions[number - 1] = Region::default());
+                (machine.regions[order[0] - 1], machine.regions[order[1] - 1]) = (small, whole);
+            }
+        }
+        let code = |base: u64, k: u64| Region { base, bound: ALL << k, permission: 4 };
+        let pair = match self.below(5) {
+            0 => [code(0, k - 1), code(1 << (k - 1), k - 1)],
+            1 => [code(1 << (k - 1), k - 1), code(0, k)],
+            2 => [Region { permission: 0, ..code(self.below(half / 4) * 4, 2) }, code(0, k)],
+            3 => [Region::default(), code(0, k)],
+            _ => [code(0, k), machine.regions[9]],
+        };
+        (machine.regions[2], machine.regions[9]) = (pair[0], pair[1]);
+    }
+
+    fn shuffled(&mut self, mut numbers: [usize; 4]) -> [usize; 4] {
+        for n in (1..4).rev() {
+            numbers.swap(n, self.below(n as u64 + 1) as usize);
+        }
+        numbers
     }
 
     /// A memory whose code goes in and out of HFI mode, and a machine outside
@@ -574,7 +679,7 @@ impl Supply {
             machine.x[n] = if self.once_in(40) { self.edge() } else { self.below(16) };
             machine.x[n + 3] = self.below(blocks) * 64 + 28;
         }
-        machine.x[27] = 1 + self.below(3);
+        machine.x[27] = 1 + self.below(if self.ten { 10 } else { 3 });
         machine.x[28] = self.below(blocks) * 64 + self.below(4);
         machine.handler = self.below(blocks) * 64;
         machine.mode = self.once_in(5) as u64;
@@ -600,7 +705,7 @@ impl Supply {
         let keep = |has: bool, register: u64| if has { register } else { 0 };
         let (rd, rs1, rs2) = (self.pick(&[0, 5, 6, 7]), self.pick(&[0, 5, 20, 27]), 23 + self.below(3));
         match self.below(4) {
-            0 => Instruction::HLoad { kind: self.pick(&LOAD_TABLE).0, rd, rs1: 0, offset: 0 },
+            0 => Instruction::HLoad { kind: self.pick(&LOAD_TABLE).0, region: self.choice(), rd, rs1: 0, offset: 0 },
             1 => Instruction::Hfi { kind: HfiKind::Exit, rd: 0, rs1: 0, rs2: 0 },
             _ => Instruction::Hfi { kind, rd: keep(has_rd, rd), rs1: keep(has_rs1, rs1), rs2: keep(has_rs2, rs2) },
         }
@@ -707,8 +812,22 @@ impl Supply {
     }
 
     /// Moves each writable region that has code to one side of it, or takes the
-    /// write permission away.
+    /// write permission away. A region that is moved may have hidden another;
+    /// then no data region that has code keeps the permission.
     pub fn part(&mut self, machine: &mut Machine) {
+        self.part_once(machine);
+        if code_is_writable(machine) {
+            let code = executable_intervals(machine);
+            for number in (1..=REGIONS).filter(|number| region_kind(*number) != RegionKind::ImplicitCode) {
+                let own = extent(region_kind(number), &machine.regions[number - 1]);
+                if own.is_some_and(|own| code.iter().any(|other| own.meet(*other).is_some())) {
+                    machine.regions[number - 1].permission &= !(1 << WRITE);
+                }
+            }
+        }
+    }
+
+    fn part_once(&mut self, machine: &mut Machine) {
         let code = executable_intervals(machine);
         let meets = |own: Interval| code.iter().find(|other| own.meet(**other).is_some()).copied();
         for number in 1..=REGIONS {
@@ -726,15 +845,23 @@ impl Supply {
         }
     }
 
-    /// Code being the first `half` bytes: region 1 goes as far above, or is
-    /// parted otherwise.
+    /// Code being the first `half` bytes: explicit regions go as far above, or
+    /// are parted otherwise.
     fn part_above(&mut self, machine: &mut Machine, half: u64) {
-        if machine.regions[0].base < half {
-            machine.regions[0].base += half;
+        for number in EXPLICIT {
+            let region = &mut machine.regions[number - 1];
+            if region.base < half && (number == 1 || region.bound > 0) {
+                region.base += half;
+            }
         }
         if code_is_writable(machine) {
             self.part(machine);
         }
+    }
+
+    /// 0 or the number of a region.
+    fn region_number(&mut self) -> u64 {
+        self.below(if self.ten { 11 } else { 4 })
     }
 
     /// A machine with any numbers in its fields, well formed more often than
@@ -745,8 +872,8 @@ impl Supply {
         machine.mode = self.below(2);
         machine.reason = self.below(3);
         machine.exit_pc = self.edge();
-        machine.selector = self.below(4);
-        machine.fault = Fault { occurred: self.below(2), region: self.below(4), op: self.below(4), address: self.edge() };
+        machine.selector = self.region_number();
+        machine.fault = Fault { occurred: self.below(2), region: self.region_number(), op: self.below(4), address: self.edge() };
         for n in 1..32 {
             machine.x[n] = self.edge();
         }
@@ -856,6 +983,57 @@ impl Supply {
         }
     }
 
+    /// The number of some region of a kind, mostly the first; before Job 7 the only one.
+    fn number_of(&mut self, kind: RegionKind) -> usize {
+        let numbers = numbers_of_kind(kind);
+        if self.ten && self.once_in(2) {
+            self.pick(numbers)
+        } else {
+            numbers[0]
+        }
+    }
+
+    /// Regions 4 to 10: many go by an earlier one of their kind, so that they
+    /// have bytes in common or touch; some are zero.
+    fn later_regions(&mut self, machine: &mut Machine, length: usize) {
+        for number in 4..=REGIONS {
+            let kind = region_kind(number);
+            let earlier: Vec<usize> = numbers_of_kind(kind).iter().copied().filter(|other| *other < number).collect();
+            let model = machine.regions[self.pick(&earlier) - 1];
+            machine.regions[number - 1] = match (self.below(6), kind) {
+                (0, _) => Region::default(),
+                (1 | 2, RegionKind::Explicit) => Region { permission: self.pick(&[3, 1, 2]), ..model },
+                (_, RegionKind::Explicit) => self.explicit_region(length),
+                (1 | 2 | 3, RegionKind::ImplicitData) => Region { permission: self.below(4), ..self.beside(model) },
+                (1 | 2 | 3, RegionKind::ImplicitCode) => Region { permission: self.pick(&[4, 4, 0]), ..self.beside(model) },
+                (_, RegionKind::ImplicitData) => {
+                    let permission = self.pick(&[3, 3, 1, 2, 0]);
+                    self.implicit_region(length, permission)
+                }
+                (_, RegionKind::ImplicitCode) => self.implicit_region(length, 4),
+            };
+        }
+    }
+
+    /// An implicit region with the bytes of another, some of them, more than
+    /// them, or beside it.
+    fn beside(&mut self, other: Region) -> Region {
+        let k = other.bound.trailing_zeros() as u64;
+        if k > 48 {
+            return other;
+        }
+        let size = 1u64 << k;
+        let (base, k) = match self.below(6) {
+            0 => (other.base, k),
+            1 | 2 => (other.base.wrapping_add(self.below(size)), self.below(k + 1)),
+            3 => (other.base, k + 1 + self.below(3)),
+            4 => (other.base.wrapping_add(size), self.below(k + 1)),
+            _ => (other.base.wrapping_sub(1), self.below(k + 1)),
+        };
+        let bound = self.mask(k);
+        Region { base: base & bound, bound, permission: 0 }
+    }
+
     /// Any machine: mostly well formed, mostly in HFI mode.
     pub fn machine(&mut self, length: usize) -> Machine {
         let mut machine = Machine::default();
@@ -864,46 +1042,56 @@ impl Supply {
         machine.regions[1] = self.implicit_region(length, permission);
         let permission = self.pick(&[4, 4, 4, 4, 4, 4, 4, 0]);
         machine.regions[2] = self.implicit_region(length, permission);
+        if self.ten && !self.once_in(4) {
+            self.later_regions(&mut machine, length);
+        }
         machine.mode = if self.once_in(4) { 0 } else { 1 };
         machine.options = self.below(16);
         self.part_if_locked(&mut machine);
         machine.reason = self.below(3);
         machine.exit_pc = self.edge();
         machine.handler = self.edge() & 0x3fff_ffff_ffff_fffc;
-        machine.selector = self.below(4);
+        machine.selector = self.region_number();
         if self.once_in(2) {
             machine.fault =
-                Fault { occurred: self.below(2), region: self.below(4), op: self.below(4), address: self.edge() };
+                Fault { occurred: self.below(2), region: self.region_number(), op: self.below(4), address: self.edge() };
         }
         // Registers: edges, and places about the regions and the memory's end.
         for n in 1..32 {
             machine.x[n] = self.pointer(&machine, length);
         }
-        machine.pc = match self.below(16) {
-            0 => self.edge(),
-            1 => self.edge() & !3,
-            2 => (length as u64).wrapping_sub(self.below(12)),
-            3 => machine.regions[2].base.wrapping_add(self.below(64) * 4),
-            _ => {
-                let inside = if length == 0 { 0 } else { self.below(length as u64) };
-                let region = machine.regions[2];
-                if machine.mode == 1 && region.bound != 0 && region.base < length as u64 {
-                    region.base.wrapping_add(inside & !region.bound) & !3
-                } else {
-                    inside & !3
-                }
-            }
-        };
+        machine.pc = self.place_of_code(&machine, length);
         if self.once_in(16) {
             self.spoil(&mut machine);
         }
         machine
     }
 
+    /// A pc: mostly in a code region, if that is in memory.
+    fn place_of_code(&mut self, machine: &Machine, length: usize) -> u64 {
+        let region = machine.regions[self.number_of(RegionKind::ImplicitCode) - 1];
+        match self.below(16) {
+            0 => self.edge(),
+            1 => self.edge() & !3,
+            2 => (length as u64).wrapping_sub(self.below(12)),
+            3 => region.base.wrapping_add(self.below(64) * 4),
+            _ => {
+                let inside = if length == 0 { 0 } else { self.below(length as u64) };
+                if machine.mode == 1 && region.bound != 0 && region.base < length as u64 {
+                    region.base.wrapping_add(inside & !region.bound) & !3
+                } else {
+                    inside & !3
+                }
+            }
+        }
+    }
+
     pub fn well_formed_machine(&mut self, length: usize) -> Machine {
         loop {
             let machine = self.machine(length);
-            if crate::machine::well_formed(&machine) {
+            // Before Job 7 both went up to 3.
+            let drawn = self.ten || machine.selector.max(machine.fault.region) <= 3;
+            if drawn && crate::machine::well_formed(&machine) {
                 return machine;
             }
         }
@@ -914,18 +1102,18 @@ impl Supply {
         match self.below(8) {
             0 => (length as u64).wrapping_add(near),
             1 | 2 => {
-                let region = machine.regions[1];
+                let region = machine.regions[self.number_of(RegionKind::ImplicitData) - 1];
                 let end = region.base.wrapping_add(region.bound.wrapping_neg());
                 self.pick(&[region.base, end]).wrapping_add(near)
             }
             3 => {
-                let region = machine.regions[1];
+                let region = machine.regions[self.number_of(RegionKind::ImplicitData) - 1];
                 let size = region.bound.wrapping_neg();
                 region.base.wrapping_add(if size == 0 { 0 } else { self.below(size) })
             }
             4 => self.below(length as u64 + 1),
             5 => self.below(20),
-            6 => machine.regions[2].base.wrapping_add(self.below(64) * 4),
+            6 => machine.regions[self.number_of(RegionKind::ImplicitCode) - 1].base.wrapping_add(self.below(64) * 4),
             _ => self.edge(),
         }
     }
@@ -939,12 +1127,16 @@ impl Supply {
             2 => machine.reason = self.below(5),
             3 => machine.options |= self.pick(&[16, 1 << 32, bit]),
             4 => machine.handler |= self.pick(&[1, 2, 4, 1 << 61, 1 << 62, 1 << 63, bit]),
-            5 => machine.selector = self.below(6),
+            5 => machine.selector = self.below(if self.ten { 14 } else { 6 }),
             6 => machine.fault.occurred = self.below(4),
-            7 => machine.fault.region = self.below(6),
+            7 => machine.fault.region = self.below(if self.ten { 14 } else { 6 }),
             8 => machine.fault.op = self.below(6),
-            9 => machine.regions[self.below(3) as usize].permission ^= 1 << self.below(6),
-            _ => machine.regions[self.below(3) as usize].permission |= bit,
+            n => {
+                let flipped = if n == 9 { 1 << self.below(6) } else { 0 };
+                let place = self.below(if self.ten { REGIONS as u64 } else { 3 }) as usize;
+                let permission = &mut machine.regions[place].permission;
+                *permission = if n == 9 { *permission ^ flipped } else { *permission | bit };
+            }
         }
     }
 
@@ -1020,17 +1212,23 @@ impl Supply {
         }
     }
 
-    /// The machine that a valid sheet of up to `span` bytes of words sets up.
-    fn sheet_machine(&mut self, span: usize, steady: bool) -> Machine {
+    /// The machine that a valid sheet of up to `span` bytes of words sets up;
+    /// one that is not wide has zero in regions 4 to 10.
+    fn sheet_machine(&mut self, span: usize, steady: bool, wide: bool) -> Machine {
         let mut machine = self.machine(span);
         machine.mode = 1;
+        if !wide {
+            machine.regions[3..].fill(Region::default());
+        }
         if !self.once_in(16) {
             machine.regions[2] = Region { base: 0, bound: ALL << 12, permission: 4 };
             machine.pc = if steady { 0 } else { self.below(span as u64 / 8) * 4 };
         }
         if steady {
             // Registers start at 0: the first words set the pointers.
-            machine.regions[0] = Region { base: self.below(64) * 8, bound: self.pick(&[2100, 4200, 6000]), permission: 3 };
+            for number in EXPLICIT.into_iter().filter(|number| wide || *number == 1) {
+                machine.regions[number - 1] = Region { base: self.below(64) * 8, bound: self.pick(&[2100, 4200, 6000]), permission: 3 };
+            }
             if !self.once_in(4) {
                 let k = if self.once_in(4) { 3 + self.below(14) } else { 13 };
                 machine.regions[1] = Region { base: 0, bound: ALL << k, permission: self.pick(&[1, 3, 3]) };
@@ -1043,7 +1241,10 @@ impl Supply {
             // Code below 400, ordinary data 400 to 7ff, the explicit region above.
             machine.regions[2] = Region { base: 0, bound: ALL << 10, permission: 4 };
             machine.regions[1] = Region { base: SHEET_DATA, bound: ALL << 10, permission: 3 };
-            machine.regions[0].base += 2 * SHEET_DATA;
+            EXPLICIT.iter().for_each(|number| machine.regions[number - 1].base += 2 * SHEET_DATA);
+            if locked_code_is_writable(&machine) {
+                self.part(&mut machine);
+            }
         } else {
             self.part(&mut machine);
         }
@@ -1054,11 +1255,12 @@ impl Supply {
     pub fn valid_sheet(&mut self) -> Vec<u8> {
         let span = self.pick(&[64usize, 256, 256, 4096]);
         let steady = !self.once_in(4);
-        let mut machine = self.sheet_machine(span, steady);
+        let wide = self.once_in(2);
+        let mut machine = self.sheet_machine(span, steady, wide);
         machine.options &= 0xff;
         let (first, room) = if machine.regions[1].base == SHEET_DATA { (SHEET_DATA + 48, SHEET_DATA - 96) } else { (48, 1900) };
         let mut fields = vec![machine.pc, machine.options, machine.handler];
-        for region in &machine.regions {
+        for region in &machine.regions[..if wide { REGIONS } else { 3 }] {
             fields.extend([region.base, region.bound, region.permission & 0xff]);
         }
         let mut text = String::new();
@@ -1088,10 +1290,13 @@ impl Supply {
                 encode(&Instruction::Upper { kind: UpperKind::Lui, rd: OFFSETS[0], field: 1 }).expect("in range")
             } else if steady && !self.once_in(60) {
                 let mut instruction = self.steady_instruction();
-                if let Instruction::HLoad { rs1, .. } | Instruction::HStore { rs1, .. } = &mut instruction {
+                if let Instruction::HLoad { rs1, region, .. } | Instruction::HStore { rs1, region, .. } = &mut instruction {
                     // An offset that the first words have set, or any.
                     if !self.once_in(12) {
                         *rs1 = self.pick(&[0, 1, 2, 8, OFFSETS[0]]);
+                    }
+                    if !wide && !self.once_in(12) {
+                        *region = 1;
                     }
                 }
                 encode(&instruction).expect("in range")
@@ -1188,13 +1393,14 @@ impl Supply {
     /// more words.
     pub fn long_lines(&mut self, words: usize, widest: u64) -> Vec<Vec<u8>> {
         let runs = widest > 1 || self.once_in(2);
-        let mut setup = [0; 13];
+        // One digit a field leaves room for most words where there are 13.
+        let mut setup = vec![0; if widest > 1 && self.once_in(2) { 34 } else { 13 }];
         if runs {
             setup[1] = self.below(16);
             setup[2] = self.below(0x4000) * 4;
             setup[7..9].copy_from_slice(&[ALL << 16, self.pick(&[1, 3])]);
             setup[10..12].copy_from_slice(&[ALL << 16, 4]);
-            setup[12] = if self.once_in(2) { 100_000 } else { self.below(100_000) };
+            *setup.last_mut().unwrap() = if self.once_in(2) { 100_000 } else { self.below(100_000) };
         }
         let program = if runs { over_memory() } else { Vec::new() };
         let gaps = widest > 1 && self.once_in(2);
@@ -1219,14 +1425,20 @@ impl Supply {
     }
 
     /// A word that neither jumps nor stops where x1, x2 and x8 are those of `lasting_lines`, and writes to none of them.
-    fn harmless(&mut self) -> Instruction {
+    fn harmless(&mut self, wide: bool) -> Instruction {
         loop {
             let rs1 = self.pick(&[0, 1, 2, 8]);
             match self.steady_instruction() {
                 Instruction::Jal { .. } | Instruction::Jalr { .. } | Instruction::Branch { .. } => {}
                 Instruction::System { .. } | Instruction::Hfi { .. } => {}
-                Instruction::HLoad { kind, rd, offset, .. } => return Instruction::HLoad { kind, rd, rs1, offset },
-                Instruction::HStore { kind, rs2, offset, .. } => return Instruction::HStore { kind, rs1, rs2, offset },
+                Instruction::HLoad { kind, region, rd, offset, .. } => {
+                    let region = if wide { region } else { 1 };
+                    return Instruction::HLoad { kind, region, rd, rs1, offset };
+                }
+                Instruction::HStore { kind, region, rs2, offset, .. } => {
+                    let region = if wide { region } else { 1 };
+                    return Instruction::HStore { kind, region, rs1, rs2, offset };
+                }
                 other => return other,
             }
         }
@@ -1234,7 +1446,7 @@ impl Supply {
 
     /// A program that completes so many steps, 20 or more, and then comes to the word after its last: a loop of up to seven
     /// words, then as many words as are left over.
-    fn lasting_program(&mut self, steps: u64) -> Vec<Instruction> {
+    fn lasting_program(&mut self, steps: u64, wide: bool) -> Vec<Instruction> {
         let lui = |rd, field| Instruction::Upper { kind: UpperKind::Lui, rd, field };
         let addi = |rs1, value| Instruction::Immediate { kind: ImmediateKind::Addi, rd: ROUNDS, rs1, value };
         let inside = self.below(6);
@@ -1242,10 +1454,10 @@ impl Supply {
         let upper = (rounds + 0x800) >> 12;
         let lower = rounds as i64 - (upper << 12) as i64;
         let mut program = vec![lui(1, 5), lui(2, 6), lui(8, 7), lui(ROUNDS, upper), addi(ROUNDS, lower)];
-        program.extend((0..inside).map(|_| self.harmless()));
+        program.extend((0..inside).map(|_| self.harmless(wide)));
         program.push(addi(ROUNDS, -1));
         program.push(Instruction::Branch { kind: BranchKind::Bne, rs1: ROUNDS, rs2: 0, offset: -4 * (inside as i64 + 1) });
-        program.extend((0..rest).map(|_| self.harmless()));
+        program.extend((0..rest).map(|_| self.harmless(wide)));
         program
     }
 
@@ -1261,11 +1473,18 @@ impl Supply {
         if last == ECALL {
             options = options & !2 | 2 * leaves as u64;
         }
-        // Code below 1000, ordinary data 4000 to 7fff, the explicit region above.
-        let setup = [0, options, handler, 0x8000, 0x8000, 3, 0x4000, ALL << 14, 3, 0, ALL << 12, 4];
+        // Code below 1000, ordinary data 4000 to 7fff, the explicit region above; or all four of them there, and ordinary
+        // data in regions 7 and 2.
+        let mut setup = vec![0, options, handler, 0x8000, 0x8000, 3, 0x4000, ALL << 14, 3, 0, ALL << 12, 4];
+        let wide = self.once_in(2);
+        if wide {
+            setup[6..8].copy_from_slice(&[0x5000, ALL << 12]);
+            setup.extend([0x8000, 0x8000, 3].repeat(3));
+            setup.extend([0x4000, ALL << 14, 3, 0x4000, ALL << 14, 0, 0, 0, 0, 0, ALL << 12, 0]);
+        }
         let first: Vec<String> = setup.into_iter().map(|value| self.digits(value)).collect();
         let mut lines = vec![(first.join(",") + ",").into_bytes()];
-        let program = self.lasting_program(steps);
+        let program = self.lasting_program(steps, wide);
         let words = program.iter().map(|instruction| encode(instruction).expect("in range") as u64).chain([last]);
         for (n, word) in words.enumerate() {
             lines.push(format!("{},{}", self.digits(4 * n as u64), self.digits(word)).into_bytes());
@@ -1278,7 +1497,8 @@ impl Supply {
     pub fn plant(&mut self, lines: &mut [Vec<u8>], question: u64, k: usize) {
         let room = SHEET_LIMIT - sheet_of(lines).len();
         let mut fields: Vec<Vec<u8>> = lines[k - 1].split(|byte| *byte == b',').map(|field| field.to_vec()).collect();
-        let place = self.below(fields.len().min(12) as u64) as usize; // not the budget
+        let budget = fields.len() - 1;
+        let place = self.below(if k == 1 { budget as u64 } else { 2 }) as usize; // not the budget
         let way = self.below(3);
         match question {
             31 => {
@@ -1293,8 +1513,11 @@ impl Supply {
             32 => drop(fields.remove(place)),
             33 if way == 0 && room >= 17 => fields[place] = vec![b'0'; 17],
             33 => fields[place] = Vec::new(),
-            34 if k == 1 && way == 0 && room >= 9 => fields[12] = b"100000000".to_vec(),
-            34 if k == 1 => fields[self.pick(&[1, 5, 8, 11])] = b"100".to_vec(),
+            34 if k == 1 && way == 0 && room >= 9 => fields[budget] = b"100000000".to_vec(),
+            34 if k == 1 => {
+                let permission = 5 + 3 * self.below((budget as u64 - 3) / 3) as usize;
+                fields[self.pick(&[1, permission, permission, permission])] = b"100".to_vec();
+            }
             34 if way == 0 && room >= 9 => fields[1] = b"100000000".to_vec(),
             34 if way == 1 && room >= 5 => fields[0] = b"10000".to_vec(),
             34 => {
@@ -1329,12 +1552,12 @@ pub fn sheet_of(lines: &[Vec<u8>]) -> Vec<u8> {
     bytes
 }
 
-/// The sheet with c350 written in place of an empty budget: the last of 13 fields of line 1. None if it is not empty or if
-/// there is no room.
+/// The sheet with c350 written in place of an empty budget: the last of 13 or 34 fields of line 1. None if it is not empty
+/// or if there is no room.
 pub fn written_out(sheet: &[u8]) -> Option<Vec<u8>> {
     let end = sheet.iter().position(|byte| *byte == b'\n')?;
     let commas = sheet[..end].iter().filter(|byte| **byte == b',').count();
-    let empty = commas == 12 && sheet[end - 1] == b',';
+    let empty = (commas == 12 || commas == 33) && sheet[end - 1] == b',';
     (empty && sheet.len() + 4 <= SHEET_LIMIT).then(|| [&sheet[..end], b"c350", &sheet[end..]].concat())
 }
 

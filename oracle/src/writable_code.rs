@@ -1,16 +1,20 @@
-//! Regions 1 and 2 aimed at the edges of region 3, put to an engine in each
-//! way that Job 5 asks or does not ask, and the classes of regions that a
-//! comparison has to meet.
+//! Writable regions aimed at the edges of code, put to an engine in each way
+//! that Job 5 asks or does not ask, and the classes of regions that a
+//! comparison has to meet. With Job 7 each explicit region, each region of
+//! ordinary data and each code region takes its turn, and a lower region of the
+//! kind hides all or part of a later one.
 
 use std::collections::BTreeMap;
 
 use crate::calls::{Answer, Call, Request};
 use crate::compare::{Counts, Engine};
 use crate::instruction::{encode, HfiKind, Instruction};
-use crate::machine::{region_kind, Machine, Region, EXECUTE, LARGE, WRITE};
+use crate::machine::{
+    region_kind, with_others_zero, Machine, Region, RegionKind, EXECUTE, EXPLICIT, IMPLICIT_CODE, IMPLICIT_DATA, KINDS, LARGE, REGIONS, WRITE,
+};
 use crate::numbers::{bit, power};
 use crate::overlap::{extent, Interval};
-use crate::region::keeps_rule;
+use crate::region::rule_of_kind;
 use crate::supply::Supply;
 
 const ALL: u64 = u64::MAX;
@@ -49,6 +53,14 @@ pub enum Lack {
     Write,
     CodeRule,
     Execute,
+    /// A lower data region without write has all bytes of the writable one.
+    Hidden,
+    /// A lower code region without execute has all bytes of code.
+    CodeHidden,
+    /// A lower data region without write has half of the bytes: nothing is left out.
+    HalfHidden,
+    /// A lower code region without execute has half of them.
+    HalfCodeHidden,
 }
 
 /// What regions are aimed at: the writable one, its side, where code lies, and
@@ -66,7 +78,7 @@ pub enum Writable {
     Small,
     Large,
     Data,
-    /// Region 1 and region 2.
+    /// An explicit one and one of ordinary data.
     Both,
 }
 
@@ -103,6 +115,21 @@ pub fn aims() -> Vec<Aim> {
         // Within code, or with code's base.
         all.extend([Lack::Rule, Lack::Write].map(|lack| Aim { lack, ..aim(writable, Side::Within, Code::Low) }));
         all.extend([Lack::CodeRule, Lack::Execute].map(|lack| Aim { lack, ..aim(writable, Side::Around, Code::Low) }));
+    }
+    all
+}
+
+/// Those of a round since Job 7.
+pub fn hiding_aims() -> Vec<Aim> {
+    let mut all = Vec::new();
+    for side in [Side::Around, Side::Same] {
+        for lack in [Lack::Hidden, Lack::HalfHidden] {
+            all.extend([Code::Low, Code::Past].map(|code| Aim { writable: Writable::Data, side, code, lack }));
+        }
+        for lack in [Lack::CodeHidden, Lack::HalfCodeHidden] {
+            let all_kinds = [Writable::Small, Writable::Large, Writable::Data];
+            all.extend(all_kinds.map(|writable| Aim { writable, side, code: Code::Low, lack }));
+        }
     }
     all
 }
@@ -172,6 +199,71 @@ impl Supply {
         Region { base: first * unit, bound: (top - first) * unit, permission }
     }
 
+    /// The numbers that take their turn: of an explicit region, of ordinary
+    /// data and of code. One that is hidden has lower ones of its kind.
+    fn aimed_numbers(&mut self, aim: Aim) -> [usize; 3] {
+        if !self.ten() {
+            return [1, 2, 3];
+        }
+        let data = match aim.lack {
+            Lack::Hidden | Lack::HalfHidden => self.pick(&IMPLICIT_DATA[1..]),
+            _ => self.pick(&IMPLICIT_DATA),
+        };
+        let code = match aim.lack {
+            Lack::CodeHidden | Lack::HalfCodeHidden => 10,
+            _ => self.pick(&IMPLICIT_CODE),
+        };
+        [self.pick(&EXPLICIT), data, code]
+    }
+
+    /// All regions: the three of `aimed_regions` in their places, others zero,
+    /// far from code or broken, and those that hide.
+    fn placed_regions(&mut self, aim: Aim, numbers: [usize; 3]) -> [Region; REGIONS] {
+        let three = self.aimed_regions(aim);
+        let mut regions = with_others_zero([Region::default(); 3]);
+        for number in 1..=REGIONS {
+            if self.ten() && self.once_in(2) {
+                regions[number - 1] = self.other_region(number);
+            }
+        }
+        numbers.into_iter().zip(three).for_each(|(number, region)| regions[number - 1] = region);
+        self.hide(aim, numbers, &mut regions);
+        regions
+    }
+
+    /// A region far from code, or one that breaks its rule: 64 bytes from no
+    /// multiple on, or past 2^48; or an explicit one that has code, without
+    /// write. A code region lacks execute.
+    fn other_region(&mut self, number: usize) -> Region {
+        let far = 0x6000_0000_0000 + 0x1000 * number as u64;
+        match region_kind(number) {
+            RegionKind::Explicit if self.once_in(3) => Region { base: 0, bound: 1 << 32, permission: 1 },
+            RegionKind::Explicit => Region { base: self.pick(&[far, TOP]), bound: 0x40, permission: 3 },
+            RegionKind::ImplicitData => Region { base: self.pick(&[far, 0x44]), bound: ALL << 6, permission: 3 },
+            RegionKind::ImplicitCode => Region { base: self.pick(&[far, 0x44]), bound: ALL << 6, permission: 0 },
+        }
+    }
+
+    /// Puts a lower region over all of a later one, or over its first half.
+    fn hide(&mut self, aim: Aim, numbers: [usize; 3], regions: &mut [Region; REGIONS]) {
+        let (number, all) = match aim.lack {
+            Lack::Hidden | Lack::HalfHidden => (numbers[1], &IMPLICIT_DATA[..]),
+            Lack::CodeHidden | Lack::HalfCodeHidden => (numbers[2], &IMPLICIT_CODE[..]),
+            _ => return,
+        };
+        let lower: Vec<usize> = all.iter().copied().filter(|lower| *lower < number).collect();
+        let (own, code) = (regions[number - 1], regions[numbers[2] - 1]);
+        let place = self.pick(&lower) - 1;
+        regions[place] = match aim.lack {
+            Lack::Hidden | Lack::CodeHidden => Region { permission: 0, ..own },
+            // Half of code, which both regions have.
+            _ => Region { base: code.base, bound: ALL << (code.bound.trailing_zeros() - 1), permission: 0 },
+        };
+        if all.len() == 4 && self.once_in(2) {
+            regions[place].permission = 1;
+        }
+    }
+
     /// Regions that are as the aim says; the one that is not aimed at is unset,
     /// far from code, or there without the write permission.
     fn aimed_regions(&mut self, aim: Aim) -> [Region; 3] {
@@ -200,7 +292,7 @@ impl Supply {
         let number = if aim.writable == Writable::Data { 2 } else { 1 };
         let writable = &mut regions[number - 1];
         match aim.lack {
-            Lack::Nothing => {}
+            Lack::Nothing | Lack::Hidden | Lack::HalfHidden | Lack::CodeHidden | Lack::HalfCodeHidden => {}
             Lack::Write => writable.permission &= !(1 << WRITE),
             Lack::Execute => regions[2].permission = 0,
             // a base that is no multiple, or a hole in the mask
@@ -216,12 +308,13 @@ impl Supply {
 
     /// A machine in locked HFI mode with such regions, at a word that does no
     /// harm, or anywhere, and its memory.
-    pub fn aimed_regions_world(&mut self, aim: Aim) -> (Machine, Vec<u8>) {
+    pub fn aimed_regions_world(&mut self, aim: Aim) -> (Machine, Vec<u8>, [usize; 3]) {
         let mut memory = vec![0; LENGTH];
         let mut machine = self.well_formed_machine(LENGTH);
         (machine.mode, machine.options) = (1, self.below(16) | 1);
-        machine.regions = self.aimed_regions(aim);
-        let code = machine.regions[2].base;
+        let numbers = self.aimed_numbers(aim);
+        machine.regions = self.placed_regions(aim, numbers);
+        let code = machine.regions[numbers[2] - 1].base;
         machine.pc = if code < LENGTH as u64 { code & !3 } else { self.below(LENGTH as u64 / 4) * 4 };
         for at in (0..LENGTH).step_by(4) {
             memory[at] = 0x13; // NOP
@@ -229,7 +322,7 @@ impl Supply {
         if self.once_in(4) {
             machine.pc = self.edge();
         }
-        (machine, memory)
+        (machine, memory, numbers)
     }
 }
 
@@ -299,26 +392,28 @@ fn put(supply: &mut Supply, way: usize, locked: &Machine, memory: &[u8]) -> Call
 
 /// Regions of an aim, put in a way.
 pub fn aimed_call(supply: &mut Supply, aim: Aim, way: usize) -> Call {
-    let (machine, memory) = supply.aimed_regions_world(aim);
+    let (machine, memory, _) = supply.aimed_regions_world(aim);
     put(supply, way, &machine, &memory)
 }
 
-/// The regions of a machine, with all bytes of those that keep their rule.
+/// The regions of a machine that are aimed, with all bytes of those that keep
+/// their rule: an explicit one (1 below), one of ordinary data (2), code (3).
 pub struct Seen {
     regions: [Region; 3],
-    /// Region 1 and region 2 with write permission, region 3 with execute.
+    /// Regions 1 and 2 with write permission, 3 with execute.
     own: [Option<Interval>; 3],
     length: u128,
 }
 
 impl Seen {
-    pub fn of(machine: &Machine, length: usize) -> Seen {
+    pub fn of(machine: &Machine, numbers: [usize; 3], length: usize) -> Seen {
+        let regions = numbers.map(|number| machine.regions[number - 1]);
         let own = std::array::from_fn(|n| {
             let wanted = if n == 2 { EXECUTE } else { WRITE };
-            let granted = bit(machine.regions[n].permission, wanted);
-            extent(region_kind(n + 1), &machine.regions[n]).filter(|_| granted)
+            let granted = bit(regions[n].permission, wanted);
+            extent(KINDS[n], &regions[n]).filter(|_| granted)
         });
-        Seen { regions: machine.regions, own, length: length as u128 }
+        Seen { regions, own, length: length as u128 }
     }
 
     /// What region n shares with code.
@@ -348,7 +443,7 @@ impl Seen {
     fn spared(&self, n: usize, broken: bool) -> bool {
         let region = &self.regions[n - 1];
         let place = region.base as u128;
-        let good = keeps_rule(n, region);
+        let good = rule_of_kind(KINDS[n - 1], region);
         let granted = bit(region.permission, if n == 3 { EXECUTE } else { WRITE });
         let others = if n == 3 { &self.own[..2] } else { &self.own[2..] };
         let inside = others.iter().flatten().any(|own| own.start <= place && place < own.end);
@@ -448,8 +543,20 @@ pub const CLASSES: [Class; 41] = [
     ("region 3 lacks execute, a writable one has its base", false, |s| s.spared(3, false)),
 ];
 
+/// What regions are hidden: the name, whether a byte is writable and executable
+/// then, and what the aim leaves out.
+const HIDES: [(&str, bool, Lack); 4] = [
+    ("a lower region hides all of region 2", false, Lack::Hidden),
+    ("a lower region ends inside region 2", true, Lack::HalfHidden),
+    ("a lower region hides all of code", false, Lack::CodeHidden),
+    ("a lower region ends inside code", true, Lack::HalfCodeHidden),
+];
+
 /// Machines by class, each put in every way.
 pub type Met = BTreeMap<&'static str, u64>;
+
+/// Machines by the writable region and code: refused, not refused.
+pub type Numbers = BTreeMap<(usize, usize), [u64; 2]>;
 
 /// Is the answer as it has to be, by whether a byte is writable and executable?
 fn as_told(way: usize, refused: bool, answer: &Answer, before: &Machine) -> bool {
@@ -462,18 +569,34 @@ fn as_told(way: usize, refused: bool, answer: &Answer, before: &Machine) -> bool
     }
 }
 
+/// Every class, and whether it is refused.
+pub fn class_names() -> Vec<(&'static str, bool)> {
+    CLASSES.iter().map(|row| (row.0, row.1)).chain(HIDES.iter().map(|row| (row.0, row.1))).collect()
+}
+
+/// The classes of an aim's regions, and whether they are refused.
+pub fn classes(aim: Aim, seen: &Seen) -> Vec<(&'static str, bool)> {
+    if let Some((class, refused, _)) = HIDES.into_iter().find(|row| row.2 == aim.lack) {
+        return vec![(class, refused)];
+    }
+    CLASSES.into_iter().filter(|(_, _, test)| test(seen)).map(|(class, refused, _)| (class, refused)).collect()
+}
+
 /// Regions of each aim in each way, both engines.
 pub fn compare(left: &dyn Engine, right: &dyn Engine, supply: &mut Supply, counts: &mut Counts) {
-    for aim in aims() {
-        let (machine, memory) = supply.aimed_regions_world(aim);
-        let seen = Seen::of(&machine, memory.len());
-        let classes: Vec<Class> = CLASSES.into_iter().filter(|(_, _, test)| test(&seen)).collect();
-        classes.iter().for_each(|(class, _, _)| *counts.code_classes.entry(class).or_default() += 1);
+    for aim in aims().into_iter().chain(hiding_aims()) {
+        let (machine, memory, numbers) = supply.aimed_regions_world(aim);
+        let classes = classes(aim, &Seen::of(&machine, numbers, memory.len()));
+        classes.iter().for_each(|(class, _)| *counts.code_classes.entry(class).or_default() += 1);
+        if let Some((_, refused)) = classes.first() {
+            let writable = if aim.writable == Writable::Data { numbers[1] } else { numbers[0] };
+            counts.code_numbers.entry((writable, numbers[2])).or_default()[!*refused as usize] += 1;
+        }
         for way in 0..WAYS.len() {
             let call = put(supply, way, &machine, &memory);
             let answer = call.answer(left).expect("the measure answers");
             *counts.code_stops.entry(answer.stop).or_default() += 1;
-            for (class, _, _) in classes.iter().filter(|class| !as_told(way, class.1, &answer, &call.machine)) {
+            for (class, _) in classes.iter().filter(|class| !as_told(way, class.1, &answer, &call.machine)) {
                 counts.difference(format!("{class}: {} is answered by {}", call.written(), answer.written("")));
             }
             let Some(other) = call.answer(right) else { continue };
@@ -486,8 +609,17 @@ pub fn compare(left: &dyn Engine, right: &dyn Engine, supply: &mut Supply, count
     }
 }
 
-/// The classes of which there was no machine.
-pub fn unmet(met: &Met) -> Vec<String> {
-    let lacking = CLASSES.iter().filter(|(class, _, _)| !met.contains_key(class));
-    lacking.map(|(class, _, _)| format!("no regions of the class: {class}")).collect()
+/// The classes and the regions of which there was no machine.
+pub fn unmet(met: &Met, numbers: &Numbers) -> Vec<String> {
+    let names = CLASSES.iter().map(|row| row.0).chain(HIDES.iter().map(|row| row.0));
+    let mut lacking: Vec<String> =
+        names.filter(|class| !met.contains_key(class)).map(|class| format!("no regions of the class: {class}")).collect();
+    for data in EXPLICIT.into_iter().chain(IMPLICIT_DATA) {
+        for code in IMPLICIT_CODE {
+            if numbers.get(&(data, code)).map_or(true, |met| met.contains(&0)) {
+                lacking.push(format!("regions {data} and {code} were not refused, or not otherwise"));
+            }
+        }
+    }
+    lacking
 }

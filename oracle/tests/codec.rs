@@ -46,9 +46,9 @@ fn ranges() {
         check(Instruction::Immediate { kind: ImmediateKind::Addi, rd: 1, rs1: 2, value });
         check(Instruction::Immediate { kind: ImmediateKind::Addiw, rd: 1, rs1: 2, value });
         check(Instruction::Load { kind: LoadKind::Double, rd: 1, rs1: 2, offset: value });
-        check(Instruction::HLoad { kind: LoadKind::Half, rd: 1, rs1: 2, offset: value });
+        check(Instruction::HLoad { kind: LoadKind::Half, region: 1, rd: 1, rs1: 2, offset: value });
         check(Instruction::Store { kind: StoreKind::Word, rs1: 1, rs2: 2, offset: value });
-        check(Instruction::HStore { kind: StoreKind::Byte, rs1: 1, rs2: 2, offset: value });
+        check(Instruction::HStore { kind: StoreKind::Byte, region: 6, rs1: 1, rs2: 2, offset: value });
         check(Instruction::Jalr { rd: 1, rs1: 2, offset: value });
     }
     for (offset, fits) in [(-4098, false), (-4097, false), (-4096, true), (-2, true), (-1, false), (0, true), (1, false), (4094, true), (4095, false), (4096, false)]
@@ -79,6 +79,19 @@ fn ranges() {
         check(Instruction::Hfi { kind: HfiKind::EnterJump, rd: 0, rs1: 0, rs2: number });
         check(Instruction::Hfi { kind: HfiKind::GetBase, rd: number, rs1: 0, rs2: 0 });
     }
+    // Of an h-word: x0 to x15, and the regions 1, 4, 5, 6.
+    for (number, fits) in [(0, true), (15, true), (16, false), (31, false), (32, false), (u64::MAX, false)] {
+        let check = if fits { good } else { bad };
+        check(Instruction::HLoad { kind: LoadKind::Word, region: 4, rd: number, rs1: 2, offset: 0 });
+        check(Instruction::HLoad { kind: LoadKind::Word, region: 5, rd: 1, rs1: number, offset: 0 });
+        check(Instruction::HStore { kind: StoreKind::Word, region: 6, rs1: number, rs2: 2, offset: 0 });
+        check(Instruction::HStore { kind: StoreKind::Word, region: 1, rs1: 1, rs2: number, offset: 0 });
+    }
+    for region in (0..=12).chain([1 << 32, (1 << 32) + 1, u64::MAX]) {
+        let check = if [1, 4, 5, 6].contains(&region) { good } else { bad };
+        check(Instruction::HLoad { kind: LoadKind::Byte, region, rd: 1, rs1: 2, offset: 0 });
+        check(Instruction::HStore { kind: StoreKind::Double, region, rs1: 1, rs2: 2, offset: 0 });
+    }
     for (field, fits) in [(0, true), (0xfffff, true), (0x100000, false), (u64::MAX, false)] {
         let check = if fits { good } else { bad };
         check(Instruction::Upper { kind: UpperKind::Lui, rd: 1, field });
@@ -93,6 +106,37 @@ fn ranges() {
         (if rd { good } else { bad })(Instruction::Hfi { kind, rd: 31, rs1: 0, rs2: 0 });
         (if rs1 { good } else { bad })(Instruction::Hfi { kind, rd: 0, rs1: 31, rs2: 0 });
         (if rs2 { good } else { bad })(Instruction::Hfi { kind, rd: 0, rs1: 0, rs2: 31 });
+    }
+}
+
+/// All 2^10 registers of each h-word: "the top bits of two register fields choose the explicit region: rs1's counts 2,
+/// that of rd or rs2 counts 1, and 0 to 3 mean 1, 4, 5, 6 ... The remaining four bits name x0 to x15".
+#[test]
+fn h_word_fields() {
+    for rs1 in 0..32u32 {
+        for other in 0..32u32 {
+            let region = match (rs1 >= 16, other >= 16) {
+                (false, false) => 1,
+                (false, true) => 4,
+                (true, false) => 5,
+                (true, true) => 6,
+            };
+            let (low1, low) = (rs1 as u64 & 15, other as u64 & 15);
+            for (kind, funct3) in LOAD_TABLE {
+                let code = 0xfff << 20 | rs1 << 15 | (funct3 as u32) << 12 | other << 7 | 0x0b;
+                assert_eq!(decode(code), Some(Instruction::HLoad { kind, region, rd: low, rs1: low1, offset: -1 }));
+                assert_eq!(decode(code).and_then(|i| encode(&i)), Some(code));
+            }
+            for (kind, funct3) in STORE_TABLE {
+                let code = 0x3f << 25 | other << 20 | rs1 << 15 | (funct3 as u32) << 12 | 31 << 7 | 0x2b;
+                assert_eq!(decode(code), Some(Instruction::HStore { kind, region, rs1: low1, rs2: low, offset: 2047 }));
+                assert_eq!(decode(code).and_then(|i| encode(&i)), Some(code));
+            }
+            // Ordinary words keep five bits.
+            let code = rs1 << 15 | other << 7 | 0x03;
+            let (rd, rs1) = (other as u64, rs1 as u64);
+            assert_eq!(decode(code), Some(Instruction::Load { kind: LoadKind::Byte, rd, rs1, offset: 0 }));
+        }
     }
 }
 

@@ -15,7 +15,7 @@ fn a_addi() {
 
 #[test]
 fn b_hsb() {
-    let expected = Instruction::HStore { kind: StoreKind::Byte, rs1: 0, rs2: 10, offset: 3 };
+    let expected = Instruction::HStore { kind: StoreKind::Byte, region: 1, rs1: 0, rs2: 10, offset: 3 };
     assert_eq!(decode(0x00a001ab), Some(expected));
     assert_eq!(encode(&expected), Some(0x00a001ab));
 }

@@ -25,10 +25,11 @@ fn number(machine: &Machine, funct7: u32, operand: u64, target: u64) -> u64 {
     if inside && (funct7 == 10 || funct7 >= 3 && locked) {
         return 25;
     }
-    let own = [0, 0b1011, 0b0011, 0b0100][machine.selector as usize];
+    let (explicit, data, code) = (0b1011, 0b0011, 0b0100);
+    let own = [0, explicit, data, code, explicit, explicit, explicit, data, data, data, code][machine.selector as usize];
     let bad = match funct7 {
         0 | 1 => operand > 15,
-        3 => !(1..=3).contains(&operand),
+        3 => !(1..=10).contains(&operand),
         8 => machine.selector == 0 || operand & !own != 0,
         4..=9 => machine.selector == 0,
         _ => false,
@@ -51,7 +52,7 @@ fn every_row_everywhere() {
         let code = hfi(kind, keep(has_rd, 7), keep(has_rs1, 5), keep(has_rs2, 6));
         let bytes = memory(64, 0, &[code]);
         for (mode, options, selector) in (0..128).map(|n| (n % 2, n / 2 % 16, n / 32)) {
-            for operand in [0, 1, 2, 3, 4, 5, 8, 11, 15, 16, 17, 1 << 32, (1 << 32) + 1, 1 << 63, ALL] {
+            for operand in [0, 1, 2, 3, 4, 5, 8, 10, 11, 15, 16, 17, 1 << 32, (1 << 32) + 1, 1 << 63, ALL] {
                 for target in [8, 9, 10, 11] {
                     let mut machine = Machine { mode, options, selector, ..inside() };
                     (machine.x[5], machine.x[6]) = (operand, target);

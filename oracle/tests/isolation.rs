@@ -3,6 +3,7 @@
 
 use oracle::compare::{h_words_unmet, isolation, rounds, Counts, Engine, Oracle, H_ROUNDS};
 use oracle::instruction::{Instruction, LOAD_TABLE, STORE_TABLE};
+use oracle::machine::EXPLICIT;
 use oracle::reach::{executable, readable, writable};
 use oracle::region::{address, refusal, Access, Op, Place};
 use oracle::step::data_access;
@@ -10,18 +11,23 @@ use oracle::supply::Supply;
 use oracle::Machine;
 
 /// Is the byte one of the bytes of some h-prefixed access, and does that byte
-/// pass? Tried for every immediate, width and byte number; of the values of rs1
-/// exactly one puts that byte there.
+/// pass? Tried for every region, immediate, width and byte number; of the values
+/// of rs1 exactly one puts that byte there.
 fn h_reach(machine: &Machine, op: Op, byte: u64) -> bool {
+    EXPLICIT.iter().any(|region| h_reach_through(*region as u64, machine, op, byte))
+}
+
+fn h_reach_through(region: u64, machine: &Machine, op: Op, byte: u64) -> bool {
     let mut machine = *machine;
+    let base = machine.regions[region as usize - 1].base;
     for offset in -2048..2048 {
         let words: Vec<Instruction> = match op {
-            Op::Load => LOAD_TABLE.iter().map(|row| Instruction::HLoad { kind: row.0, rd: 1, rs1: 5, offset }).collect(),
-            _ => STORE_TABLE.iter().map(|row| Instruction::HStore { kind: row.0, rs1: 5, rs2: 6, offset }).collect(),
+            Op::Load => LOAD_TABLE.iter().map(|row| Instruction::HLoad { kind: row.0, region, rd: 1, rs1: 5, offset }).collect(),
+            _ => STORE_TABLE.iter().map(|row| Instruction::HStore { kind: row.0, region, rs1: 5, rs2: 6, offset }).collect(),
         };
         for word in words {
             for i in 0..data_access(&machine, &word).unwrap().size {
-                machine.x[5] = byte.wrapping_sub(machine.regions[0].base).wrapping_add_signed(-offset).wrapping_sub(i);
+                machine.x[5] = byte.wrapping_sub(base).wrapping_add_signed(-offset).wrapping_sub(i);
                 let access = data_access(&machine, &word).unwrap();
                 assert_eq!(address(&machine, &access, i), byte);
                 if refusal(&machine, &access, i).is_none() {
@@ -63,7 +69,7 @@ fn reach_is_as_defined() {
         if round % 3 == 0 {
             machine.regions[0] = oracle::Region { base: supply.below(4096), bound: 2040 + supply.below(30), permission: 3 };
         }
-        let region = machine.regions[0];
+        let region = machine.regions[supply.below(10) as usize];
         for _ in 0..6 {
             let near = supply.below(9).wrapping_sub(4);
             let start = [0, 4096, region.base, region.base.wrapping_add(region.bound), region.base.wrapping_add(2054), supply.below(5000)];
@@ -139,7 +145,7 @@ fn every_class_of_h_words_is_met() {
 fn worlds_reach_far() {
     let mut supply = Supply::new(12);
     let (mut loads, mut stores) = (0, 0);
-    for _ in 0..200 {
+    for _ in 0..600 {
         let (mut machine, mut memory) = supply.steady_world();
         for _ in 0..100 {
             let before = machine;

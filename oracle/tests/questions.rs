@@ -64,21 +64,27 @@ fn three_well_formed() {
     change(false, &|m| m.options = 1 << 32);
     for place in 0..64 {
         change(![0, 1, 62, 63].contains(&place), &|m| m.handler = 1 << place);
-        change(place <= 1, &|m| m.selector = 1 << place);
-        change([0, 1, 3].contains(&place), &|m| m.regions[0].permission = 1 << place);
-        change([0, 1].contains(&place), &|m| m.regions[1].permission = 1 << place);
-        change(place == 2, &|m| m.regions[2].permission = 1 << place);
+        change(place <= 3, &|m| m.selector = 1 << place);
+        for number in [1, 4, 5, 6] {
+            change([0, 1, 3].contains(&place), &|m| m.regions[number - 1].permission = 1 << place);
+        }
+        for number in [2, 7, 8, 9] {
+            change([0, 1].contains(&place), &|m| m.regions[number - 1].permission = 1 << place);
+        }
+        for number in [3, 10] {
+            change(place == 2, &|m| m.regions[number - 1].permission = 1 << place);
+        }
         change(true, &|m| m.exit_pc = 1 << place);
         change(true, &|m| m.fault.address = 1 << place);
         change(true, &|m| m.regions[1].base = 1 << place);
         change(true, &|m| m.regions[2].bound = 1 << place);
     }
-    change(true, &|m| m.selector = 3);
-    change(false, &|m| m.selector = 4);
+    change(true, &|m| m.selector = 10);
+    change(false, &|m| m.selector = 11);
     change(true, &|m| m.fault.occurred = 1);
     change(false, &|m| m.fault.occurred = 2);
-    change(true, &|m| m.fault.region = 3);
-    change(false, &|m| m.fault.region = 4);
+    change(true, &|m| m.fault.region = 10);
+    change(false, &|m| m.fault.region = 11);
     change(true, &|m| m.fault.op = 3);
     change(false, &|m| m.fault.op = 4);
     change(true, &|m| m.pc = ALL);
@@ -291,7 +297,7 @@ fn eight_locked_and_unlocked() {
 #[test]
 fn eight_selection() {
     let select = memory(64, 0, &[hfi(HfiKind::Select, 0, 5, 0)]);
-    for operand in [0, 4, 5, 0x1_0000_0001, ALL] {
+    for operand in [0, 11, 12, 16, 0x1_0000_0001, ALL] {
         let mut machine = outside();
         machine.x[5] = operand;
         stops(machine, &select, 14, 0);
@@ -300,7 +306,7 @@ fn eight_selection() {
         stops(machine, &select, 25, 0);
         stops(Machine { options: 14, ..machine }, &select, 14, 0);
     }
-    for operand in 1..=3 {
+    for operand in 1..=10 {
         let mut machine = outside();
         machine.x[5] = operand;
         assert_eq!(completes(machine, &select).0.selector, operand);
@@ -332,14 +338,14 @@ fn eight_selection() {
 #[test]
 fn eight_permission_bits() {
     let bytes = memory(64, 0, &[hfi(HfiKind::SetPermission, 0, 5, 0)]);
-    for selector in 1..=3u64 {
+    for selector in 1..=10u64 {
         for place in 0..64 {
             let mut machine = outside();
             machine.selector = selector;
             machine.x[5] = 1 << place;
             let has = match selector {
-                1 => [0, 1, 3].contains(&place),
-                2 => [0, 1].contains(&place),
+                1 | 4 | 5 | 6 => [0, 1, 3].contains(&place),
+                2 | 7 | 8 | 9 => [0, 1].contains(&place),
                 _ => place == 2,
             };
             if has {
@@ -620,11 +626,11 @@ fn faults_stay_until_entered() {
 
 #[test]
 fn setting_and_getting() {
-    for selector in 1..=3usize {
+    for selector in 1..=10usize {
         for (set, get, value) in [
             (HfiKind::SetBase, HfiKind::GetBase, ALL),
             (HfiKind::SetBound, HfiKind::GetBound, 0x8000_0000_0000_0001),
-            (HfiKind::SetPermission, HfiKind::GetPermission, if selector == 3 { 4 } else { 3 }),
+            (HfiKind::SetPermission, HfiKind::GetPermission, if selector == 3 || selector == 10 { 4 } else { 3 }),
         ] {
             let mut machine = outside();
             machine.selector = selector as u64;
@@ -645,9 +651,12 @@ fn setting_and_getting() {
     }
     // reset zeroes regions and selector only
     let mut machine = Machine { mode: 0, selector: 2, options: 7, handler: 0x100, ..inside() };
-    machine.fault = Fault { occurred: 1, region: 1, op: 2, address: 9 };
+    machine.fault = Fault { occurred: 1, region: 10, op: 2, address: 9 };
+    for n in 3..10u64 {
+        machine.regions[n as usize] = Region { base: n, bound: n, permission: 0 };
+    }
     let (after, _) = completes(machine, &memory(64, 0, &[hfi(HfiKind::Reset, 0, 0, 0)]));
-    assert_eq!(after, Machine { pc: 4, selector: 0, regions: [Region::default(); 3], ..machine });
+    assert_eq!(after, Machine { pc: 4, selector: 0, regions: [Region::default(); 10], ..machine });
 }
 
 #[test]

@@ -382,7 +382,8 @@ fn lasting_programs_last() {
     for steps in (20..60).chain([998, 1_000, 4_096, 49_999, 50_000, 50_001, 50_010, 500_000, 999_998]) {
         for leaves in [false, true] {
             let (lines, stop) = supply.lasting_lines(steps, leaves);
-            let written = filled(&sheet_of(&lines), 0, 12, "f4240");
+            let budget = lines[0].iter().filter(|byte| **byte == b',').count();
+            let written = filled(&sheet_of(&lines), 0, budget, "f4240");
             let printed = String::from_utf8(respond(&written)).unwrap();
             assert!(printed.starts_with(&format!("{stop},{:x},", steps + leaves as u64)), "{steps} {stop} {printed}");
         }

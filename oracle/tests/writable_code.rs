@@ -5,7 +5,7 @@ mod common;
 use common::*;
 use oracle::compare::{rounds, Counts, Engine, Oracle, H_ROUNDS};
 use oracle::instruction::*;
-use oracle::machine::{region_kind, RegionKind, EXECUTE, WRITE};
+use oracle::machine::{region_kind, with_others_zero, RegionKind, EXECUTE, WRITE};
 use oracle::numbers::bit;
 use oracle::overlap::{
     code_is_writable, executable_intervals, extent, granted_explicit, granted_implicit, shared, writable_explicit, writable_implicit,
@@ -14,7 +14,7 @@ use oracle::overlap::{
 use oracle::reach::{executable, writable};
 use oracle::region::{matches, rule_of_kind};
 use oracle::supply::Supply;
-use oracle::writable_code::{aims, compare, unmet, Seen, CLASSES};
+use oracle::writable_code::{aims, class_names, classes, compare, hiding_aims, unmet, Seen};
 use oracle::*;
 
 const TOP: u64 = 1 << 48;
@@ -29,11 +29,11 @@ fn mask(k: u32) -> u64 {
 
 /// `locked` with these regions, code being 1000 to 1fff. The one not named is unset.
 fn of_one(one: Region) -> Machine {
-    Machine { pc: 0x1000, regions: [one, Region::default(), region(0x1000, mask(12), 4)], ..locked() }
+    Machine { pc: 0x1000, regions: with_others_zero([one, Region::default(), region(0x1000, mask(12), 4)]), ..locked() }
 }
 
 fn of_two(two: Region) -> Machine {
-    Machine { regions: [Region::default(), two, region(0x1000, mask(12), 4)], ..of_one(two) }
+    Machine { regions: with_others_zero([Region::default(), two, region(0x1000, mask(12), 4)]), ..of_one(two) }
 }
 
 /// Words that do nothing, 4,096 bytes from 1000 on.
@@ -101,7 +101,7 @@ fn four_by_region_one() {
     refused(of_one(region(0, 0x10000, 11)));
     refused(of_one(region(0, TOP, 10)));
     passes(of_one(region(0x10000, TOP - 0x10000, 11)));
-    let far = |one: Region| Machine { regions: [one, Region::default(), region(0x20000, mask(16), 4)], ..of_one(one) };
+    let far = |one: Region| Machine { regions: with_others_zero([one, Region::default(), region(0x20000, mask(16), 4)]), ..of_one(one) };
     passes(far(region(0x10000, 0x10000, 11)));
     refused(far(region(0x10000, 0x20000, 11)));
     refused(far(region(0x20000, 0x10000, 11)));
@@ -121,7 +121,7 @@ fn four_by_region_two() {
     passes(of_two(region(0, mask(12), 3)));
     passes(of_two(region(0x2000, mask(13), 3)));
     // both, and one of them beside code
-    let both = |one: Region, two: Region| Machine { regions: [one, two, region(0x1000, mask(12), 4)], ..of_one(one) };
+    let both = |one: Region, two: Region| Machine { regions: with_others_zero([one, two, region(0x1000, mask(12), 4)]), ..of_one(one) };
     refused(both(region(0x1000, 8, 3), region(0x1000, mask(3), 3)));
     refused(both(region(0x2000, 8, 3), region(0x1000, mask(3), 3)));
     refused(both(region(0x1000, 8, 3), region(0x2000, mask(3), 3)));
@@ -165,7 +165,7 @@ fn four_leaves_broken_regions_out() {
         passes(machine);
     }
     // past 2^48
-    let top = |one: Region| Machine { regions: [one, Region::default(), region(0, mask(48), 4)], ..of_one(one) };
+    let top = |one: Region| Machine { regions: with_others_zero([one, Region::default(), region(0, mask(48), 4)]), ..of_one(one) };
     refused(top(region(TOP - 1, 1, 2)));
     passes(top(region(TOP - 1, 2, 2)));
     passes(top(region(TOP, 1, 2)));
@@ -175,15 +175,15 @@ fn four_leaves_broken_regions_out() {
 #[test]
 fn four_past_memory_and_of_a_tiny_code_region() {
     let mut machine = locked();
-    machine.regions = [Region::default(), region(0x10000, mask(16), 3), region(0, mask(17), 4)];
+    machine.regions = with_others_zero([Region::default(), region(0x10000, mask(16), 3), region(0, mask(17), 4)]);
     stops(machine, &memory(64, 0, &[ECALL]), 4, 0);
     stops(machine, &[], 4, 0);
-    machine.regions = [region(TOP - 1, 1, 3), Region::default(), region(TOP - 0x1000, mask(12), 4)];
+    machine.regions = with_others_zero([region(TOP - 1, 1, 3), Region::default(), region(TOP - 0x1000, mask(12), 4)]);
     stops(machine, &[], 4, 0);
     for (base, k) in [(0, 0), (4, 1), (7, 0)] {
-        machine.regions = [region(base, 1, 2), Region::default(), region(base, mask(k), 4)];
+        machine.regions = with_others_zero([region(base, 1, 2), Region::default(), region(base, mask(k), 4)]);
         stops(machine, &memory(64, 0, &[ECALL]), 4, 0);
-        machine.regions = [Region::default(), region(base, mask(0), 2), region(base, mask(k), 4)];
+        machine.regions = with_others_zero([Region::default(), region(base, mask(0), 2), region(base, mask(k), 4)]);
         stops(machine, &memory(64, 0, &[ECALL]), 4, 0);
         machine.regions[1].base = base + (1 << k);
         passes(machine);
@@ -198,7 +198,7 @@ fn four_in_its_order() {
     assert_eq!(step(&mut machine.clone(), &mut long), (1, 0));
     assert_eq!(run(&mut machine.clone(), &mut long, 5), (1, 0, 0));
     assert_eq!(run(&mut machine.clone(), &mut code(), 1_000_001), (2, 0, 0));
-    for ill in [Machine { options: 17, ..machine }, Machine { handler: 1, ..machine }, Machine { selector: 4, ..machine }] {
+    for ill in [Machine { options: 17, ..machine }, Machine { handler: 1, ..machine }, Machine { selector: 11, ..machine }] {
         stops(ill, &code(), 3, 0);
     }
     for budget in [0, 1, 1_000_000] {
@@ -380,8 +380,10 @@ fn intervals_and_reach() {
     let mut seen = [0; 2];
     for _ in 0..4_000 {
         let mut machine = locked();
-        for n in 1..=3 {
-            machine.regions[n - 1] = small_region(&mut supply, region_kind(n));
+        let least = supply.below(10);
+        for n in 1..=10 {
+            let zero = supply.below(10) < least;
+            machine.regions[n - 1] = if zero { Region::default() } else { small_region(&mut supply, region_kind(n)) };
         }
         for byte in (0..128).chain([ALL, TOP, TOP - 1]) {
             let written = holds(&writable_explicit(&machine), byte) || holds(&writable_implicit(&machine), byte);
@@ -411,33 +413,34 @@ fn every_class_of_regions_is_met() {
         let mut counts = Counts::default();
         rounds(&Oracle, &Oracle, 100 + seed, H_ROUNDS, &mut counts);
         assert!(counts.differences.is_empty(), "{:?}", counts.differences);
-        assert_eq!(unmet(&counts.code_classes), Vec::<String>::new());
+        assert_eq!(unmet(&counts.code_classes, &counts.code_numbers), Vec::<String>::new());
         all.add(counts);
     }
     // most locked machines are not refused
     let stops = |stop: u64| all.isolation_stops.get(&stop).copied().unwrap_or_default();
     assert!(stops(4) > 0 && stops(4) * 5 < all.isolation_stops.values().sum(), "{:?}", all.isolation_stops);
-    assert_eq!(unmet(&Counts::default().code_classes).len(), CLASSES.len());
+    let nothing = Counts::default();
+    assert_eq!(unmet(&nothing.code_classes, &nothing.code_numbers).len(), class_names().len() + 8 * 2);
 }
 
 /// Classes that say so have a byte that is writable and executable, and the others have none: sought byte by byte.
 #[test]
 fn classes_by_bytes() {
     let mut supply = Supply::new(53);
-    for aim in (0..20).flat_map(|_| aims()) {
-        let (machine, memory) = supply.aimed_regions_world(aim);
+    for aim in (0..20).flat_map(|_| [aims(), hiding_aims()].concat()) {
+        let (machine, memory, numbers) = supply.aimed_regions_world(aim);
         let ends = machine.regions.iter().flat_map(|r| [r.base, r.base.wrapping_add(r.bound), r.base.wrapping_sub(r.bound)]);
         let both = ends.flat_map(|end| (0..3).map(move |n| end.wrapping_add(n).wrapping_sub(1)))
             .any(|byte| writable(&machine, byte) && executable(&machine, byte));
-        let seen = Seen::of(&machine, memory.len());
-        for (class, refused, _) in CLASSES.into_iter().filter(|(_, _, test)| test(&seen)) {
+        let seen = Seen::of(&machine, numbers, memory.len());
+        for (class, refused) in classes(aim, &seen) {
             assert_eq!(refused, both, "{class}: {aim:?}");
         }
     }
 }
 
 /// The oracle, where 4 and 22 go by another test.
-struct Asking(fn(&Machine) -> bool);
+struct Asking(Box<dyn Fn(&Machine) -> bool>);
 
 impl Engine for Asking {
     fn title(&self) -> String {
@@ -452,7 +455,7 @@ impl Engine for Asking {
     fn run(&self, machine: &mut Machine, memory: &mut [u8], budget: u64) -> Option<(u64, u64, u64)> {
         // Is it asked at all? Then regions that share all bytes are refused.
         let mut posed = *machine;
-        posed.regions = [Region::default(), region(0, mask(48), 3), region(0, mask(48), 4)];
+        posed.regions = with_others_zero([Region::default(), region(0, mask(48), 3), region(0, mask(48), 4)]);
         let refusal = run(&mut posed, &mut memory.to_vec(), budget);
         if ![4, 22].contains(&refusal.0) || refusal.1 > 0 {
             return Some(run(machine, memory, budget));
@@ -472,71 +475,109 @@ impl Engine for Asking {
     }
 }
 
-fn noticed(test: fn(&Machine) -> bool) -> bool {
+fn noticed(test: impl Fn(&Machine) -> bool + 'static) -> bool {
     let mut counts = Counts::default();
-    compare(&Oracle, &Asking(test), &mut Supply::new(7), &mut counts);
+    compare(&Oracle, &Asking(Box::new(test)), &mut Supply::new(7), &mut counts);
     counts.differing > 0
 }
 
-/// The bytes of a region if it is granted, as first and last one.
-fn ends(machine: &Machine, n: usize) -> Option<(u64, u64)> {
-    let wanted = if n == 3 { EXECUTE } else { WRITE };
-    let own = extent(region_kind(n), &machine.regions[n - 1]).filter(|_| bit(machine.regions[n - 1].permission, wanted));
-    own.map(|own| (own.start as u64, own.end as u64 - 1))
+/// Some byte where a region begins, or ends, passes: the first byte that is both has one of these places.
+fn sought(machine: &Machine, test: impl Fn(u64) -> bool) -> bool {
+    let own = (1..=10).filter_map(|n| extent(region_kind(n), &machine.regions[n - 1]));
+    own.flat_map(|own| [own.start as u64, own.end as u64]).any(test)
 }
 
-fn meet(machine: &Machine, n: usize, test: fn((u64, u64), (u64, u64)) -> bool) -> bool {
-    ends(machine, n).zip(ends(machine, 3)).is_some_and(|(own, code)| test(own, code))
+type Ends = (u64, u64);
+
+/// A test of the first and last bytes of what is writable and what is executable.
+fn meets(machine: &Machine, test: impl Fn(Ends, Ends) -> bool) -> bool {
+    let ends = |list: Vec<Interval>| list.into_iter().map(|own| (own.start as u64, own.end as u64 - 1)).collect::<Vec<_>>();
+    let data = [ends(writable_explicit(machine)), ends(writable_implicit(machine))].concat();
+    let code = ends(executable_intervals(machine));
+    data.iter().any(|own| code.iter().any(|code| test(*own, *code)))
 }
 
-fn crosses(own: (u64, u64), code: (u64, u64)) -> bool {
+fn crosses(own: Ends, code: Ends) -> bool {
     own.0 <= code.1 && code.0 <= own.1
+}
+
+/// The machine with some regions changed.
+fn with(machine: &Machine, change: impl Fn(usize, &mut Region)) -> Machine {
+    let mut changed = *machine;
+    (1..=10).for_each(|n| change(n, &mut changed.regions[n - 1]));
+    changed
+}
+
+/// The permission that counts in a region.
+fn granted(n: usize) -> u64 {
+    if region_kind(n) == RegionKind::ImplicitCode { 4 } else { 2 }
 }
 
 #[test]
 fn other_tests_are_noticed() {
     assert!(!noticed(code_is_writable));
-    assert!(!noticed(|m| meet(m, 1, crosses) || meet(m, 2, crosses)));
-    let faults: [fn(&Machine) -> bool; 12] = [
+    assert!(!noticed(|m| meets(m, crosses)));
+    assert!(!noticed(|m| sought(m, |byte| writable(m, byte) && executable(m, byte))));
+    let faults: [fn(&Machine) -> bool; 14] = [
         |_| false,
         |_| true,
-        // a region left out
-        |m| meet(m, 1, crosses),
-        |m| meet(m, 2, crosses),
-        // both at once only
-        |m| meet(m, 1, crosses) && meet(m, 2, crosses),
+        // regions of one kind left out, or all but the first of each
+        |m| code_is_writable(&with(m, |n, r| if region_kind(n) == RegionKind::Explicit { *r = Region::default() })),
+        |m| code_is_writable(&with(m, |n, r| if region_kind(n) == RegionKind::ImplicitData { *r = Region::default() })),
+        |m| code_is_writable(&with(m, |n, r| if n > 3 { *r = Region::default() })),
+        // nothing is hidden: regions without the permission are left out; explicit ones hide too
+        |m| code_is_writable(&with(m, |n, r| if r.permission & granted(n) == 0 { *r = Region::default() })),
+        |m| sought(m, |byte| (1..=10).all(|n| n % 7 == 3 || n == 2 || !lacks(m, n, byte)) && writable(m, byte) && executable(m, byte)),
         // regions that touch count; a shared end byte does not
-        |m| [1, 2].into_iter().any(|n| meet(m, n, |own, code| own.0 <= code.1 + 1 && code.0 <= own.1 + 1)),
-        |m| [1, 2].into_iter().any(|n| meet(m, n, |own, code| own.0 < code.1 && code.0 <= own.1)),
-        |m| [1, 2].into_iter().any(|n| meet(m, n, |own, code| own.0 <= code.1 && code.0 < own.1)),
+        |m| meets(m, |own, code| own.0 <= code.1 + 1 && code.0 <= own.1 + 1),
+        |m| meets(m, |own, code| own.0 < code.1 && code.0 <= own.1),
+        |m| meets(m, |own, code| own.0 <= code.1 && code.0 < own.1),
         // only code's first byte is asked, or only the writable region's
-        |m| [1, 2].into_iter().any(|n| meet(m, n, |own, code| own.0 <= code.0 && code.0 <= own.1)),
-        |m| [1, 2].into_iter().any(|n| meet(m, n, |own, code| code.0 <= own.0 && own.0 <= code.1)),
+        |m| meets(m, |own, code| own.0 <= code.0 && code.0 <= own.1),
+        |m| meets(m, |own, code| code.0 <= own.0 && own.0 <= code.1),
         // only what memory has; only code that a word fits into
-        |m| [1, 2].into_iter().any(|n| meet(m, n, |own, code| crosses(own, code) && own.0.max(code.0) < 256)),
-        |m| [1, 2].into_iter().any(|n| meet(m, n, |own, code| crosses(own, code) && code.1 - code.0 >= 3)),
+        |m| meets(m, |own, code| crosses(own, code) && own.0.max(code.0) < 256),
+        |m| meets(m, |own, code| crosses(own, code) && code.1 - code.0 >= 3),
     ];
     for (n, fault) in faults.into_iter().enumerate() {
         assert!(noticed(fault), "fault {n}");
     }
-    // a region that lacks a permission, or breaks its rule and has its base
-    let changes: [fn(&mut Machine); 6] = [
-        |m| m.regions[0].permission |= 2,
-        |m| m.regions[1].permission |= 2,
-        |m| m.regions[2].permission |= 4,
-        |m| if ends(m, 1).is_none() { (m.regions[0].bound, m.regions[0].permission) = (1, m.regions[0].permission & 3) },
-        |m| if ends(m, 2).is_none() { m.regions[1].bound = ALL },
-        |m| if ends(m, 3).is_none() { m.regions[2].bound = ALL },
-    ];
-    for (n, change) in changes.into_iter().enumerate() {
-        let mut counts = Counts::default();
-        compare(&Oracle, &Changing(change), &mut Supply::new(7), &mut counts);
-        assert!(counts.differing > 0, "change {n}");
+    // each region left out
+    for number in 1..=10 {
+        assert!(noticed(move |m| code_is_writable(&with(m, |n, r| if n == number { *r = Region::default() }))), "region {number}");
+    }
+}
+
+/// Does region n have the byte and lack the permission?
+fn lacks(machine: &Machine, n: usize, byte: u64) -> bool {
+    let region = &machine.regions[n - 1];
+    let has = extent(region_kind(n), region).is_some_and(|own| own.start <= byte as u128 && (byte as u128) < own.end);
+    has && region.permission & granted(n) == 0
+}
+
+/// A region that lacks a permission is taken to have it, or one that breaks its rule to be its first byte.
+#[test]
+fn changed_regions_are_noticed() {
+    for number in 1..=10 {
+        let grant = move |m: &mut Machine| m.regions[number - 1].permission |= granted(number);
+        let mend = move |m: &mut Machine| {
+            let (kind, region) = (region_kind(number), &mut m.regions[number - 1]);
+            if extent(kind, region).is_none() {
+                let explicit = kind == RegionKind::Explicit;
+                (region.bound, region.permission) = if explicit { (1, region.permission & 3) } else { (ALL, region.permission) };
+            }
+        };
+        let changes: [Box<dyn Fn(&mut Machine)>; 2] = [Box::new(grant), Box::new(mend)];
+        for (n, change) in changes.into_iter().enumerate() {
+            let (mut counts, engine) = (Counts::default(), Changing(change));
+            (0..4).for_each(|seed| compare(&Oracle, &engine, &mut Supply::new(7 + seed), &mut counts));
+            assert!(counts.differing > 0, "region {number}, change {n}");
+        }
     }
 }
 
 /// The oracle, which refuses with 4 what would be refused after a change.
-struct Changing(fn(&mut Machine));
+struct Changing(Box<dyn Fn(&mut Machine)>);
 
 impl Engine for Changing {
     fn title(&self) -> String {

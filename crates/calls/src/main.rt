@@ -270,7 +270,7 @@ fn show_all(s: &[u8]) {
 }
 
 fn main() {
-    let mut room = [0u8; 655360];
+    let mut room = [0u8; 1048576];
     let n = read_file(b"calls", &mut room);
     show_all(&room[..n]);
 }

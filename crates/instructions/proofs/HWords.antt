@@ -1,6 +1,6 @@
 -- The region and the registers of an h-word: two register fields and what they stand for give each other back.
 -- Assumes nothing.
-use mathlib.Core.Path.{_≡_, refl, sym, ap, _∙_}
+use mathlib.Core.Path.{_≡_, refl, ap, _∙_}
 use mathlib.Core.Bool.{Bool, true, false, cond, _&&_}
 use mathlib.Core.List.{List, [], _∷_}
 use Prim.Native.Nat.{ℕ, _+_, _*_, _^_, _<_, _≤_}
@@ -10,7 +10,7 @@ use lib.ListN.{getD}
 use borrow.Author.Tests.{eqb-true}
 use Rattle.words.specs.Word.{field}
 use Rattle.words.proofs.Fields.{field-lt, field-put, field-join}
-use Rattle.instructions.specs.HWords.{explicitRegions, among, placeIn, topBit, lowRegister, registerField, chosenRegion, rs1Field, otherField}
+use Rattle.instructions.specs.HWords.{explicitRegions, among, placeIn, topBit, lowRegister, chosenRegion, rs1Field, otherField}
 use Rattle.instructions.proofs.Tests.{and-both}
 use Rattle.instructions.proofs.Named.{every-at}
 

@@ -1,16 +1,21 @@
 -- A test at the edges of the regions, one region after another.
 -- Assumes nothing.
 use mathlib.Core.Path.{_≡_, refl, ap, ap₂, sym, _∙_}
-use mathlib.Core.Bool.{Bool, false, _||_, or-assoc}
+use mathlib.Core.Bool.{Bool, true, false, _||_, or-assoc, or-false}
 use mathlib.Core.List.{List, [], _∷_, _++_}
 use Prim.Native.Nat.{ℕ, suc, _+_, _-_, _<_, _≤_}
 use native.Mathlib.Omega.{arith}
 use lib.ListN.{length, getD, drop, drop-of-length-le}
 use lib.Seq.{drop-cons}
 use Rattle.model.specs.Machine.{noRegion, region}
-use Rattle.model.specs.Regions.{regionKind}
-use Rattle.model.specs.WritableCode.{edgesOf, edges, some}
+use Rattle.model.specs.Regions.{RegionKind, regionKind}
+use Rattle.model.specs.WritableCode.{keepsRule, regionEnd, edgesOf, edges, some}
 use Rattle.model.specs.declared.Region.{Region}
+
+-- a test at both edges of one region
+pub either-edge : (p : ℕ → Bool) (k : RegionKind) (r : Region) {s t : Bool} {end : ℕ} → keepsRule k r ≡ true → s ≡ p (r .base) → t ≡ p end → end ≡ regionEnd k r
+    → (s || t) ≡ some p (edgesOf k r)
+either-edge p k r {s} {t} {end} h e f g = rw (h, e, f ∙ ap p g, or-false) refl
 
 some-of-both : (p : ℕ → Bool) (bs cs : List ℕ) → some p (bs ++ cs) ≡ (some p bs || some p cs)
 some-of-both p [] cs = refl

@@ -5,7 +5,7 @@
 //! proved static library, with `--features proved`). Ends with 1 if there is a difference.
 
 use oracle::compare::{
-    compare_step, empty_budgets_unmet, h_words_unmet, long_memories, long_sheets_unmet, print_counts, rounds, Counts, Engine,
+    compare_step, empty_budgets_unmet, fields_unmet, h_words_unmet, long_memories, long_sheets_unmet, print_counts, rounds, Counts, Engine,
     Oracle, EMPTY_TURNS, H_ROUNDS,
 };
 use oracle::sheet::{print_result, read_sheet, sheet_memory};
@@ -68,8 +68,9 @@ fn main() {
         long_memories(&Oracle, under_test.as_ref(), seed, &mut counts);
         if many / threads >= H_ROUNDS {
             let words = [h_words_unmet(&counts), oracle::m_words::unmet(&counts.m_words)].concat();
-            let rules = [oracle::writable_code::unmet(&counts.code_classes), oracle::hfi_rules::unmet(&counts.rules)].concat();
-            let unmet = [words, rules, long_sheets_unmet(&counts)].concat();
+            let rules = [oracle::writable_code::unmet(&counts.code_classes, &counts.code_numbers), oracle::hfi_rules::unmet(&counts.rules)].concat();
+            let regions = oracle::ten_regions::unmet(&counts.ten_regions);
+            let unmet = [words, rules, regions, fields_unmet(&counts), long_sheets_unmet(&counts)].concat();
             unmet.into_iter().for_each(|text| counts.difference(text));
         }
         if many / threads >= EMPTY_TURNS {
@@ -140,7 +141,8 @@ fn words(threads: u64, counts: &mut Counts) {
         // A field more than the instruction has, or another kind or group, is refused unless it makes another
         // instruction, whose word then stands for that record.
         let mut record = flat(&instruction);
-        match supply.below(9) {
+        match supply.below(10) {
+            9 => record.region = supply.below(12),
             0 => record.group = supply.below(20),
             1 => record.kind = supply.below(300),
             2 => record.rd = supply.below(40),
@@ -163,7 +165,8 @@ fn words(threads: u64, counts: &mut Counts) {
 #[cfg(feature = "proved")]
 fn bent(instruction: oracle::Instruction, supply: &mut oracle::supply::Supply) -> oracle::Instruction {
     use oracle::Instruction::*;
-    let register = supply.pick(&[0u64, 1, 31, 32, 33, 64, 1 << 32]);
+    let register = supply.pick(&[0u64, 1, 15, 16, 31, 32, 33, 64, 1 << 32]);
+    let number = supply.pick(&[0u64, 1, 2, 3, 4, 5, 6, 7, 10, 11, 1 << 32, (1 << 32) + 1]);
     let whole = supply.pick(&[0i64, 1, 2, 3, -1, -2, 2047, 2048, -2048, -2049, 4094, 4095, 4096, -4096, -4097, -4098, 1048574, 1048575, 1048576, -1048576, -1048577, -1048578, i64::MAX, i64::MIN]);
     let place = supply.below(4);
     match instruction {
@@ -187,20 +190,22 @@ fn bent(instruction: oracle::Instruction, supply: &mut oracle::supply::Supply) -
             1 => Load { kind, rd, rs1: register, offset },
             _ => Load { kind, rd, rs1, offset: whole },
         },
-        HLoad { kind, rd, rs1, offset } => match place {
-            0 => HLoad { kind, rd: register, rs1, offset },
-            1 => HLoad { kind, rd, rs1: register, offset },
-            _ => HLoad { kind, rd, rs1, offset: whole },
+        HLoad { kind, region, rd, rs1, offset } => match place {
+            0 => HLoad { kind, region, rd: register, rs1, offset },
+            1 => HLoad { kind, region, rd, rs1: register, offset },
+            2 => HLoad { kind, region: number, rd, rs1, offset },
+            _ => HLoad { kind, region, rd, rs1, offset: whole },
         },
         Store { kind, rs1, rs2, offset } => match place {
             0 => Store { kind, rs1: register, rs2, offset },
             1 => Store { kind, rs1, rs2: register, offset },
             _ => Store { kind, rs1, rs2, offset: whole },
         },
-        HStore { kind, rs1, rs2, offset } => match place {
-            0 => HStore { kind, rs1: register, rs2, offset },
-            1 => HStore { kind, rs1, rs2: register, offset },
-            _ => HStore { kind, rs1, rs2, offset: whole },
+        HStore { kind, region, rs1, rs2, offset } => match place {
+            0 => HStore { kind, region, rs1: register, rs2, offset },
+            1 => HStore { kind, region, rs1, rs2: register, offset },
+            2 => HStore { kind, region: number, rs1, rs2, offset },
+            _ => HStore { kind, region, rs1, rs2, offset: whole },
         },
         Immediate { kind, rd, rs1, value } => match place {
             0 => Immediate { kind, rd: register, rs1, value },

@@ -23,11 +23,19 @@ pub fn store(kind: StoreKind, rs2: u64, rs1: u64, offset: i64) -> u32 {
 }
 
 pub fn hload(kind: LoadKind, rd: u64, rs1: u64, offset: i64) -> u32 {
-    word(Instruction::HLoad { kind, rd, rs1, offset })
+    hload_through(1, kind, rd, rs1, offset)
 }
 
 pub fn hstore(kind: StoreKind, rs2: u64, rs1: u64, offset: i64) -> u32 {
-    word(Instruction::HStore { kind, rs1, rs2, offset })
+    hstore_through(1, kind, rs2, rs1, offset)
+}
+
+pub fn hload_through(region: u64, kind: LoadKind, rd: u64, rs1: u64, offset: i64) -> u32 {
+    word(Instruction::HLoad { kind, region, rd, rs1, offset })
+}
+
+pub fn hstore_through(region: u64, kind: StoreKind, rs2: u64, rs1: u64, offset: i64) -> u32 {
+    word(Instruction::HStore { kind, region, rs1, rs2, offset })
 }
 
 pub fn hfi(kind: HfiKind, rd: u64, rs1: u64, rs2: u64) -> u32 {

@@ -44,13 +44,13 @@ enum-known-i-5 : tie.Need-enum-known-i-5
 enum-known-i-5 c = search needs
 
 load-requires : tie.Need-load-requires
-load-requires c κs = below (c .before .before .before .i5 .given .1) (c .before .before .before .before .before .before .pre)
+load-requires c κs = below (c .before .before .before .before .i5 .given .1) (c .before .before .before .before .before .before .before .pre)
 
 enum-known-i-6 : tie.Need-enum-known-i-6
 enum-known-i-6 c = search needs
 
 store-requires : tie.Need-store-requires
-store-requires c κs = below (c .before .before .before .i6 .given .1) (c .before .before .before .before .before .before .pre)
+store-requires c κs = below (c .before .before .before .before .i6 .given .1) (c .before .before .before .before .before .before .before .pre)
 
 enum-known-i-7 : tie.Need-enum-known-i-7
 enum-known-i-7 c = search needs
@@ -149,19 +149,19 @@ enum-known-i-14 : tie.Need-enum-known-i-14
 enum-known-i-14 c = search needs
 
 hload-requires : tie.Need-hload-requires
-hload-requires c κs = below (c .before .before .before .i14 .given .1) (c .before .before .before .before .before .before .pre)
+hload-requires c κs = below (c .before .before .before .before .i14 .given .1) (c .before .before .before .before .before .before .before .pre)
 
 enum-known-i-15 : tie.Need-enum-known-i-15
 enum-known-i-15 c = search needs
 
 hstore-requires : tie.Need-hstore-requires
-hstore-requires c κs = below (c .before .before .before .i15 .given .1) (c .before .before .before .before .before .before .pre)
+hstore-requires c κs = below (c .before .before .before .before .i15 .given .1) (c .before .before .before .before .before .before .before .pre)
 
 enum-known-i-16 : tie.Need-enum-known-i-16
 enum-known-i-16 c = search needs
 
 hfi-word-requires : tie.Need-hfi-word-requires
-hfi-word-requires c κs = below (c .before .before .i16 .given .1) (c .before .before .before .before .before .pre)
+hfi-word-requires c κs = below (c .before .before .before .i16 .given .1) (c .before .before .before .before .before .before .pre)
 
 returns : tie.Need-returns
 unfolding executeInstruction allowed hfiStop
@@ -184,14 +184,14 @@ same-length c = search needs
 
 returns-5 : tie.Need-returns-5
 unfolding executeInstruction allowed hfiStop
-returns-5 c = c .load .ensures ∙ ap (executeInstruction _ _ _) (sym (c .before .before .before .before .i5 .given .1))
+returns-5 c = c .load .ensures ∙ ap (executeInstruction _ _ _) (sym (c .before .before .before .before .before .i5 .given .1))
 
 same-length-2 : tie.Need-same-length-2
 same-length-2 c = search needs
 
 returns-6 : tie.Need-returns-6
 unfolding executeInstruction allowed hfiStop
-returns-6 c = c .before .before .store .ensures ∙ ap (executeInstruction _ _ _) (sym (c .before .before .before .before .before .before .i6 .given .1))
+returns-6 c = c .before .before .store .ensures ∙ ap (executeInstruction _ _ _) (sym (c .before .before .before .before .before .before .before .i6 .given .1))
 
 returns-7 : tie.Need-returns-7
 unfolding perform executeInstruction allowed hfiStop
@@ -229,16 +229,16 @@ same-length-3 : tie.Need-same-length-3
 same-length-3 c = search needs
 
 returns-15 : tie.Need-returns-15
-returns-15 c = c .hload .ensures ∙ ap (executeInstruction _ _ _) (sym (c .before .before .before .before .i14 .given .1))
+returns-15 c = c .hload .ensures ∙ ap (executeInstruction _ _ _) (sym (c .before .before .before .before .before .i14 .given .1))
 
 same-length-4 : tie.Need-same-length-4
 same-length-4 c = search needs
 
 returns-16 : tie.Need-returns-16
-returns-16 c = c .before .before .hstore .ensures ∙ ap (executeInstruction _ _ _) (sym (c .before .before .before .before .before .before .i15 .given .1))
+returns-16 c = c .before .before .hstore .ensures ∙ ap (executeInstruction _ _ _) (sym (c .before .before .before .before .before .before .before .i15 .given .1))
 
 returns-17 : tie.Need-returns-17
-returns-17 c = c .hfi-word .ensures _ ∙ ap (executeInstruction _ _ _) (sym (c .before .before .before .i16 .given .1))
+returns-17 c = c .hfi-word .ensures _ ∙ ap (executeInstruction _ _ _) (sym (c .before .before .before .before .i16 .given .1))
 
 pub execute-spec : {M : Type 1} → statement M
 execute-spec =

@@ -36,7 +36,7 @@ returns c = λ x numbers mem next.
       c .completed .ensures,
       sym (c .before .before .before .redirects-calls .ensures) ∙ c .before .before .if1 .taken,
     )
-    (ap (λ h. completed (machine x (c .before .before .before .before .before .args .hfi .handler) h) mem) (c .before .exited .ensures (regionsOf numbers)))
+    (ap (λ h. completed (machine x (c .before .before .before .before .before .before .args .hfi .handler) h) mem) (c .before .exited .ensures (regionsOf numbers)))
 
 returns-2 : tie.Need-returns-2
 unfolding perform

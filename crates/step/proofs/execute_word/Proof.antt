@@ -19,8 +19,7 @@ wrapping-add-u64-requires c κs = search needs
 
 execute-requires : tie.Need-execute-requires
 execute-requires c κs =
-    let m = c .before .before .before in
-    decoded-range (c .before .before .before .before .before .before .before .before .args .w) _ (sym (m .before .before .before .decode .ensures) ∙ m .before .d .given .1)
+    decoded-range (c .before .before .before .before .before .before .before .before .before .args .w) _ (sym (c .before .before .before .before .before .before .before .decode .ensures) ∙ c .before .before .before .before .before .d .given .1)
 
 enum-told : tie.Need-enum-told
 enum-told c = search needs
@@ -34,8 +33,8 @@ same-length c = search needs
 returns : tie.Need-returns
 unfolding executeWord
 returns c =
-    let m = c .before .before .before .before .before .before in
-    c .before .before .execute .ensures ∙ rw (c .before .before .before .wrapping-add-u64 .ensures) (ap (executeWord _ _) (sym (m .before .d .given .1) ∙ m .before .before .before .decode .ensures))
+    c .before .before .execute .ensures
+    ∙ rw (c .before .before .before .wrapping-add-u64 .ensures) (ap (executeWord _ _) (sym (c .before .before .before .before .before .before .before .before .d .given .1) ∙ c .before .before .before .before .before .before .before .before .before .before .decode .ensures))
 
 returns-2 : tie.Need-returns-2
 unfolding executeWord

@@ -6,6 +6,7 @@ use Rattle.model.specs.Step.{step}
 use Rattle.model.specs.Outcome.{settle}
 use Rattle.model.specs.Access.{fetchAccess}
 use Rattle.memory.proofs.Fits.{passed-fits}
+use Rattle.hart.specs.State.{regionsOf}
 use borrow.Author.Needs.{needs}
 use Rattle.step.proofs.step.Statement.{statement}
 use Rattle.step.proofs.step.Tie as tie
@@ -25,10 +26,10 @@ enum-told c = search needs
 
 read-requires : tie.Need-read-requires
 read-requires c κs =
-    let a = c .before .before .before .before .before .before .before .before .before .args in (
+    let a = c .before .before .before .before .before .before .before .before .before .before .args in (
       refl,
-      passed-fits (a .hfi .mode) (length (a .mem .now)) (fetchAccess (a .hfi .regions) (a .pc)) refl (search needs) (search needs)
-          (c .before .before .before .before .before .check-fetch .ensures) (c .before .before .before .enum-told .given .1),
+      passed-fits (a .hfi .mode) (length (a .mem .now)) (fetchAccess (regionsOf (a .rs .now)) (a .pc)) refl (search needs) (search needs)
+          (c .before .before .before .before .before .before .check-fetch .ensures) (c .before .before .before .before .enum-told .given .1),
     )
 
 execute-word-requires : tie.Need-execute-word-requires
@@ -52,24 +53,23 @@ same-length c = search needs
 returns-2 : tie.Need-returns-2
 unfolding step settle
 returns-2 c =
-    let m = c .before .before .before .before .before .before .before in
     c .before .before .execute-word .ensures ∙ rw (
-      eq-eqb (m .before .before .before .before .before .before .args .pc % 4) 0 (m .before .before .before .before .if1 .left),
-      sym (m .before .before .check-fetch .ensures) ∙ m .enum-told .given .1,
+      eq-eqb (c .before .before .before .before .before .before .before .before .before .before .before .before .before .before .args .pc % 4) 0 (c .before .before .before .before .before .before .before .before .before .before .before .before .if1 .left),
+      sym (c .before .before .before .before .before .before .before .before .before .before .check-fetch .ensures) ∙ c .before .before .before .before .before .before .before .before .enum-told .given .1,
       c .before .before .before .read .ensures .0,
     )
 
 returns-3 : tie.Need-returns-3
 unfolding step settle
 returns-3 c =
-    let m = c .before .before .before in
-    rw (c .faulted .ensures, eq-eqb (m .before .before .before .before .before .args .pc % 4) 0 (m .before .before .before .if1 .left), sym (m .before .check-fetch .ensures) ∙ c .before .before .v .given .1)
+    let a = c .before .before .before .before .before .before .before .before .args in
+    rw (eq-eqb (a .pc % 4) 0 (c .before .before .before .before .before .before .if1 .left), sym (c .before .before .before .before .check-fetch .ensures) ∙ c .before .before .v .given .1)
+    (c .faulted .ensures (a .x .now) (a .rs .now) (a .mem .now))
 
 returns-4 : tie.Need-returns-4
 unfolding step settle
 returns-4 c =
-    let m = c .before .before .before in
-    rw (c .absent .ensures, eq-eqb (m .before .before .before .before .before .args .pc % 4) 0 (m .before .before .before .if1 .left), sym (m .before .check-fetch .ensures) ∙ c .before .before .v2 .given .1)
+    rw (c .absent .ensures, eq-eqb (c .before .before .before .before .before .before .before .before .args .pc % 4) 0 (c .before .before .before .before .before .before .if1 .left), sym (c .before .before .before .before .check-fetch .ensures) ∙ c .before .before .v2 .given .1)
 
 pub step-spec : {M : Type 1} → statement M
 step-spec =

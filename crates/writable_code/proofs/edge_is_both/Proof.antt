@@ -1,5 +1,8 @@
-use mathlib.Core.Path.{refl, sym, _∙_}
-use mathlib.Core.Bool.{or-false}
+use mathlib.Core.Path.{sym, _∙_}
+use Rattle.model.specs.Regions.{regionKind}
+use Rattle.model.specs.WritableCode.{bothAt}
+use Rattle.hart.specs.State.{regionsOf}
+use Rattle.writable_code.proofs.Edges.{either-edge}
 use borrow.Author.Needs.{needs}
 use Rattle.writable_code.proofs.edge_is_both.Statement.{statement}
 use Rattle.writable_code.proofs.edge_is_both.Tie as tie
@@ -19,7 +22,10 @@ both-at-requires-2 c κs = search needs
 returns : tie.Need-returns
 returns c =
     let s = c .before .before .before in
-    rw (sym (s .before .keeps-rule .ensures) ∙ s .if1 .taken, c .before .before .both-at .ensures, c .both-at2 .ensures, c .before .region-end .ensures, or-false) refl
+    let a = s .before .before .args in
+    let kept = sym (s .before .keeps-rule .ensures) ∙ s .if1 .taken in
+    either-edge (bothAt (regionsOf (a .rs .now))) (regionKind (a .n)) (a .r) kept (c .before .before .both-at .ensures) (c .both-at2 .ensures)
+    (c .before .region-end .ensures)
 
 returns-2 : tie.Need-returns-2
 returns-2 c = rw (sym (c .before .keeps-rule .ensures) ∙ c .if1 .left)
