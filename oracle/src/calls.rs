@@ -63,7 +63,7 @@ impl Call {
         Some(Answer { stop, count, address, machine, bytes })
     }
 
-    /// The block of five lines that stands for it in `crates/calls/data/calls`.
+    /// The block of five lines that stands for it in `crates/calls/data`.
     pub fn written(&self) -> String {
         format!("{}\n{}", self.name, self.unnamed())
     }
@@ -1969,6 +1969,18 @@ fn random_named(n: usize, request: Request, machine: Machine, lent: &[u8]) -> Ca
     // A byte past the end, which no call may touch.
     bytes[length] = 0xee;
     Call { name: format!("random {n}"), request, machine, length, bytes }
+}
+
+/// The two files of stored calls: the first ends with the call that comes to
+/// half of the bytes.
+pub fn halves(data: &str) -> (String, String) {
+    let lines: Vec<&str> = data.split_inclusive('\n').collect();
+    let (mut first, mut second) = (String::new(), String::new());
+    for call in lines.chunks(5) {
+        let part = if first.len() < data.len() / 2 { &mut first } else { &mut second };
+        part.push_str(&call.concat());
+    }
+    (first, second)
 }
 
 /// The stored calls, and what the oracle answers to them.

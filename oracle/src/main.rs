@@ -3,7 +3,8 @@
 //! `oracle vectors FILE`: the fixed-column value cases.
 //! `oracle words FILE`: words and whether they are legal.
 //! `oracle sheets FOLDER`: every sheet of a folder with its answer, by name.
-//! `oracle calls FOLDER`: writes the calls and their answers to FOLDER/data/calls and FOLDER/stdout.
+//! `oracle calls FOLDER`: writes the calls and their answers to FOLDER/data/calls-1, FOLDER/data/calls-2 and
+//! FOLDER/stdout.
 
 use std::io::{Read, Write};
 
@@ -37,7 +38,9 @@ fn main() {
         }
         "calls" => {
             let (data, printed) = oracle::calls::stored();
-            std::fs::write(format!("{}/data/calls", file()), &data).expect("data/calls");
+            let (first, second) = oracle::calls::halves(&data);
+            std::fs::write(format!("{}/data/calls-1", file()), &first).expect("data/calls-1");
+            std::fs::write(format!("{}/data/calls-2", file()), &second).expect("data/calls-2");
             std::fs::write(format!("{}/stdout", file()), &printed).expect("stdout");
             println!("{} calls, {} bytes, {} bytes of answers", data.lines().count() / 5, data.len(), printed.len());
         }

@@ -78,7 +78,9 @@ fn index() {
 #[test]
 fn calls() {
     let (data, printed) = oracle::calls::stored();
-    assert_eq!(data, text("crates/calls/data/calls"));
+    let (first, second) = oracle::calls::halves(&data);
+    assert_eq!(first, text("crates/calls/data/calls-1"));
+    assert_eq!(second, text("crates/calls/data/calls-2"));
     assert_eq!(printed, text("crates/calls/stdout"));
     assert!(oracle::calls::directed().len() >= 2347);
     assert!(oracle::calls::random().len() >= 420);

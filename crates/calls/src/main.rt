@@ -1,4 +1,4 @@
-// Makes the calls that data/calls describes, and prints what each left. README.md has the form of both.
+// Makes the calls that data/calls-1 and data/calls-2 describe, and prints what each left. README.md has the form of both.
 ghost use mathlib.Core.Path.{_≡_};
 ghost use Prim.Native.Nat.{_<_, _≤_};
 ghost use lib.ListN.{length};
@@ -269,8 +269,14 @@ fn show_all(s: &[u8]) {
     }
 }
 
-fn main() {
-    let mut room = [0u8; 1048576];
-    let n = read_file(b"calls", &mut room);
+// Makes each call of a file.
+fn show_file(name: &[u8]) {
+    let mut room = [0u8; 655360];
+    let n = read_file(name, &mut room);
     show_all(&room[..n]);
+}
+
+fn main() {
+    show_file(b"calls-1");
+    show_file(b"calls-2");
 }

@@ -176,7 +176,18 @@ fn hstore(
         return stopped(stop, pc, hfi);
     }
     let operand = register(x, rs1);
-    load_store::hstore(pc, hfi, rs, mem, next, k, region, register(x, rs2), operand, imm)
+    load_store::hstore(
+        pc,
+        hfi,
+        rs,
+        mem,
+        next,
+        k,
+        region,
+        register(x, rs2),
+        operand,
+        imm,
+    )
 }
 
 // One instruction, question 8 first; `next` is the pc after it.

@@ -38,25 +38,25 @@ enterJump = 0x0262805b
 abbrev exit : ℕ
 exit = 0x0400005b
 
-abbrev select : ℕ
+abbrev pub select : ℕ
 select = 0x0602805b
 
 abbrev pub setBase : ℕ
 setBase = 0x0802805b
 
-abbrev getBase : ℕ
+abbrev pub getBase : ℕ
 getBase = 0x0a00035b
 
 abbrev pub setBound : ℕ
 setBound = 0x0c02805b
 
-abbrev getBound : ℕ
+abbrev pub getBound : ℕ
 getBound = 0x0e00035b
 
 abbrev pub setPermission : ℕ
 setPermission = 0x1002805b
 
-abbrev getPermission : ℕ
+abbrev pub getPermission : ℕ
 getPermission = 0x1200035b
 
 abbrev setHandler : ℕ
@@ -65,7 +65,7 @@ setHandler = 0x1402805b
 abbrev getHandler : ℕ
 getHandler = 0x1600035b
 
-abbrev reset : ℕ
+abbrev pub reset : ℕ
 reset = 0x1800005b
 
 abbrev ecall : ℕ
@@ -418,7 +418,7 @@ operating =
     ∷ goes (outside 0 ++ operands (2 ^ 64 - 7) 2) 0x0262f33b ((x 6, 1) ∷ [])
     ∷ []
 
--- an h-word of x6 at -5(x21), locked: region 1 has the nine bytes from 3 on, and the offset is 1; the code stands at 10
+-- an h-word of x6 at -5(x11), locked: region 1 has the nine bytes from 3 on, and the offset is 1; the code stands at 10
 abbrev reaching : List (ℕ × ℕ)
 reaching = inside 1 ++ ((base 1, 3) ∷ (bound 1, 9) ∷ (base 3, 0x10) ∷ (pc, 0x10) ∷ (x 6, 0x0102030405060708) ∷ (x 11, 6) ∷ [])
 

@@ -7,6 +7,8 @@ pub mod Rows
 pub mod Cases
 pub mod Clauses
 pub mod WritableRows
+pub mod RegionRows
+pub mod Decides
 pub mod Integer
 pub mod Isolation
 pub mod Reach

@@ -2,8 +2,8 @@
 -- Assumes nothing.
 use mathlib.Core.Bool.{Bool}
 use mathlib.Core.List.{List, [], _∷_}
-use Prim.Native.Nat.{ℕ, _+_, _*_, _/_, _%_}
-use lib.ListN.{getD, set, take, replicate}
+use Prim.Native.Nat.{ℕ, _+_, _-_, _*_, _/_, _%_}
+use lib.ListN.{getD, set, take, drop, replicate}
 use Rattle.instructions.specs.Decode.{decodeWord}
 use Rattle.instructions.specs.declared.instruction.Decoded.{Decoded}
 use Rattle.model.specs.Machine.{lastRegion, regionsFrom, machine}
@@ -72,18 +72,22 @@ puts ns (p ∷ ps) = puts (set ns (p .0) (p .1)) ps
 abbrev pub regionOf : ℕ → ℕ → ℕ → Region
 regionOf b n p = record { base = b; bound = n; permission = p }
 
+-- what is far down the list is read from the rest of it, which computes faster
 abbrev machineIn : List ℕ → Machine
 machineIn ns =
-    machine (take 32 ns) (getD ns pc 0)
+    let control = drop pc ns in
+    let regions = drop (base 1 - pc) control in
+    let fault = drop (3 * lastRegion) regions in
+    machine (take 32 ns) (getD control 0 0)
     (record {
-      mode = getD ns mode 0;
-      reason = getD ns reason 0;
-      epc = getD ns epc 0;
-      options = getD ns options 0;
-      handler = getD ns handler 0;
-      selector = getD ns selector 0;
-      regions = regionsFrom ns (base 1) lastRegion;
-      fault = record { occurred = getD ns occurred 0; region = getD ns faultRegion 0; op = getD ns op 0; address = getD ns faulting 0 };
+      mode = getD control (mode - pc) 0;
+      reason = getD control (reason - pc) 0;
+      epc = getD control (epc - pc) 0;
+      options = getD control (options - pc) 0;
+      handler = getD control (handler - pc) 0;
+      selector = getD control (selector - pc) 0;
+      regions = regionsFrom regions 0 lastRegion;
+      fault = record { occurred = getD fault 0 0; region = getD fault 1 0; op = getD fault 2 0; address = getD fault 3 0 };
     })
 
 -- the machine that is all 0 but for these places

@@ -29,22 +29,22 @@ spent began budget count m mem r h e = ap (λ q. ranWith q mem) e ∙ sym (run-o
 
 module _ (began : Bool) (budget count : ℕ) (m : Machine) (mem : List ℕ) (d : Effect) (x numbers after : List ℕ) (l : count < budget) (e : effectWith d x numbers after ≡ step m mem)
   where
-  -- the step stops the run
-  pub stopped : (r : Ran) → (d .stop ≡ 0 → ⊥) → r ≡ record { stop = d .stop; count = count; address = d .address; machine = hart x (d .pc) (d .hfi) numbers }
-      → ranWith r after ≡ run began (budget - count) count m mem
-  stopped r q f = ap (λ r. ranWith r after) f ∙ sym (run-stops began (budget - count) count m mem (effectWith d x numbers after) (omega arith) e q)
+    -- the step stops the run
+    pub stopped : (r : Ran) → (d .stop ≡ 0 → ⊥) → r ≡ record { stop = d .stop; count = count; address = d .address; machine = hart x (d .pc) (d .hfi) numbers }
+        → ranWith r after ≡ run began (budget - count) count m mem
+    stopped r q f = ap (λ r. ranWith r after) f ∙ sym (run-stops began (budget - count) count m mem (effectWith d x numbers after) (omega arith) e q)
 
-  -- the step leaves HFI mode
-  pub leaves : (r : Ran) (on : Bool) → d .stop ≡ 0 → on ≡ inside (stateWith (d .hfi) []) → (began && not on) ≡ true
-      → r ≡ record { stop = 20; count = count + 1; address = 0; machine = hart x (d .pc) (d .hfi) numbers } → ranWith r after ≡ run began (budget - count) count m mem
-  leaves r on q i t f =
-      ap (λ r. ranWith r after) f
-      ∙ sym (run-leaves began (budget - count) count m mem (effectWith d x numbers after) (omega arith) e q (ap (λ b. began && not b) (sym i) ∙ t))
+    -- the step leaves HFI mode
+    pub leaves : (r : Ran) (on : Bool) → d .stop ≡ 0 → on ≡ inside (stateWith (d .hfi) []) → (began && not on) ≡ true
+        → r ≡ record { stop = 20; count = count + 1; address = 0; machine = hart x (d .pc) (d .hfi) numbers } → ranWith r after ≡ run began (budget - count) count m mem
+    leaves r on q i t f =
+        ap (λ r. ranWith r after) f
+        ∙ sym (run-leaves began (budget - count) count m mem (effectWith d x numbers after) (omega arith) e q (ap (λ b. began && not b) (sym i) ∙ t))
 
-  -- the run goes on
-  pub onward : (on : Bool) → d .stop ≡ 0 → on ≡ inside (stateWith (d .hfi) []) → (began && not on) ≡ false
-      → run began (budget - (count + 1)) (count + 1) (hart x (d .pc) (d .hfi) numbers) after ≡ run began (budget - count) count m mem
-  onward on q i t =
-      let s : budget - (count + 1) ≡ budget - count - 1 = omega arith in
-      ap (λ n. run began n (count + 1) (hart x (d .pc) (d .hfi) numbers) after) s
-      ∙ sym (run-goes-on began (budget - count) count m mem (effectWith d x numbers after) (omega arith) e q (ap (λ b. began && not b) (sym i) ∙ t))
+    -- the run goes on
+    pub onward : (on : Bool) → d .stop ≡ 0 → on ≡ inside (stateWith (d .hfi) []) → (began && not on) ≡ false
+        → run began (budget - (count + 1)) (count + 1) (hart x (d .pc) (d .hfi) numbers) after ≡ run began (budget - count) count m mem
+    onward on q i t =
+        let s : budget - (count + 1) ≡ budget - count - 1 = omega arith in
+        ap (λ n. run began n (count + 1) (hart x (d .pc) (d .hfi) numbers) after) s
+        ∙ sym (run-goes-on began (budget - count) count m mem (effectWith d x numbers after) (omega arith) e q (ap (λ b. began && not b) (sym i) ∙ t))

@@ -33,9 +33,9 @@ finish-load-requires c κs =
     let access = explicitAccess (regionsOf (a .rs .now)) (a .region) read (offset (a .operand) (a .imm)) (loadWidth (a .k)) in (
       s .pre .0,
       rw (c .before .explicit-address .ensures, c .before .before .region-at .ensures)
-    (passed-fits (a .hfi .mode) (length (a .mem .now)) access (load-is-width (a .k))
-    (word-lt 64 (pos (region (regionsOf (a .rs .now)) (a .region) .base) +ℤ offset (a .operand) (a .imm))) (search needs)
-    (c .before .before .before .check-explicit .ensures ∙ rw (c .before .before .before .before .load-width .ensures))),
+          (passed-fits (a .hfi .mode) (length (a .mem .now)) access (load-is-width (a .k))
+          (word-lt 64 (pos (region (regionsOf (a .rs .now)) (a .region) .base) +ℤ offset (a .operand) (a .imm))) (search needs)
+          (c .before .before .before .check-explicit .ensures ∙ rw (c .before .before .before .before .load-width .ensures))),
     )
 
 returns : tie.Need-returns

@@ -26,7 +26,7 @@ finish-load-requires c κs =
     let access = dataAccess (regionsOf (a .rs .now)) read (a .a) (loadWidth (a .k)) in (
       s .pre,
       passed-fits (a .hfi .mode) (length (a .mem .now)) access (load-is-width (a .k)) (search needs) (search needs)
-    (c .before .check-data .ensures ∙ rw (c .before .before .load-width .ensures)),
+          (c .before .check-data .ensures ∙ rw (c .before .before .load-width .ensures)),
     )
 
 returns : tie.Need-returns

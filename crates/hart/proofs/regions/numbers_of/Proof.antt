@@ -71,8 +71,7 @@ loop-again : tie.Need-loop-again Inv-loop μ-loop
 loop-again c =
     let rs = c .before .before .before .args .t1 in
     let l = c .before .before .loop in
-    let long : length rs ≡ lastRegion = search needs in
-    (
+    let long : length rs ≡ lastRegion = search needs in (
       search needs,
       search needs,
       rw (region-put (l .numbers) (l .i) (getD rs (l .i) noRegion) (c .before .loop-test .taken) (l .inv .1))
