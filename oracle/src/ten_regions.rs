@@ -32,6 +32,8 @@ pub enum Shape {
     Into,
     /// The lower number has the first bytes alone, the higher all of them but lacks the permission.
     Out,
+    /// The lower number has one byte between the first and the last and lacks the permission.
+    Inside,
     /// They touch, and both grant.
     Across,
     /// They touch, and the one of the later bytes lacks the permission.
@@ -40,7 +42,7 @@ pub enum Shape {
     First,
 }
 
-const NESTED: [Shape; 5] = [Shape::Hidden, Shape::Granted, Shape::Broken, Shape::Into, Shape::Out];
+const NESTED: [Shape; 6] = [Shape::Hidden, Shape::Granted, Shape::Broken, Shape::Into, Shape::Out, Shape::Inside];
 const TOUCHING: [Shape; 3] = [Shape::Across, Shape::Second, Shape::First];
 
 #[derive(Clone, Copy, Debug, PartialEq, Eq, PartialOrd, Ord)]
@@ -145,6 +147,10 @@ impl Supply {
                 let place = edge + 0x40;
                 (around(place - 8, 3, grants), around(edge, 8, lacking), place + late - size, Some((false, place)))
             }
+            Shape::Inside => {
+                let hole = start + 1 + self.below(size - 2);
+                (around(hole, 0, lacking), around(edge, larger, grants), start, Some((true, hole)))
+            }
             Shape::Across | Shape::Second | Shape::First => {
                 let (first, second) = (around(edge - 1, k, grants), around(edge, larger, grants));
                 let start = edge + late - size;
@@ -160,8 +166,12 @@ impl Supply {
     /// An ordinary load or store over two regions.
     fn paired_data(&mut self, shape: Shape, one: usize, other: usize, op: u64) -> Aimed {
         let (mut machine, mut bytes) = self.plain_world();
-        let sizes = if matches!(shape, Shape::Hidden | Shape::Granted | Shape::Broken) { 0 } else { 1 };
-        let (load, store) = self.of_some_size(sizes);
+        let above = match shape {
+            Shape::Hidden | Shape::Granted | Shape::Broken => 0,
+            Shape::Inside => 2,
+            _ => 1,
+        };
+        let (load, store) = self.of_some_size(above);
         let size = if op == LOAD { load_size(load) } else { store_size(store) };
         let (first, second, start, refused) = self.paired(shape, size, op, 3);
         (machine.regions[one - 1], machine.regions[other - 1]) = (first, second);
@@ -192,6 +202,7 @@ impl Supply {
             Shape::Broken => (Region { base: pc | 2, ..around(pc, 2, 0) }, around(pc, large, 4), None),
             Shape::Into => (around(pc + 2 + place, 1 - place, 0), around(pc, large, 4), Some((one, pc + 2 + place))),
             Shape::Out => (around(pc, 1 - place, 4), around(pc, large, 0), Some((other, pc + 2 - place))),
+            Shape::Inside => (around(pc + 1 + place, 0, 0), around(pc, large, 4), Some((one, pc + 1 + place))),
             Shape::Across => (around(pc, 1, 4), around(pc + 2, 1, 4), None),
             Shape::Second => (around(pc, 1, 4), around(pc + 2, 1, 0), Some((other, pc + 2))),
             Shape::First => (around(pc, 1, 0), around(pc + 2, 1, 4), Some((one, pc))),
@@ -228,11 +239,11 @@ impl Supply {
         told(machine, bytes, None, &word, own.base + place)
     }
 
-    /// A load and a store, both of more than one byte if `least` is 1.
-    fn of_some_size(&mut self, least: usize) -> (LoadKind, StoreKind) {
+    /// A load and a store, both of more bytes than these.
+    fn of_some_size(&mut self, above: u64) -> (LoadKind, StoreKind) {
         loop {
             let (load, store) = (self.pick(&LOAD_TABLE).0, self.pick(&STORE_TABLE).0);
-            if least == 0 || load_size(load) > 1 && store_size(store) > 1 {
+            if load_size(load) > above && store_size(store) > above {
                 return (load, store);
             }
         }
