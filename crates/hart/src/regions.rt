@@ -10,7 +10,8 @@ use model::Region;
 // Base, bound and permission of each region, region 1 first.
 pub const REGION_NUMBERS: usize = 3 * REGIONS;
 
-// Where region `n` stands among the regions. Number 0 has the first one's index; question 8 keeps it from being asked for.
+// Where region `n` stands among the regions. Number 0 is no region and has the first one's index: question 8 refuses an instruction with
+// it, and of a byte that no region matches nothing of it counts.
 fn region_index(n: u64) -> u64
     ensures { λ r. ⌜ r ≡ n - 1 ⌝ }
 {

@@ -97,8 +97,8 @@ fn touches(r: Region, last: u64, n: u64) -> bool
     }
 }
 
-// Does the first region that has a byte of the access have all of them, with the permission? Then it decides each of them. Rules are
-// asked once an access, and only where the addresses do not tell.
+// Does the first region that has a byte of the access have all of them, with the permission? Then it decides each of them. A rule is
+// asked where the addresses do not tell, and not for each byte.
 fn grants_whole(rs: &[u64; REGION_NUMBERS], ns: &[u64], wanted: u64, a: u64, n: u64) -> bool
     requires { ⌜ (wanted < 64) × (0 < n) ⌝ }
     ensures { λ q. ⌜ q ≡ grantsWhole (regionsOf (now (rs .entry))) (now (ns .entry)) wanted a n ⌝ }

@@ -78,7 +78,7 @@ pub data Breaks (m : Machine) : Instruction → ℕ → Type 0 where
   -- "Faults in an operand": "an options operand above 15"
   bad-options : {k : HfiKind} {rd rs1 rs2 : ℕ} → Enters k → (m .hfi .mode ≡ 1 → ⊥) → largestOptions < reg (m .x) rs1
       → Breaks m (Hfi k rd rs1 rs2) 14
-  -- "a selected number not 1 to 3"
+  -- "a selected number not 1 to 3", which goes up to 10 (Job 7)
   bad-number : {rd rs1 rs2 : ℕ} → (Locked m → ⊥) → (reg (m .x) rs1 ≡ 0) ⊎ (lastRegion < reg (m .x) rs1)
       → Breaks m (Hfi SelectRegion rd rs1 rs2) 14
   -- "a permission bit the region lacks" (Permissions.antt)
@@ -112,7 +112,7 @@ is-unlocked m n = go (locked (m .hfi)) refl
 unlocked-is : (m : Machine) → locked (m .hfi) ≡ false → Locked m → ⊥
 unlocked-is m e k = clash e (is-locked m k)
 
--- "not 1 to 3"
+-- "not 1 to 3", or to the last
 no-number : (a : ℕ) → (a ≡ 0) ⊎ (lastRegion < a) → (leb 1 a && leb a lastRegion) ≡ false
 no-number a (inl e) = rw e refl
 no-number a (inr l) = go (leb 1 a)

@@ -192,8 +192,11 @@ unfetched regions region at = steps ((mode, 1) ∷ regions) seven 11 (fault regi
 
 unfoldable pub deciding : List Row
 deciding =
+    -- a code region is not asked of data
+    unloaded (guest ++ ((x 5, 4) ∷ [])) lbu 0 4
+    ∷ unstored (guest ++ ((x 5, 4) ∷ [])) sb 0 4
     -- a lower region without the permission, a later one with it: "the region that matched without permission"
-    unloaded (both 2 2 7 3) lbu 2 0x14
+    ∷ unloaded (both 2 2 7 3) lbu 2 0x14
     ∷ unloaded (both 2 0 8 1) lbu 2 0x14
     ∷ unloaded (both 2 2 9 3) lbu 2 0x14
     ∷ unloaded (both 7 2 8 3) lbu 7 0x14

@@ -1,5 +1,5 @@
 -- HFI: what question 8 forbids, of every instruction; and what each word of opcode 5b does. Document 01, question 8 and the list after the
--- table; document 02, Jobs 5 and 6.
+-- table; document 02, Jobs 5 to 7.
 -- Region, HfiState and Machine are declared in src/lib.rt, HfiKind and Instruction in instructions/src, Outcome in Outcome.antt. Assumes
 -- nothing.
 use mathlib.Core.Bool.{Bool, cond, not, _&&_}

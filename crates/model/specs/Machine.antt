@@ -64,7 +64,7 @@ redirectsCalls h = cond (inside h) (bit 1 (h .options)) false
 abbrev pub redirectsExits : HfiState → Bool
 redirectsExits h = bit 2 (h .options)
 
--- ---- regions by number, from 1 on; question 8 sees to it that no instruction asks for number 0
+-- ---- regions by number, from 1 on; number 0 is no region: question 8 refuses an instruction with it, and it grants nothing
 
 -- the highest number, and the record has as many regions: "Selector, selected number and fault region go up to 10" (02, Job 7)
 abbrev pub lastRegion : ℕ

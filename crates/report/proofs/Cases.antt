@@ -37,6 +37,11 @@ rows =
     ∷ (ascii "0,5,100,3,1,3,0,0,0,0,fffffffffffffff0,4,a\n", ascii "4,0,0,0,0,0,0,0,0\n")
     -- a fetch past the code region: the fault record, op and address in their places
     ∷ (ascii "10,5,100,200,10,3,0,0,0,0,fffffffffffffff0,4,a\n", ascii "11,0,10,0,0,1,0,3,10\n")
+    -- all ten regions; a fetch that region 10 refuses: its number in hexadecimal
+    ∷ (
+      ascii "0,5,100,0,0,0,0,0,0,0,0,0,0,0,0,0,0,0,0,0,0,0,0,0,0,0,0,0,0,0,0,fffffffffffffff0,0,a\n",
+      ascii "11,0,0,0,0,1,a,3,0\n",
+    )
     -- sixteen steps of a jump to itself, printed in hexadecimal
     ∷ (ascii "0,5,100,200,10,3,0,0,0,0,fffffffffffffff0,4,10\n0,0000006f\n", ascii "21,10,0,0,0,0,0,0,0\n")
     -- document 01's example of a refusal

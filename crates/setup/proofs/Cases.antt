@@ -86,6 +86,7 @@ questions =
     -- 100000000 as the base of region 4, which stands where 13 fields have the budget; 100 and ff as the permission of region 10
     ∷ (three ++ ascii ",100000000,42,43,51,52,53,61,62,63,71,72,73,81,82,83,91,92,93" ++ ten ++ ascii ",a", 0)
     ∷ (three ++ six ++ ascii ",a1,a2,100,a", 34)
+    ∷ (three ++ ascii ",41,42,43,51,52,53,61,62,63,71,72,100,81,82,83,91,92,93" ++ ten ++ ascii ",a", 34)
     ∷ (three ++ six ++ ascii ",a1,a2,ff,a", 0)
     -- an empty permission before the budget, and an empty pc
     ∷ (ascii "0,5,100,200,10,3,0,0,0,0,fffffffffffffff0,,a", 33)

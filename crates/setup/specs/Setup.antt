@@ -28,9 +28,11 @@ setupFields n = 4 + 3 * n
 abbrev pub fewRegions : ℕ
 fewRegions = 3
 
+-- "32 lets 34 pass"
 abbrev pub counted : ℕ → Bool
 counted count = eqb count (setupFields fewRegions) || eqb count (setupFields lastRegion)
 
+-- how many regions a line of so many fields gives
 abbrev pub regionsGiven : ℕ → ℕ
 regionsGiven count = cond (eqb count (setupFields fewRegions)) fewRegions lastRegion
 
