@@ -94,20 +94,20 @@ struct koubospar_machine {
 /* ---- stack and cost -------------------------------------------------------------------------------------------- */
 
 /* The bytes of stack that a call takes, what it is called with included: measured by painting, over every stop and every
- * kind of word, and rounded up. `c/try` measures them again and fails where a call takes more. Measured were 2,712 for a
- * step, 2,344 for a run, 16 for a resumption, 68,168 for a sheet, 336 and 384 for decoding and encoding, 432 for the
- * probe and 552 for a place. No call's stack grows with the memory, the budget or the sheet. */
-#define KOUBOSPAR_STACK_STEP 3072
-#define KOUBOSPAR_STACK_RUN 2560
+ * kind of word, and rounded up. `c/try` measures them again and fails where a call takes more. Measured were 3,784 for a
+ * step, 3,240 for a run, 16 for a resumption, 69,288 for a sheet, 384 and 416 for decoding and encoding, 608 for the
+ * probe and 976 for a place. No call's stack grows with the memory, the budget or the sheet. */
+#define KOUBOSPAR_STACK_STEP 4096
+#define KOUBOSPAR_STACK_RUN 3584
 #define KOUBOSPAR_STACK_RESUME 256
 #define KOUBOSPAR_STACK_RESPOND 69632
 #define KOUBOSPAR_STACK_DECODE 512
 #define KOUBOSPAR_STACK_ENCODE 512
-#define KOUBOSPAR_STACK_PROBE 512
-#define KOUBOSPAR_STACK_PLACE 768
+#define KOUBOSPAR_STACK_PROBE 768
+#define KOUBOSPAR_STACK_PLACE 1152
 
-/* A step call is a run of one step: of a locked machine it costs 852 instructions more than a step inside a run, which
- * costs 129 to 248 on the programs of bench/ (bench/README.md). Make runs, and steps only where one must look in between. */
+/* A step call is a run of one step: of a locked machine it costs 1,340 to 2,500 instructions more than a step inside a run, which
+ * costs 174 to 303 on the programs of bench/ (bench/README.md). Make runs, and steps only where one must look in between. */
 
 /* ---- the calls on a machine ----------------------------------------------------------------------------------- */
 
