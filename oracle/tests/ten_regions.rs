@@ -275,7 +275,7 @@ fn every_aim_is_met() {
         assert_eq!(unmet(&counts.ten_regions), Vec::<String>::new());
         assert_eq!(by_shape(&counts.ten_regions).values().sum::<u64>(), aims().len() as u64);
     }
-    assert_eq!(aims().len(), 12 * 3 * 2 + 6 * 5 * 2 + 2 * 3 + 5 + 4 * 16 * 2);
+    assert_eq!(aims().len(), 12 * 3 * 2 + 6 * 6 * 2 + 2 * 3 + 6 + 4 * 16 * 2);
     for seed in 0..4 {
         let mut counts = Counts::default();
         rounds(&Oracle, &Oracle, 200 + seed, H_ROUNDS, &mut counts);
