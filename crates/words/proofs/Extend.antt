@@ -50,6 +50,36 @@ sext-fits k x h l = eq-eqb _ _ (ap (sext k) (sext-field k x h l))
 pub fits-sext : (k x : ℕ) {n : ℕ} → n ≡ field x 0 k → fitsSigned k x ≡ true → sext k n ≡ x
 fits-sext k x e h = ap (sext k) e ∙ eqb-true _ x h
 
+-- a number below the sign bit of k bits can be expressed by them
+pub low-fits : (k x : ℕ) → k ≤ 64 → x < 2 ^ (k - 1) → fitsSigned k x ≡ true
+low-fits k x h l =
+    let p : 2 ^ (k - 1) ≤ 2 ^ k = pow-mono (omega arith) in
+    let u : x < 2 ^ k = lt-of-lt-of-le l p in
+    let e : field x 0 k ≡ x = rw div-one (mod-eq-of-lt u) in
+    eq-eqb _ _ (ap (sext k) e ∙ sext-low-half k x l (lt-of-lt-of-le u (pow-mono h)))
+
+-- what k bits can express, more bits can
+pub sext-wider : (k n x : ℕ) → 0 < k → k ≤ n → n ≤ 64 → x < 2 ^ k → fitsSigned n (sext k x) ≡ true
+sext-wider k n x p l u b = go (ltb x (2 ^ (k - 1))) refl
+  where
+    go : (t : Bool) → ltb x (2 ^ (k - 1)) ≡ t → fitsSigned n (sext k x) ≡ true
+    go true t =
+        let s = ltb-true x (2 ^ (k - 1)) t in
+        let c : 2 ^ (k - 1) ≤ 2 ^ (n - 1) = pow-mono (omega arith) in
+        let d : k ≤ 64 = omega arith in
+        rw (sext-low-half k x s (lt-of-lt-of-le b (pow-mono d))) (low-fits n x u (lt-of-lt-of-le s c))
+    go false t =
+        let s = ltb-false x (2 ^ (k - 1)) t in
+        let c : 2 ^ (k - 1) ≤ 2 ^ (n - 1) = pow-mono (omega arith) in
+        let d : 2 ^ k ≤ 2 ^ n = pow-mono l in
+        let f : 2 ^ n ≤ 2 ^ 64 = pow-mono u in
+        let v = halves k p in
+        let w : 2 ^ n ≡ 2 ^ (n - 1) + 2 ^ (n - 1) = halves n (omega arith) in
+        let z : x + (2 ^ n - 2 ^ k) < 2 ^ n = omega arith in
+        let e : sext k x ≡ sext n (x + (2 ^ n - 2 ^ k)) =
+        sext-high-half k x (omega arith) s b ∙ sym (sext-high-half n (x + (2 ^ n - 2 ^ k)) u (omega arith) z ∙ omega arith) in
+        rw e (sext-fits n (x + (2 ^ n - 2 ^ k)) u z)
+
 -- flipping bit j of a number below 2^j sets it
 pub xor-clear : (j x : ℕ) → x < 2 ^ j → bitXor x (2 ^ j) ≡ 2 ^ j + x
 xor-clear j x l =

@@ -1,0 +1,3 @@
+pub mod Immediates
+pub mod Table
+pub mod Expand
