@@ -23,6 +23,8 @@ use Rattle.instructions.specs.declared.instruction.Decoded.the-variants.{Legal,
 use Rattle.instructions.specs.declared.instruction.Instruction.{Instruction}
 use Rattle.instructions.specs.declared.instruction.Instruction.the-variants.{Upper, Jal, Jalr, Branch, Load, Store, Immediate, Shift, Addiw, ShiftWord, Register, RegisterWord, Fence, System, HLoad, HStore, Hfi}
 use Rattle.instructions.proofs.RoundTrip.{decoded-range}
+use Rattle.compressed.specs.Expand.{expandHalf, isLong}
+use Rattle.compressed.proofs.InRange.{expanded-range}
 use Rattle.instructions.proofs.Tests.{and-both}
 use Rattle.model.specs.Machine.{bit, sum, reg, fetchOp, largestOptions, inside, locked, entered, lastRegion}
 use Rattle.instructions.specs.HWords.{among}
@@ -32,7 +34,7 @@ use Rattle.model.specs.WritableCode.{WritableCode, writableCode, exposes
 use Rattle.model.specs.Bytes.{value}
 use Rattle.model.specs.Access.{fetchAccess, verdict}
 use Rattle.model.specs.Outcome.{Outcome, stopped, allowed, settle}
-use Rattle.model.specs.Step.{perform, executeInstruction, executeWord, step, longest, stepCall}
+use Rattle.model.specs.Step.{perform, executeInstruction, executeWord, fetching, executeFetched, step, longest, stepCall}
 use Rattle.model.specs.Run.{Ended, ended, runCall}
 use Rattle.model.specs.Hfi.{firstBroken, wordRules, rules, hfiStop}
 use Rattle.model.specs.Isolation.{Locked}
@@ -323,28 +325,56 @@ module _ (m : Machine) (mem : List ℕ) (next : ℕ) (i : Instruction) where
       go true e q = absurd (other-numbers (perform m mem next i .result .stop) (perform-other m mem next i h e) q)
       go false e q = number-rule m i (eqb-false _ _ e)
 
--- the instruction that a step comes to: questions 4 to 7 are answered yes
-pub record Fetches (m : Machine) (mem : List ℕ) (i : Instruction) : Type 0 where
-  pub multiple : m .pc % 4 ≡ 0
-  pub passed : verdict (m .hfi .mode) (length mem) (fetchAccess (m .hfi .regions) (m .pc)) ≡ Passed
+-- the instruction that a step comes to, of a half-word or a long word: questions 4 to 7 are answered yes
+pub record HalfWord (m : Machine) (mem : List ℕ) (size : ℕ) (i : Instruction) : Type 0 where
+  pub two : size ≡ 2
+  pub short : isLong (value mem (m .pc) 0 2) ≡ false
+  pub legal : expandHalf (value mem (m .pc) 0 2) ≡ Legal i
+
+pub record LongWord (m : Machine) (mem : List ℕ) (size : ℕ) (i : Instruction) : Type 0 where
+  pub four : size ≡ 4
+  pub long : isLong (value mem (m .pc) 0 2) ≡ true
+  pub passed : verdict (m .hfi .mode) (length mem) (fetchAccess (m .hfi .regions) (sum (m .pc) 2)) ≡ Passed
   pub legal : decodeWord (value mem (m .pc) 0 4) ≡ Legal i
 
-fetched-step : (m : Machine) (mem : List ℕ) (i : Instruction) → Fetches m mem i → step m mem ≡ executeInstruction m mem (sum (m .pc) 4) i
-unfolding step settle executeWord
-fetched-step m mem i f = rw (f .multiple, f .passed, f .legal) refl
+pub record Fetches (m : Machine) (mem : List ℕ) (i : Instruction) : Type 0 where
+  pub multiple : m .pc % 2 ≡ 0
+  pub passed : verdict (m .hfi .mode) (length mem) (fetchAccess (m .hfi .regions) (m .pc)) ≡ Passed
+  pub size : ℕ
+  pub word : HalfWord m mem size i ⊎ LongWord m mem size i
 
-pub step-stops : (m : Machine) (mem : List ℕ) (i : Instruction) (n : ℕ) → Fetches m mem i → Breaks m i n → step m mem ≡ stopAlone n m mem
-step-stops m mem i n f b = fetched-step m mem i f ∙ instruction-stops m mem _ i n b
+module _ (m : Machine) (mem : List ℕ) (i : Instruction) where
+  fetched-word : (size : ℕ) → HalfWord m mem size i ⊎ LongWord m mem size i
+      → executeFetched m mem (value mem (m .pc) 0 2) ≡ executeInstruction m mem (sum (m .pc) size) i
+  unfolding executeFetched fetching settle executeWord
+  fetched-word size (inl h) = rw (h .short, h .legal, h .two) refl
+  fetched-word size (inr l) = rw (l .long, l .passed, l .legal, l .four) refl
 
--- where no rule is broken the step does what the instruction does, and asks nothing more of HFI
-pub step-allowed : (m : Machine) (mem : List ℕ) (i : Instruction) → Fetches m mem i → ((n : ℕ) → Breaks m i n → ⊥)
-    → step m mem ≡ perform m mem (sum (m .pc) 4) i
-unfolding executeInstruction allowed
-step-allowed m mem i f n = fetched-step m mem i f ∙ go (eqb (hfiStop m i) 0) refl
-  where
-    go : (b : Bool) → eqb (hfiStop m i) 0 ≡ b → cond (eqb (hfiStop m i) 0) (perform m mem (sum (m .pc) 4) i) (stopped (hfiStop m i) m mem) ≡ perform m mem (sum (m .pc) 4) i
-    go true e = rw e refl
-    go false e = absurd (n (hfiStop m i) (number-rule m i (eqb-false _ _ e)))
+  fetched-step : (f : Fetches m mem i) → step m mem ≡ executeInstruction m mem (sum (m .pc) (f .size)) i
+  unfolding step fetching settle
+  fetched-step f = rw (f .multiple, f .passed) (fetched-word (f .size) (f .word))
+
+  fetched-range : Fetches m mem i → inRange i ≡ true
+  fetched-range f = go (f .word)
+    where
+      go : HalfWord m mem (f .size) i ⊎ LongWord m mem (f .size) i → inRange i ≡ true
+      go (inl h) = expanded-range _ i (h .legal)
+      go (inr l) = decoded-range _ i (l .legal)
+
+  pub step-stops : (n : ℕ) → Fetches m mem i → Breaks m i n → step m mem ≡ stopAlone n m mem
+  step-stops n f b = fetched-step f ∙ instruction-stops m mem _ i n b
+
+  -- where no rule is broken the step does what the instruction does, and asks nothing more of HFI
+  pub step-allowed : (f : Fetches m mem i) → ((n : ℕ) → Breaks m i n → ⊥) → step m mem ≡ perform m mem (sum (m .pc) (f .size)) i
+  unfolding executeInstruction allowed
+  step-allowed f n = fetched-step f ∙ go (eqb (hfiStop m i) 0) refl
+    where
+      next : ℕ
+      next = sum (m .pc) (f .size)
+
+      go : (b : Bool) → eqb (hfiStop m i) 0 ≡ b → cond (eqb (hfiStop m i) 0) (perform m mem next i) (stopped (hfiStop m i) m mem) ≡ perform m mem next i
+      go true e = rw e refl
+      go false e = absurd (n (hfiStop m i) (number-rule m i (eqb-false _ _ e)))
 
 -- a step with such a stop
 pub record Forbids (m : Machine) (mem : List ℕ) (n : ℕ) : Type 0 where
@@ -352,25 +382,59 @@ pub record Forbids (m : Machine) (mem : List ℕ) (n : ℕ) : Type 0 where
   pub fetched : Fetches m mem instruction
   pub rule : Breaks m instruction n
 
-pub step-stopped : (m : Machine) (mem : List ℕ) → isHfiStop (step m mem .result .stop) ≡ true → Forbids m mem (step m mem .result .stop)
-unfolding step settle executeWord
-step-stopped m mem q = go (eqb (m .pc % 4) 0) refl (verdict (m .hfi .mode) (length mem) (fetchAccess (m .hfi .regions) (m .pc))) refl (decodeWord (value mem (m .pc) 0 4)) refl q
+-- a fetch that was stopped has no such number
+fetching-passed : (m : Machine) (mem : List ℕ) (a : ℕ) (o : Outcome) → isHfiStop (fetching m mem a o .result .stop) ≡ true
+    → (verdict (m .hfi .mode) (length mem) (fetchAccess (m .hfi .regions) a) ≡ Passed) × (isHfiStop (o .result .stop) ≡ true)
+unfolding fetching settle
+fetching-passed m mem a o q = go (verdict (m .hfi .mode) (length mem) (fetchAccess (m .hfi .regions) a)) refl q
   where
-    comes : (i : Instruction) → Fetches m mem i → isHfiStop (step m mem .result .stop) ≡ true → Forbids m mem (step m mem .result .stop)
-    comes i f q =
-        let e = ap (λ (o : Outcome). o .result .stop) (fetched-step m mem i f) in
-        record { instruction = i; fetched = f; rule = rw e (instruction-stopped m mem _ i (decoded-range _ i (f .legal)) (rw e at q)) }
+    go : (v : Verdict) → verdict (m .hfi .mode) (length mem) (fetchAccess (m .hfi .regions) a) ≡ v → isHfiStop (settle m mem fetchOp 11 12 v o .result .stop) ≡ true
+        → (verdict (m .hfi .mode) (length mem) (fetchAccess (m .hfi .regions) a) ≡ Passed) × (isHfiStop (o .result .stop) ≡ true)
+    go (Refused at region) r q = absurd (false≢true q)
+    go (Absent at) r q = absurd (false≢true q)
+    go Passed r q = (r, q)
 
-    go : (b : Bool) → eqb (m .pc % 4) 0 ≡ b → (v : Verdict) → verdict (m .hfi .mode) (length mem) (fetchAccess (m .hfi .regions) (m .pc)) ≡ v
-        → (d : Decoded) → decodeWord (value mem (m .pc) 0 4) ≡ d
-        → isHfiStop (cond b (settle m mem fetchOp 11 12 v (executeWord m mem d)) (stopped 10 m mem) .result .stop) ≡ true → Forbids m mem (step m mem .result .stop)
-    go false p v r d t q = absurd (false≢true q)
-    go true p (Refused at region) r d t q = absurd (false≢true q)
-    go true p (Absent at) r d t q = absurd (false≢true q)
-    go true p Passed r Illegal t q = absurd (false≢true q)
-    go true p Passed r (Legal i) t q =
-        let f : Fetches m mem i = record { multiple = eqb-true _ _ p; passed = r; legal = t } in
-        comes i f (rw (ap (λ (o : Outcome). o .result .stop) (fetched-step m mem i f)) q)
+-- nor has an illegal word
+record Decodes (d : Decoded) : Type 0 where
+  instruction : Instruction
+  legal : d ≡ Legal instruction
+
+word-legal : (m : Machine) (mem : List ℕ) (size : ℕ) (d : Decoded) → isHfiStop (executeWord m mem size d .result .stop) ≡ true → Decodes d
+unfolding executeWord
+word-legal m mem size (Legal i) q = record { instruction = i; legal = refl }
+word-legal m mem size Illegal q = absurd (false≢true q)
+
+pub step-stopped : (m : Machine) (mem : List ℕ) → isHfiStop (step m mem .result .stop) ≡ true → Forbids m mem (step m mem .result .stop)
+unfolding step executeFetched
+step-stopped m mem q = go (eqb (m .pc % 2) 0) refl q
+  where
+    h : ℕ
+    h = value mem (m .pc) 0 2
+
+    w : ℕ
+    w = value mem (m .pc) 0 4
+
+    Forbidden : Type 0
+    Forbidden = Forbids m mem (step m mem .result .stop)
+
+    comes : (i : Instruction) → Fetches m mem i → Forbidden
+    comes i f =
+        let e = ap (λ (o : Outcome). o .result .stop) (fetched-step m mem i f) in
+        record { instruction = i; fetched = f; rule = rw e (instruction-stopped m mem _ i (fetched-range m mem i f) (rw e at q)) }
+
+    fetched : m .pc % 2 ≡ 0 → verdict (m .hfi .mode) (length mem) (fetchAccess (m .hfi .regions) (m .pc)) ≡ Passed → (b : Bool) → isLong h ≡ b
+        → isHfiStop (cond b (fetching m mem (sum (m .pc) 2) (executeWord m mem 4 (decodeWord w))) (executeWord m mem 2 (expandHalf h)) .result .stop) ≡ true → Forbidden
+    fetched e p true l q =
+        let g = fetching-passed m mem (sum (m .pc) 2) _ q in
+        let d = word-legal m mem 4 (decodeWord w) (g .1) in
+        comes (d .instruction) (record { multiple = e; passed = p; size = 4; word = inr (record { four = refl; long = l; passed = g .0; legal = d .legal }) })
+    fetched e p false l q =
+        let d = word-legal m mem 2 (expandHalf h) q in
+        comes (d .instruction) (record { multiple = e; passed = p; size = 2; word = inl (record { two = refl; short = l; legal = d .legal }) })
+
+    go : (b : Bool) → eqb (m .pc % 2) 0 ≡ b → isHfiStop (cond b (fetching m mem (m .pc) (executeFetched m mem h)) (stopped 10 m mem) .result .stop) ≡ true → Forbidden
+    go false e q = absurd (false≢true q)
+    go true e q = let f = fetching-passed m mem (m .pc) _ q in fetched (eqb-true _ _ e) (f .0) (isLong h) refl (f .1)
 
 -- ---- of the calls
 

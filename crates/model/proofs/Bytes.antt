@@ -3,7 +3,7 @@
 use mathlib.Core.Path.{_≡_, refl, sym, _∙_}
 use mathlib.Core.Logic.{_≢_}
 use mathlib.Core.List.{List}
-use Prim.Native.Nat.{ℕ, zero, suc, _+_, _/_, _%_, _<_, _≤_}
+use Prim.Native.Nat.{ℕ, zero, suc, _+_, _*_, _/_, _%_, _<_, _≤_}
 use native.Mathlib.Decide.{ℕ-discrete, decLt}
 use native.Mathlib.Omega.{arith}
 use lib.ListN.{length, getD, set, length-set}
@@ -17,6 +17,14 @@ unfolding value
 value-same s t a zero i h = refl
 value-same s t a (suc n) i h =
     cc (h i (omega arith) (omega arith), value-same s t a n (suc i) (λ j p q. h j (omega arith) (omega arith)))
+
+-- a word of four bytes is two halves
+pub value-halves : (s : List ℕ) (a : ℕ) → value s a 0 4 ≡ value s a 0 2 + 65536 * value s (byteOf a 2) 0 2
+unfolding value
+value-halves s a =
+    let p : byteOf (byteOf a 2) 0 ≡ byteOf a 2 = omega arith in
+    let q : byteOf (byteOf a 2) 1 ≡ byteOf a 3 = omega arith in
+    rw (p, q) (omega arith)
 
 pub length-written : (n i : ℕ) (s : List ℕ) (a v : ℕ) → length (written s a i n v) ≡ length s
 unfolding written

@@ -19,7 +19,8 @@ use Rattle.model.specs.Hfi.{hfiStop, hfiPerform}
 use Rattle.model.specs.Regions.{explicitRule, matches, firstMatch, implicitGrants, explicitGrants}
 use Rattle.model.specs.WritableCode.{explicitCovers, writableCode, exposesCode}
 use Rattle.model.specs.Access.{scan, firstRefused, firstAbsent, verdict}
-use Rattle.model.specs.Step.{load, store, jump, branch, perform, executeInstruction, executeWord, step, stepCall, resumeCall}
+use Rattle.model.specs.Step.{load, store, perform, executeInstruction, executeWord, fetching, executeFetched, step, stepCall, resumeCall}
+use Rattle.compressed.specs.Expand.{expandHalf}
 use Rattle.model.specs.Run.{ended, runBy, runCall}
 use Rattle.model.specs.declared.Machine.{Machine}
 use Rattle.model.proofs.Rows.{Row, found, stated, x, pc, mode, reason, epc, options, handler, selector, base, bound, permission, occurred, faultRegion, op, faulting, puts, regionOf, with, bytes}
@@ -170,12 +171,13 @@ entering =
     ∷ goes (outside 6 ++ operands 0 0) enter ((mode, 1) ∷ (options, 0) ∷ (occurred, 0) ∷ [])
     -- "The jump form sets pc to rs2."
     ∷ steps (outside 6 ++ operands 9 0x100) enterJump 0 ((pc, 0x100) ∷ (mode, 1) ∷ (options, 9) ∷ (occurred, 0) ∷ [])
-    -- "Is the target of .. an enter with jump a multiple of 4?"
-    ∷ steps (outside 6 ++ operands 9 0x102) enterJump 15 []
+    -- "the target of an enter with jump, which must be a multiple of 2" (02, Job 8)
+    ∷ steps (outside 6 ++ operands 9 0x102) enterJump 0 ((pc, 0x102) ∷ (mode, 1) ∷ (options, 9) ∷ (occurred, 0) ∷ [])
+    ∷ steps (outside 6 ++ operands 9 0x103) enterJump 15 []
     -- "an options operand above 15", before the target
     ∷ forbidden 14 (outside 6 ++ operands 16 0) enter
     ∷ forbidden 14 (outside 6 ++ operands (2 ^ 32) 0) enter
-    ∷ forbidden 14 (outside 6 ++ operands 16 0x102) enterJump
+    ∷ forbidden 14 (outside 6 ++ operands 16 0x103) enterJump
     ∷ forbidden 14 (outside 6 ++ operands (2 ^ 32) 0x100) enterJump
     -- "23, enter in HFI mode"
     ∷ forbidden 23 (inside 0 ++ operands 0 0) enter
@@ -375,17 +377,17 @@ running-on =
 
 unfoldable pub asking : List Row
 asking =
-    -- questions 4, 7 and 9 outside HFI mode, and in it
-    stepsOver (outside 0 ++ ((pc, 2) ∷ [])) (bytes (seven ∷ seven ∷ [])) 10 0 []
+    -- questions 4 and 7 outside HFI mode, and in it; "jumps and branches never get" 15 (02, Job 8)
+    stepsOver (outside 0 ++ ((pc, 3) ∷ [])) (bytes (seven ∷ seven ∷ [])) 10 0 []
     ∷ stepsOver (inside 0 ++ ((pc, 1) ∷ [])) (bytes (seven ∷ seven ∷ [])) 10 0 []
     ∷ steps (outside 0) 0 13 []
     ∷ steps (inside 0) 0 13 []
-    ∷ steps (outside 0) jal 15 []
-    ∷ steps (inside 0) jal 15 []
-    ∷ steps (outside 0) beq 15 []
-    ∷ steps (inside 0) beq 15 []
+    ∷ steps (outside 0) jal 0 ((pc, 2) ∷ [])
+    ∷ steps (inside 0) jal 0 ((pc, 2) ∷ [])
+    ∷ steps (outside 0) beq 0 ((pc, 6) ∷ [])
+    ∷ steps (inside 0) beq 0 ((pc, 6) ∷ [])
     ∷ goes (outside 0 ++ operands 1 0) beq5 []
-    -- "5. In HFI mode, are all four bytes executable?" before "6. Are they in memory?"
+    -- "5. In HFI mode, are all .. bytes executable?" before "6. Are they in memory?"
     ∷ stepsOver (inside 0 ++ ((pc, 0x20) ∷ [])) (bytes (seven ∷ [])) 11 0 ((occurred, 1) ∷ (faultRegion, 0) ∷ (op, 3) ∷ (faulting, 0x20) ∷ [])
     -- 18 and 19 outside HFI mode
     ∷ steps (outside 0) ecall 18 []
@@ -482,7 +484,7 @@ offsets =
 unfoldable pub absent : List Row
 absent =
     -- "12 and 17 also give the first absent address, counted from the access's start": here it is not the first byte
-    stepsOver (outside 0 ++ ((pc, 8) ∷ [])) (bytes (0 ∷ 0 ∷ []) ++ (0 ∷ 0 ∷ [])) 12 10 []
+    stepsOver (outside 0 ++ ((pc, 8) ∷ [])) (bytes (0 ∷ 0 ∷ []) ++ (3 ∷ 0 ∷ [])) 12 10 []
     ∷ stepsOver (inside 0 ++ ((pc, 8) ∷ [])) (bytes (0 ∷ 0 ∷ []) ++ (0 ∷ [])) 12 9 []
     ∷ stepsOver (outside 0 ++ operands 1 0) (bytes (ld ∷ []) ++ (0 ∷ [])) 17 5 []
     ∷ stepsOver (outside 0 ++ operands 2 0) (bytes (sd ∷ [])) 17 4 []
@@ -497,7 +499,7 @@ absent =
     ∷ stepsOver (inside 0) (bytes (0x0000000b ∷ [])) 17 0x10 []
     -- "all others give 0 there", at a pc that is not 0: 13, 15, and 16 by hlb x0, 8(x0)
     ∷ runs (outside 0) (seven ∷ 0 ∷ []) 9 13 1 0 ((pc, 4) ∷ (x 7, 7) ∷ [])
-    ∷ runs (outside 0) (seven ∷ jal ∷ []) 9 15 1 0 ((pc, 4) ∷ (x 7, 7) ∷ [])
+    ∷ runs (outside 0 ++ operands 0 0x103) (seven ∷ enterJump ∷ []) 9 15 1 0 ((pc, 4) ∷ (x 7, 7) ∷ [])
     ∷ runs (inside 0) (seven ∷ 0x0080000b ∷ []) 9 16 1 0 ((pc, 4) ∷ (x 7, 7) ∷ (occurred, 1) ∷ (faultRegion, 1) ∷ (op, 1) ∷ (faulting, 0x18) ∷ [])
     -- every byte is asked for its region before any for memory's end
     ∷ stepsOver (inside 0 ++ operands 0x7c 0) (bytes (ld ∷ [])) 16 0 ((occurred, 1) ∷ (faultRegion, 0) ∷ (op, 1) ∷ (faulting, 0x80) ∷ [])
@@ -579,7 +581,7 @@ abbrev pub rows : List Row
 rows = entering ++ leaving ++ locking ++ numbering ++ keeping ++ running-on ++ asking ++ operating ++ offsets ++ absent ++ going-on ++ forming
 
 pub clauses : found rows ≡ stated rows
-unfolding entering leaving locking numbering keeping running-on asking operating offsets absent going-on forming trailingZeros sext lowHalf highHalf quotient remainder decodeWord matches explicitRule firstMatch implicitGrants explicitGrants explicitCovers writableCode exposesCode scan firstRefused firstAbsent verdict value written allowed aligned settle stateFits wellFormed hfiStop hfiPerform load store jump branch perform executeInstruction executeWord step stepCall resumeCall runBy runCall
+unfolding entering leaving locking numbering keeping running-on asking operating offsets absent going-on forming trailingZeros sext lowHalf highHalf quotient remainder decodeWord expandHalf matches explicitRule firstMatch implicitGrants explicitGrants explicitCovers writableCode exposesCode scan firstRefused firstAbsent verdict value written allowed aligned settle stateFits wellFormed hfiStop hfiPerform load store perform executeInstruction executeWord fetching executeFetched step stepCall resumeCall runBy runCall
 clauses = refl
 
 -- ---- resuming, of every machine: "it asks question 3 only"

@@ -1,33 +1,37 @@
 -- Demand 3: two runs of a locked machine over memories that agree on what it may read or execute cannot be told apart.
 -- One step first, by what a step can do (Moves.antt): three doors to memory, and all else; then the run, by its budget.
 -- Assumes nothing.
-use mathlib.Core.Path.{_≡_, refl, ap, sym, _∙_}
+use mathlib.Core.Path.{_≡_, refl, ap, ap₂, sym, _∙_}
 use mathlib.Core.Bool.{Bool, true, false, cond, not}
 use mathlib.Core.List.{List}
-use Prim.Native.Nat.{ℕ, zero, suc, _%_}
+use Prim.Native.Nat.{ℕ, zero, suc, _+_, _*_, _%_}
 use native.Mathlib.Omega.{arith}
 use lib.ListN.{length, getD}
 use lib.Dec.{eqb, ltb}
 use borrow.Author.Tests.{eqb-true, eq-eqb}
 use Rattle.words.specs.Word.{field}
 use Rattle.instructions.specs.Decode.{decodeWord}
-use Rattle.model.specs.Machine.{loadOp, storeOp, fetchOp, inside}
+use Rattle.instructions.specs.declared.instruction.Decoded.{Decoded}
+use Rattle.instructions.proofs.RoundTrip.{decoded-range}
+use Rattle.compressed.specs.Expand.{expandHalf, isLong}
+use Rattle.compressed.proofs.InRange.{expanded-range}
+use Rattle.model.specs.Machine.{sum, loadOp, storeOp, fetchOp, inside}
 use Rattle.model.specs.WellFormed.{wellFormed}
 use Rattle.model.specs.WritableCode.{exposesCode}
 use Rattle.model.specs.Bytes.{byteOf, value}
 use Rattle.model.specs.Access.{verdict, fetchAccess}
 use Rattle.model.specs.Reach.{Readable, Writable, Executable}
 use Rattle.model.specs.Outcome.{Outcome, outcome, settle}
-use Rattle.model.specs.Step.{load, store, executeWord, step, longest}
+use Rattle.model.specs.Step.{load, store, executeWord, fetching, executeFetched, step, longest}
 use Rattle.model.specs.Run.{Ended, ended, runBy, run, runCall, largestBudget}
 use Rattle.model.specs.Isolation.{Locked, Agree, Isolated, Isolation}
 use Rattle.model.specs.declared.Machine.{Machine}
 use Rattle.model.specs.declared.Ran.{Ran}
 use Rattle.model.specs.declared.Verdict.{Verdict}
 use Rattle.model.specs.declared.Verdict.the-variants.{Passed, Refused, Absent}
-use Rattle.model.proofs.Bytes.{value-same, written-same}
+use Rattle.model.proofs.Bytes.{value-same, value-halves, written-same}
 use Rattle.model.proofs.Cleared.{passing}
-use Rattle.model.proofs.Moves.{Settings, Move, enact, Executed, word-executed}
+use Rattle.model.proofs.Moves.{Settings, Move, enact, Executed, Ranged, word-executed}
 use Rattle.model.proofs.Runs.{step-length, step-settings, run-length, locked-unwritten, locked-executable}
 
 -- what a step does over s and over t
@@ -64,25 +68,50 @@ module _ (m : Machine) (s t : List ℕ) (l : Locked m) (g : Agree m s t) where
       (settle-related m s t storeOp 16 17 (verdict (m .hfi .mode) (length s) a) _ _
       (λ h. record { result = refl; agreeing = λ b e. written-same (a .count) 0 s t (a .first) v b (g .lengths) e }))
 
-  word-related : (w : ℕ) → Related s t (executeWord m s (decodeWord w)) (executeWord m t (decodeWord w))
-  word-related w = go (word-executed m w)
+  word-related : (size : ℕ) (d : Decoded) → Ranged d → Related s t (executeWord m s size d) (executeWord m t size d)
+  word-related size d r = go (word-executed m size d r)
     where
       go : {f : List ℕ → Outcome} → Executed m f → Related s t (f s) (f t)
       go (Executed.forbidden stop h same) = rw (same s, same t) (quiet s t stop 0 m)
       go (Executed.moves ns h v) = rw (v .same s, v .same t) (move-related (v .move))
 
+  -- two bytes that are fetched are executable, so they are the same in both
+  fetching-related : (a : ℕ) (o p : Outcome) → a % 2 ≡ 0 → (value s a 0 2 ≡ value t a 0 2 → Related s t o p) → Related s t (fetching m s a o) (fetching m t a p)
+  unfolding fetching
+  fetching-related a o p e r =
+      rw (sym (g .lengths))
+      (settle-related m s t fetchOp 11 12 (verdict (m .hfi .mode) (length s) (fetchAccess (m .hfi .regions) a)) o p
+      (λ h. r (value-same s t a 2 0 (λ j q u. g .executable (byteOf a j) (Executable.byFetch a e (passing (m .hfi .mode) (length s) _ (l .mode) h j (omega arith)))))))
+
+  fetched-related : m .pc % 2 ≡ 0 → value s (m .pc) 0 2 ≡ value t (m .pc) 0 2
+      → Related s t (executeFetched m s (value s (m .pc) 0 2)) (executeFetched m t (value t (m .pc) 0 2))
+  unfolding executeFetched
+  fetched-related e same = rw (sym same) (go (isLong h))
+    where
+      h : ℕ
+      h = value s (m .pc) 0 2
+
+      word-same : value s (sum (m .pc) 2) 0 2 ≡ value t (sum (m .pc) 2) 0 2 → value s (m .pc) 0 4 ≡ value t (m .pc) 0 4
+      word-same q = value-halves s (m .pc) ∙ ap₂ (λ (x y : ℕ). x + 65536 * y) same q ∙ sym (value-halves t (m .pc))
+
+      go : (b : Bool)
+          → Related s t
+          (cond b (fetching m s (sum (m .pc) 2) (executeWord m s 4 (decodeWord (value s (m .pc) 0 4)))) (executeWord m s 2 (expandHalf h)))
+          (cond b (fetching m t (sum (m .pc) 2) (executeWord m t 4 (decodeWord (value t (m .pc) 0 4)))) (executeWord m t 2 (expandHalf h)))
+      go true =
+          fetching-related (sum (m .pc) 2) _ _ (omega (arith, e))
+          (λ q. rw (sym (word-same q)) (word-related 4 (decodeWord (value s (m .pc) 0 4)) (decoded-range (value s (m .pc) 0 4))))
+      go false = word-related 2 (expandHalf h) (expanded-range h)
+
   step-related : Related s t (step m s) (step m t)
   unfolding step
-  step-related = rw (sym (g .lengths)) (go (eqb (m .pc % 4) 0) refl)
+  step-related = go (eqb (m .pc % 2) 0) refl
     where
-      go : (b : Bool) → eqb (m .pc % 4) 0 ≡ b
+      go : (b : Bool) → eqb (m .pc % 2) 0 ≡ b
           → Related s t
-          (cond b (settle m s fetchOp 11 12 (verdict (m .hfi .mode) (length s) (fetchAccess (m .hfi .regions) (m .pc))) (executeWord m s (decodeWord (value s (m .pc) 0 4)))) (outcome 10 0 m s))
-          (cond b (settle m t fetchOp 11 12 (verdict (m .hfi .mode) (length s) (fetchAccess (m .hfi .regions) (m .pc))) (executeWord m t (decodeWord (value t (m .pc) 0 4)))) (outcome 10 0 m t))
-      go true q =
-          settle-related m s t fetchOp 11 12 _ _ _ (λ h.
-          rw (sym (value-same s t (m .pc) 4 0 (λ j p r. g .executable (byteOf (m .pc) j) (Executable.byFetch (m .pc) (eqb-true _ _ q) (passing (m .hfi .mode) (length s) _ (l .mode) h j (omega arith))))))
-          (word-related (value s (m .pc) 0 4)))
+          (cond b (fetching m s (m .pc) (executeFetched m s (value s (m .pc) 0 2))) (outcome 10 0 m s))
+          (cond b (fetching m t (m .pc) (executeFetched m t (value t (m .pc) 0 2))) (outcome 10 0 m t))
+      go true q = fetching-related (m .pc) _ _ (eqb-true _ _ q) (fetched-related (eqb-true _ _ q))
       go false q = quiet s t 10 0 m
 
   -- and what holds of m, s and t holds after the step, unless it leaves HFI mode

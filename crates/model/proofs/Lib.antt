@@ -8,6 +8,7 @@ pub mod Cases
 pub mod Clauses
 pub mod WritableRows
 pub mod RegionRows
+pub mod HalfRows
 pub mod Decides
 pub mod Integer
 pub mod Isolation

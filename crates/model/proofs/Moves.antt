@@ -24,8 +24,10 @@ use Rattle.instructions.specs.declared.instruction.Instruction.the-variants.{Up
 use Rattle.instructions.specs.declared.instruction.Decoded.{Decoded}
 use Rattle.instructions.specs.declared.instruction.Decoded.the-variants.{Legal, Illegal}
 use Rattle.instructions.proofs.RoundTrip.{decoded-range}
+use Rattle.compressed.specs.Expand.{expandHalf, isLong}
+use Rattle.compressed.proofs.InRange.{expanded-range}
 use Rattle.instructions.proofs.Tests.{and-both}
-use Rattle.model.specs.Machine.{reg, setReg, loadOp, storeOp, fetchOp, largestOptions, inside, locked, redirectsCalls, region, zeroRegions, entered, exited, machine, lastRegion}
+use Rattle.model.specs.Machine.{sum, reg, setReg, loadOp, storeOp, fetchOp, largestOptions, inside, locked, redirectsCalls, region, zeroRegions, entered, exited, machine, lastRegion}
 use Rattle.instructions.specs.HWords.{explicitRegions, among}
 use Rattle.instructions.proofs.HWords.{explicit-bounds}
 use Rattle.instructions.proofs.Tests.{h-load-range, h-store-range}
@@ -36,9 +38,8 @@ use Rattle.model.specs.Bytes.{value, written}
 use Rattle.model.specs.Access.{Access, verdict, fetchAccess, loadAccess, storeAccess, hloadAccess, hstoreAccess}
 use Rattle.model.specs.Reach.{Passes, Readable, Writable}
 use Rattle.model.specs.Outcome.{Outcome, outcome, stopped, allowed, aligned, faulted, settle}
-use Rattle.model.specs.Arithmetic.{taken}
 use Rattle.model.specs.Hfi.{wordRules, hfiStop, changed, hfiPerform}
-use Rattle.model.specs.Step.{load, store, jump, branch, perform, executeInstruction, executeWord, step}
+use Rattle.model.specs.Step.{load, store, perform, executeInstruction, executeWord, fetching, executeFetched, step}
 use Rattle.model.specs.declared.Region.{Region}
 use Rattle.model.specs.declared.HfiState.{HfiState}
 use Rattle.model.specs.declared.Machine.{Machine}
@@ -99,9 +100,9 @@ proper S stop at = S stop && isAddress stop at
 -- the numbers of questions 9 to 13 that may stop an instruction: a jump's target, the bytes of an access, ECALL, EBREAK; and no others
 abbrev pub laterStops : Instruction → List ℕ
 laterStops (Upper k rd imm) = []
-laterStops (Jal rd offset) = 15 ∷ []
-laterStops (Jalr rd rs1 imm) = 15 ∷ []
-laterStops (Branch k rs1 rs2 offset) = 15 ∷ []
+laterStops (Jal rd offset) = []
+laterStops (Jalr rd rs1 imm) = []
+laterStops (Branch k rs1 rs2 offset) = []
 laterStops (Load k rd rs1 imm) = 16 ∷ 17 ∷ []
 laterStops (Store k rs1 rs2 imm) = 16 ∷ 17 ∷ []
 laterStops (Immediate k rd rs1 imm) = []
@@ -238,7 +239,7 @@ module _ (m : Machine) where
 
   aligns : {ns : List ℕ} (target : ℕ) {f : List ℕ → Outcome} → proper (oneOf ns) 15 0 ≡ true → Moves ns m f → Moves ns m (λ mem. aligned m mem target (f mem))
   unfolding aligned
-  aligns target h p = by-test (eqb (target % 4) 0) (λ e. p) (λ e. stop 15 h)
+  aligns target h p = by-test (eqb (target % 2) 0) (λ e. p) (λ e. stop 15 h)
 
 -- ---- the words of opcode 5b
 
@@ -353,13 +354,12 @@ module _ (m : Machine) where
   storing next a v w = record { move = Move.stores next a v (refl, refl) w; same = λ mem. refl }
 
   pub perform-moves : (next : ℕ) (i : Instruction) → inRange i ≡ true → eqb (hfiStop m i) 0 ≡ true → Moves (laterStops i) m (λ mem. perform m mem next i)
-  unfolding perform jump branch
+  unfolding perform
   perform-moves next (Upper Lui rd imm) h e = assigns m next rd _
   perform-moves next (Upper Auipc rd imm) h e = assigns m next rd _
-  perform-moves next (Jal rd offset) h e = aligns m _ refl (assigns m _ rd next)
-  perform-moves next (Jalr rd rs1 imm) h e = aligns m _ refl (assigns m _ rd next)
-  perform-moves next (Branch k rs1 rs2 offset) h e =
-      by-test m (taken k (reg (m .x) rs1) (reg (m .x) rs2)) (λ t. aligns m _ refl (onward m (m .x) _ (λ z. z))) (λ t. onward m (m .x) next (λ z. z))
+  perform-moves next (Jal rd offset) h e = assigns m _ rd next
+  perform-moves next (Jalr rd rs1 imm) h e = assigns m _ rd next
+  perform-moves next (Branch k rs1 rs2 offset) h e = onward m (m .x) _ (λ z. z)
   perform-moves next (Load k rd rs1 imm) h e =
       loading next (loadAccess (m .hfi .regions) (m .x) k rs1 imm) k rd
       (record { few = load-width k; reach = λ b p. Readable.byLoad _ (m .x) k rd rs1 imm (encodes _ h) p; numbered = λ i. match-numbered _ dataRegions _ refl })
@@ -421,6 +421,10 @@ later-other (Hfi k rd rs1 rs2) = go (eqb (hfiCode k) 1)
     go true = refl
     go false = refl
 
+-- what is decoded has every field in its range; so it is of a long word, and of a half-word's expansion
+abbrev pub Ranged : Decoded → Type 0
+Ranged d = (i : Instruction) → d ≡ Legal i → inRange i ≡ true
+
 module _ (m : Machine) where
   pub instruction-executed : (next : ℕ) (i : Instruction) → inRange i ≡ true → Executed m (λ mem. executeInstruction m mem next i)
   unfolding executeInstruction allowed
@@ -430,14 +434,10 @@ module _ (m : Machine) where
       go true e = Executed.moves (laterStops i) (later-other i) (let p = perform-moves m next i h e in record { move = p .move; same = p .same })
       go false e = Executed.forbidden (hfiStop m i) (forbidden-listed m i e) (λ mem. refl)
 
-  -- a word's instruction is in range
-  pub word-executed : (w : ℕ) → Executed m (λ mem. executeWord m mem (decodeWord w))
+  pub word-executed : (size : ℕ) (d : Decoded) → Ranged d → Executed m (λ mem. executeWord m mem size d)
   unfolding executeWord
-  word-executed w = go (decodeWord w) refl
-    where
-      go : (d : Decoded) → decodeWord w ≡ d → Executed m (λ mem. executeWord m mem d)
-      go (Legal i) e = instruction-executed _ i (decoded-range w i e)
-      go Illegal e = Executed.moves (13 ∷ []) refl (stop m 13 refl)
+  word-executed size (Legal i) r = instruction-executed _ i (r i refl)
+  word-executed size Illegal r = Executed.moves (13 ∷ []) refl (stop m 13 refl)
 
 -- ---- the law
 
@@ -511,15 +511,29 @@ module _ (m : Machine) (mem : List ℕ) where
       zero-address n = or-second (eqb n 12) _ (or-second (eqb n 17) true refl)
   executed-does (Executed.moves ns h p) = any-stop ns h (does p)
 
+  fetching-does : (a : ℕ) (o : Outcome) → Does isStop m mem o → Does isStop m mem (fetching m mem a o)
+  unfolding fetching
+  fetching-does a o d =
+      settles fetchOp 11 12 _ _ refl refl (λ at. refl) (faults (m .hfi .mode) (length mem) _ (λ i. match-numbered _ codeRegions _ refl)) (λ e. d)
+
+  word-does : (size : ℕ) (d : Decoded) → Ranged d → Does isStop m mem (executeWord m mem size d)
+  word-does size d r = executed-does (word-executed m size d r)
+
+  fetched-does : (h : ℕ) → Does isStop m mem (executeFetched m mem h)
+  unfolding executeFetched
+  fetched-does h = go (isLong h)
+    where
+      w : ℕ
+      w = value mem (m .pc) 0 4
+
+      go : (b : Bool) → Does isStop m mem (cond b (fetching m mem (sum (m .pc) 2) (executeWord m mem 4 (decodeWord w))) (executeWord m mem 2 (expandHalf h)))
+      go true = fetching-does _ _ (word-does 4 (decodeWord w) (decoded-range w))
+      go false = word-does 2 (expandHalf h) (expanded-range h)
+
   pub step-does : Does isStop m mem (step m mem)
   unfolding step
-  step-does = go (eqb (m .pc % 4) 0)
+  step-does = go (eqb (m .pc % 2) 0)
     where
-      fetched : Does isStop m mem (settle m mem fetchOp 11 12 (verdict (m .hfi .mode) (length mem) (fetchAccess (m .hfi .regions) (m .pc))) (executeWord m mem (decodeWord (value mem (m .pc) 0 4))))
-      fetched =
-          settles fetchOp 11 12 _ _ refl refl (λ at. refl) (faults (m .hfi .mode) (length mem) _ (λ i. match-numbered _ codeRegions _ refl))
-          (λ e. executed-does (word-executed m (value mem (m .pc) 0 4)))
-
-      go : (b : Bool) → Does isStop m mem (cond b (settle m mem fetchOp 11 12 (verdict (m .hfi .mode) (length mem) (fetchAccess (m .hfi .regions) (m .pc))) (executeWord m mem (decodeWord (value mem (m .pc) 0 4)))) (outcome 10 0 m mem))
-      go true = fetched
+      go : (b : Bool) → Does isStop m mem (cond b (fetching m mem (m .pc) (executeFetched m mem (value mem (m .pc) 0 2))) (outcome 10 0 m mem))
+      go true = fetching-does _ _ (fetched-does (value mem (m .pc) 0 2))
       go false = any-stop (10 ∷ []) refl (does {ns = 10 ∷ []} (stop m 10 refl))

@@ -172,11 +172,11 @@ form-writable rs b (inr h) =
     (encodes (HStore Sb n 1 0 0) (h-word-of n {a = 1} {b = 0} (h .listed) (lit< tt) (lit< tt) refl)) (passes-explicit rs n write b (h .inside))
 
 pub executable-form : (rs : List Region) (b : ℕ) → Executable rs b → InImplicit rs codeRegions execute b
-executable-form rs b (Executable.byFetch pc q h) = granted-there rs codeRegions execute pc 4 b h
+executable-form rs b (Executable.byFetch pc q h) = granted-there rs codeRegions execute pc 2 b h
 
 pub form-executable : (rs : List Region) (b : ℕ) → InImplicit rs codeRegions execute b → Executable rs b
 form-executable rs b h =
-    Executable.byFetch (b / 4 * 4) (omega arith) (passes-there rs codeRegions execute (b / 4 * 4) 4 (b % 4) b (omega arith) (omega (arith, h .address)) h)
+    Executable.byFetch (b / 2 * 2) (omega arith) (passes-there rs codeRegions execute (b / 2 * 2) 2 (b % 2) b (omega arith) (omega (arith, h .address)) h)
 
 -- ---- what implicit regions grant, one of them grants
 

@@ -21,7 +21,8 @@ use Rattle.model.specs.Hfi.{hfiStop, hfiPerform}
 use Rattle.model.specs.Regions.{explicitRule, matches, firstMatch, implicitGrants, explicitGrants}
 use Rattle.model.specs.WritableCode.{explicitCovers, writableCode, exposesCode}
 use Rattle.model.specs.Access.{scan, firstRefused, firstAbsent, verdict}
-use Rattle.model.specs.Step.{load, store, perform, executeInstruction, executeWord, step, stepCall, resumeCall}
+use Rattle.model.specs.Step.{load, store, perform, executeInstruction, executeWord, fetching, executeFetched, step, stepCall, resumeCall}
+use Rattle.compressed.specs.Expand.{expandHalf}
 use Rattle.model.specs.Run.{runBy, runCall}
 use Rattle.model.proofs.Rows.{Row, found, stated, x, pc, mode, reason, epc, options, handler, selector, base, bound, permission, occurred, faultRegion, op, faulting, puts, with, bytes}
 use Rattle.model.proofs.Rows.Question.{decoding, exposing, judging, running}
@@ -563,5 +564,5 @@ abbrev pub rows : List Row
 rows = kinds ++ deciding ++ judging-singly ++ choosing ++ chosen ++ exposing-rows ++ running-on
 
 pub rows-hold : found rows ≡ stated rows
-unfolding kinds deciding judging-singly choosing chosen exposing-rows running-on trailingZeros sext decodeWord matches explicitRule firstMatch implicitGrants explicitGrants explicitCovers writableCode exposesCode scan firstRefused firstAbsent verdict value written allowed aligned settle stateFits wellFormed hfiStop hfiPerform load store perform executeInstruction executeWord step stepCall resumeCall runBy runCall
+unfolding kinds deciding judging-singly choosing chosen exposing-rows running-on trailingZeros sext decodeWord expandHalf matches explicitRule firstMatch implicitGrants explicitGrants explicitCovers writableCode exposesCode scan firstRefused firstAbsent verdict value written allowed aligned settle stateFits wellFormed hfiStop hfiPerform load store perform executeInstruction executeWord fetching executeFetched step stepCall resumeCall runBy runCall
 rows-hold = refl

@@ -21,7 +21,8 @@ use Rattle.model.specs.Hfi.{hfiStop, hfiPerform}
 use Rattle.model.specs.Regions.{read, execute, permits, dataRegions, codeRegions, explicitRule, matches, firstMatch, implicitGrants, explicitGrants}
 use Rattle.model.specs.WritableCode.{explicitCovers, writableCode, exposesCode}
 use Rattle.model.specs.Access.{scan, firstRefused, firstAbsent, verdict}
-use Rattle.model.specs.Step.{load, store, perform, executeInstruction, executeWord, step}
+use Rattle.model.specs.Step.{load, store, perform, executeInstruction, executeWord, fetching, executeFetched, step}
+use Rattle.compressed.specs.Expand.{expandHalf}
 use Rattle.model.specs.Run.{runBy, runCall}
 use Rattle.model.specs.Reach.{Readable, Writable}
 use Rattle.model.specs.Isolation.{Locked, Agree}
@@ -108,7 +109,7 @@ abbrev rows : List Row
 rows = (running guest one 9, answer one) ∷ (running guest two 9, answer two) ∷ []
 
 pub runs-done : found rows ≡ stated rows
-unfolding trailingZeros sext decodeWord matches explicitRule firstMatch implicitGrants explicitGrants explicitCovers writableCode exposesCode scan firstRefused firstAbsent verdict value written allowed settle stateFits wellFormed hfiStop hfiPerform load store perform executeInstruction executeWord step runBy runCall
+unfolding trailingZeros sext decodeWord expandHalf matches explicitRule firstMatch implicitGrants explicitGrants explicitCovers writableCode exposesCode scan firstRefused firstAbsent verdict value written allowed settle stateFits wellFormed hfiStop hfiPerform load store perform executeInstruction executeWord fetching executeFetched step runBy runCall
 runs-done = refl
 
 -- ---- what h-words reach, of a region of 2^24 bytes from 10000 on and no other: with the permission all of it, and nothing else

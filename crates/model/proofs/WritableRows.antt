@@ -15,7 +15,8 @@ use Rattle.model.specs.Hfi.{hfiStop, hfiPerform}
 use Rattle.model.specs.Regions.{explicitRule, matches, firstMatch, implicitGrants, explicitGrants}
 use Rattle.model.specs.WritableCode.{explicitCovers, writableCode, exposesCode}
 use Rattle.model.specs.Access.{scan, firstRefused, firstAbsent, verdict}
-use Rattle.model.specs.Step.{load, store, perform, executeInstruction, executeWord, step, stepCall, resumeCall}
+use Rattle.model.specs.Step.{load, store, perform, executeInstruction, executeWord, fetching, executeFetched, step, stepCall, resumeCall}
+use Rattle.compressed.specs.Expand.{expandHalf}
 use Rattle.model.specs.Run.{runBy, runCall}
 use Rattle.model.specs.declared.Region.{Region}
 use Rattle.model.proofs.Rows.{Row, found, stated, x, pc, mode, options, selector, base, bound, permission, occurred, regionOf, bytes}
@@ -101,7 +102,7 @@ asking =
     -- "4, for a step or run given such a machine in locked HFI mode": before its pc, its budget, its memory
     steps (inside 1 ++ writing) seven 4 []
     ∷ steps (inside 0xf ++ writing) 0 4 []
-    ∷ steps (inside 1 ++ writing ++ ((pc, 2) ∷ [])) seven 4 []
+    ∷ steps (inside 1 ++ writing ++ ((pc, 3) ∷ [])) seven 4 []
     ∷ stepsOver (inside 1 ++ writing) [] 4 0 []
     ∷ runs (inside 1 ++ writing) (seven ∷ []) 1 4 0 0 []
     ∷ runs (inside 1 ++ writing) (seven ∷ []) 0 4 0 0 []
@@ -138,14 +139,14 @@ asking =
     ∷ steps (outside 0 ++ writing ++ operands 2 0x100) enterJump 0 ((pc, 0x100) ∷ (mode, 1) ∷ (options, 2) ∷ (occurred, 0) ∷ [])
     -- "asked after 14 and before 15", and after 23
     ∷ forbidden 14 (outside 0 ++ writing ++ operands 0x11 0) enter
-    ∷ forbidden 14 (outside 0 ++ writing ++ operands 0x11 0x102) enterJump
+    ∷ forbidden 14 (outside 0 ++ writing ++ operands 0x11 0x103) enterJump
     ∷ forbidden 23 (inside 0 ++ writing ++ operands 1 0) enter
-    ∷ forbidden 23 (inside 0 ++ writing ++ operands 1 0x102) enterJump
+    ∷ forbidden 23 (inside 0 ++ writing ++ operands 1 0x103) enterJump
     ∷ forbidden 23 (inside 0xe ++ writing ++ operands 1 0) enter
-    ∷ forbidden 23 (inside 0xe ++ writing ++ operands 0xf 0x102) enterJump
-    ∷ steps (outside 0 ++ writing ++ operands 1 0x102) enterJump 22 []
+    ∷ forbidden 23 (inside 0xe ++ writing ++ operands 0xf 0x103) enterJump
+    ∷ steps (outside 0 ++ writing ++ operands 1 0x103) enterJump 22 []
     ∷ steps (outside 0xf ++ writing ++ operands 3 0x101) enterJump 22 []
-    ∷ steps (outside 0 ++ writing ++ operands 0 0x102) enterJump 15 []
+    ∷ steps (outside 0 ++ writing ++ operands 0 0x103) enterJump 15 []
     ∷ steps (outside 0 ++ calm ++ writing ++ operands 1 0) enter 22 []
     -- "22 what 14 leaves": in a run the stopping step isn't counted and changes nothing
     ∷ runs (outside 0 ++ writing ++ operands 1 0) (seven ∷ enter ∷ []) 9 22 1 0 ((pc, 4) ∷ (x 7, 7) ∷ [])
@@ -155,5 +156,5 @@ abbrev pub rows : List Row
 rows = exact ++ asking
 
 pub rows-hold : found rows ≡ stated rows
-unfolding exact asking trailingZeros sext decodeWord matches explicitRule firstMatch implicitGrants explicitGrants explicitCovers writableCode exposesCode scan firstRefused firstAbsent verdict value written allowed aligned settle stateFits wellFormed hfiStop hfiPerform load store perform executeInstruction executeWord step stepCall resumeCall runBy runCall
+unfolding exact asking trailingZeros sext decodeWord expandHalf matches explicitRule firstMatch implicitGrants explicitGrants explicitCovers writableCode exposesCode scan firstRefused firstAbsent verdict value written allowed aligned settle stateFits wellFormed hfiStop hfiPerform load store perform executeInstruction executeWord fetching executeFetched step stepCall resumeCall runBy runCall
 rows-hold = refl

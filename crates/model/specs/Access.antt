@@ -37,9 +37,10 @@ implicitAccess rs ns wanted a n =
       faultRegion = λ i. firstMatch rs ns (byteOf a i);
     }
 
--- "A fetch asks region 3", and since Job 7 the code regions
+-- "A fetch asks region 3", and since Job 7 the code regions; "A fetch takes two bytes" (02, Job 8), and two more for a long word: both are
+-- such accesses
 abbrev pub fetchAccess : List Region → ℕ → Access
-fetchAccess rs pc = implicitAccess rs codeRegions execute pc 4
+fetchAccess rs a = implicitAccess rs codeRegions execute a 2
 
 -- "an ordinary load or store region 2", and since Job 7 the implicit data regions
 abbrev pub dataAccess : List Region → ℕ → ℕ → ℕ → Access
@@ -110,7 +111,7 @@ firstRefused mode a = scan (λ i. cond (eqb mode 0) true (a .grants i)) 0 (a .co
 unfoldable pub firstAbsent : ℕ → ℕ → ℕ → ℕ
 firstAbsent length first count = scan (λ i. ltb (byteOf first i) length) 0 count
 
--- "Is every data byte granted?", and then "Are they in memory?"; of a fetch "are all four bytes executable?" first
+-- "Is every data byte granted?", and then "Are they in memory?"; of a fetch "are all four bytes executable?" first, two of them at a time (02, Job 8)
 unfoldable pub verdict : ℕ → ℕ → Access → Verdict
 verdict mode length a =
     let i = firstRefused mode a in

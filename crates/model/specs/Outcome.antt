@@ -44,9 +44,10 @@ withPc m next = machine (m .x) next (m .hfi)
 unfoldable pub allowed : Machine → List ℕ → ℕ → Outcome → Outcome
 allowed m mem stop rest = cond (eqb stop 0) rest (stopped stop m mem)
 
--- "9. Is the target of a taken branch, a jump or an enter with jump a multiple of 4? No: 15."
+-- "9. Is the target of .. an enter with jump a multiple of" 2? "No: 15." "15 remains only for the target of an enter with jump, which must be
+-- a multiple of 2" (02, Job 8)
 unfoldable pub aligned : Machine → List ℕ → ℕ → Outcome → Outcome
-aligned m mem target rest = cond (eqb (target % 4) 0) rest (stopped 15 m mem)
+aligned m mem target rest = cond (eqb (target % 2) 0) rest (stopped 15 m mem)
 
 -- "11 and 16 write the fault record"
 abbrev pub faulted : Machine → ℕ → ℕ → ℕ → Machine

@@ -35,6 +35,6 @@ pub data Writable (rs : List Region) (b : ℕ) : Type 0 where
   byHStore : (w : ℕ) (x : List ℕ) (k : StoreKind) (chosen rs1 rs2 imm : ℕ) → decodeWord w ≡ Legal (HStore k chosen rs1 rs2 imm)
       → Passes (hstoreAccess rs x k chosen rs1 imm) b → Writable rs b
 
--- question 4 asks that pc is a multiple of 4
+-- question 4 asks that pc is a multiple of 2, and a fetch takes two bytes (02, Job 8); the second two of a long word are such a fetch too
 pub data Executable (rs : List Region) (b : ℕ) : Type 0 where
-  byFetch : (pc : ℕ) → pc % 4 ≡ 0 → Passes (fetchAccess rs pc) b → Executable rs b
+  byFetch : (pc : ℕ) → pc % 2 ≡ 0 → Passes (fetchAccess rs pc) b → Executable rs b

@@ -1,12 +1,13 @@
 -- One step: document 01, "Questions a call puts", and the effect of each instruction.
 -- Machine and Stepped are declared in src/lib.rt, the instructions and their kinds in instructions/src. Assumes
 -- nothing.
-use mathlib.Core.Bool.{Bool, cond}
+use mathlib.Core.Bool.{cond}
 use mathlib.Core.List.{List}
 use Prim.Native.Nat.{ℕ, _*_, _/_, _%_}
 use lib.Dec.{eqb, ltb}
 use lib.ListN.{length}
 use Rattle.instructions.specs.Decode.{decodeWord}
+use Rattle.compressed.specs.Expand.{expandHalf, isLong}
 use Rattle.instructions.specs.declared.kind.LoadKind.{LoadKind}
 use Rattle.instructions.specs.declared.kind.UpperKind.the-variants.{Lui, Auipc}
 use Rattle.instructions.specs.declared.kind.RegisterKind.the-variants.{Add}
@@ -19,7 +20,7 @@ use Rattle.model.specs.Machine.{sum, reg, setReg, loadOp, storeOp, fetch
 use Rattle.model.specs.WellFormed.{wellFormed}
 use Rattle.model.specs.WritableCode.{exposesCode}
 use Rattle.model.specs.Bytes.{value, written}
-use Rattle.model.specs.Outcome.{Outcome, completed, stopped, assigned, withPc, allowed, aligned, settle}
+use Rattle.model.specs.Outcome.{Outcome, completed, stopped, assigned, withPc, allowed, settle}
 use Rattle.model.specs.Access.{Access, fetchAccess, loadAccess, storeAccess, hloadAccess, hstoreAccess, verdict}
 use Rattle.model.specs.Arithmetic.{operate, operateWord, ofRegisterWord, ofImmediate, ofShift, ofShiftWord, taken, extended}
 use Rattle.model.specs.Hfi.{hfiStop, hfiPerform}
@@ -44,12 +45,6 @@ store m mem next a v = onData m mem storeOp a (completed (withPc m next) (writte
 abbrev pub jalrTarget : ℕ → ℕ → ℕ
 jalrTarget a imm = sum a imm / 2 * 2
 
-unfoldable pub jump : Machine → List ℕ → ℕ → ℕ → ℕ → Outcome
-jump m mem next rd target = aligned m mem target (completed (assigned m target rd next) mem)
-
-unfoldable pub branch : Machine → List ℕ → ℕ → Bool → ℕ → Outcome
-branch m mem next takes target = cond takes (aligned m mem target (completed (withPc m target) mem)) (completed (withPc m next) mem)
-
 -- "ECALL in HFI mode with bit 1 set: mode 0, reason 2, exit pc is this pc, pc is the handler"
 abbrev pub redirected : Machine → Machine
 redirected m = machine (m .x) (m .hfi .handler) (exited (m .hfi) 2 (m .pc))
@@ -58,9 +53,9 @@ redirected m = machine (m .x) (m .hfi .handler) (exited (m .hfi) 2 (m .pc))
 unfoldable pub perform : Machine → List ℕ → ℕ → Instruction → Outcome
 perform m mem next (Upper Lui rd imm) = completed (assigned m next rd imm) mem
 perform m mem next (Upper Auipc rd imm) = completed (assigned m next rd (sum (m .pc) imm)) mem
-perform m mem next (Jal rd offset) = jump m mem next rd (sum (m .pc) offset)
-perform m mem next (Jalr rd rs1 imm) = jump m mem next rd (jalrTarget (reg (m .x) rs1) imm)
-perform m mem next (Branch k rs1 rs2 offset) = branch m mem next (taken k (reg (m .x) rs1) (reg (m .x) rs2)) (sum (m .pc) offset)
+perform m mem next (Jal rd offset) = completed (assigned m (sum (m .pc) offset) rd next) mem
+perform m mem next (Jalr rd rs1 imm) = completed (assigned m (jalrTarget (reg (m .x) rs1) imm) rd next) mem
+perform m mem next (Branch k rs1 rs2 offset) = completed (withPc m (cond (taken k (reg (m .x) rs1) (reg (m .x) rs2)) (sum (m .pc) offset) next)) mem
 perform m mem next (Load k rd rs1 imm) = load m mem next (loadAccess (m .hfi .regions) (m .x) k rs1 imm) k rd
 perform m mem next (Store k rs1 rs2 imm) = store m mem next (storeAccess (m .hfi .regions) (m .x) k rs1 imm) (reg (m .x) rs2)
 perform m mem next (Immediate k rd rs1 imm) = completed (assigned m next rd (operate 64 (ofImmediate k) (reg (m .x) rs1) imm)) mem
@@ -82,19 +77,28 @@ perform m mem next (Hfi k rd rs1 rs2) = hfiPerform m mem next k rd rs1 rs2
 unfoldable pub executeInstruction : Machine → List ℕ → ℕ → Instruction → Outcome
 executeInstruction m mem next i = allowed m mem (hfiStop m i) (perform m mem next i)
 
--- "7. Is the word legal? No: 13." The instruction after it stands 4 further
-unfoldable pub executeWord : Machine → List ℕ → Decoded → Outcome
-executeWord m mem (Legal i) = executeInstruction m mem (sum (m .pc) 4) i
-executeWord m mem Illegal = stopped 13 m mem
+-- "7. Is the word legal? No: 13." The instruction after it stands `size` bytes further: "with 2 in place of 4 in the next pc and in link values"
+-- (02, Job 8) for a half-word
+unfoldable pub executeWord : Machine → List ℕ → ℕ → Decoded → Outcome
+executeWord m mem size (Legal i) = executeInstruction m mem (sum (m .pc) size) i
+executeWord m mem size Illegal = stopped 13 m mem
 
--- "4. Is pc a multiple of 4? No: 10." "5. In HFI mode, are all four bytes executable? No: 11." "6. Are they in memory? No: 12."
--- Then the rest of the step
+-- "5. In HFI mode, are all .. bytes executable? No: 11." "6. Are they in memory? No: 12.", asked of the two bytes at a
+unfoldable pub fetching : Machine → List ℕ → ℕ → Outcome → Outcome
+fetching m mem a rest = settle m mem fetchOp 11 12 (verdict (m .hfi .mode) (length mem) (fetchAccess (m .hfi .regions) a)) rest
+
+-- with the first two bytes h fetched: "takes two more only if the low two bits are both ones, then asking 11 and 12 of those" (02, Job 8)
+unfoldable pub executeFetched : Machine → List ℕ → ℕ → Outcome
+executeFetched m mem h =
+    cond (isLong h)
+    (fetching m mem (sum (m .pc) 2) (executeWord m mem 4 (decodeWord (value mem (m .pc) 0 4))))
+    (executeWord m mem 2 (expandHalf h))
+
+-- "4. Is pc a multiple of 4? No: 10.", which "now asks for a multiple of 2"; "A fetch takes two bytes, asks 11 and 12 of them" (02, Job 8)
 unfoldable pub step : Machine → List ℕ → Outcome
 step m mem =
-    let a = fetchAccess (m .hfi .regions) (m .pc) in
-    cond (eqb (m .pc % 4) 0)
-    (settle m mem fetchOp 11 12 (verdict (m .hfi .mode) (length mem) a)
-    (executeWord m mem (decodeWord (value mem (a .first) 0 (a .count)))))
+    cond (eqb (m .pc % 2) 0)
+    (fetching m mem (m .pc) (executeFetched m mem (value mem (m .pc) 0 2)))
     (stopped 10 m mem)
 
 -- ---- the calls
