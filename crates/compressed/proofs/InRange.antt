@@ -91,41 +91,106 @@ AllRanged (l ∷ ls) = Ranged l × AllRanged ls
 
 lines-ranged : AllRanged table
 unfolding sext
-lines-ranged =
-    ((λ h. two-of (short-lt h 2) x2-lt (zero-fits h addi4spn (lit≤ tt))),
-    ((λ h. two-of (short-lt h 2) (short-lt h 7) (zero-fits h wordOffset (lit≤ tt))),
-    ((λ h. two-of (short-lt h 2) (short-lt h 7) (zero-fits h doubleOffset (lit≤ tt))),
-    ((λ h. two-of (short-lt h 7) (short-lt h 2) (zero-fits h wordOffset (lit≤ tt))),
-    ((λ h. two-of (short-lt h 7) (short-lt h 2) (zero-fits h doubleOffset (lit≤ tt))),
-    ((λ h. two-of x0-lt x0-lt (sign-fits h sixBits 12 (lit< tt) (lit≤ tt) (lit≤ tt))),
-    ((λ h. two-of (rd-lt h) (rd-lt h) (sign-fits h sixBits 12 (lit< tt) (lit≤ tt) (lit≤ tt))),
-    ((λ h. two-of (rd-lt h) (rd-lt h) (sign-fits h sixBits 12 (lit< tt) (lit≤ tt) (lit≤ tt))),
-    ((λ h. two-of (rd-lt h) x0-lt (sign-fits h sixBits 12 (lit< tt) (lit≤ tt) (lit≤ tt))),
-    ((λ h. two-of x2-lt x2-lt (sign-fits h addi16sp 12 (lit< tt) (lit≤ tt) (lit≤ tt))),
-    ((λ h. and-of (lt-ltb (rd h) 32 (rd-lt h)) (sign-multiple h upper 32 (lit< tt) (lit≤ tt) (lit≤ tt))),
-    ((λ h. two-of (short-lt h 7) (short-lt h 7) (amount-fits h)),
-    ((λ h. two-of (short-lt h 7) (short-lt h 7) (amount-fits h)),
-    ((λ h. two-of (short-lt h 7) (short-lt h 7) (sign-fits h sixBits 12 (lit< tt) (lit≤ tt) (lit≤ tt))),
-    ((λ h. three (short-lt h 7) (short-lt h 7) (short-lt h 2)),
-    ((λ h. three (short-lt h 7) (short-lt h 7) (short-lt h 2)),
-    ((λ h. three (short-lt h 7) (short-lt h 7) (short-lt h 2)),
-    ((λ h. three (short-lt h 7) (short-lt h 7) (short-lt h 2)),
-    ((λ h. three (short-lt h 7) (short-lt h 7) (short-lt h 2)),
-    ((λ h. three (short-lt h 7) (short-lt h 7) (short-lt h 2)),
-    ((λ h. and-of (lt-ltb 0 32 x0-lt) (sign-multiple h jumpOffset 21 (lit< tt) (lit≤ tt) (lit≤ tt))),
-    ((λ h. two-of (short-lt h 7) x0-lt (sign-multiple h branchOffset 13 (lit< tt) (lit≤ tt) (lit≤ tt))),
-    ((λ h. two-of (short-lt h 7) x0-lt (sign-multiple h branchOffset 13 (lit< tt) (lit≤ tt) (lit≤ tt))),
-    ((λ h. two-of (rd-lt h) (rd-lt h) (amount-fits h)),
-    ((λ h. two-of (rd-lt h) x2-lt (zero-fits h wordFromStack (lit≤ tt))),
-    ((λ h. two-of (rd-lt h) x2-lt (zero-fits h doubleFromStack (lit≤ tt))),
-    ((λ h. two-of x0-lt (rd-lt h) refl),
-    ((λ h. three (rd-lt h) x0-lt (rs2-lt h)),
-    ((λ h. refl),
-    ((λ h. two-of x1-lt (rd-lt h) refl),
-    ((λ h. three (rd-lt h) (rd-lt h) (rs2-lt h)),
-    ((λ h. two-of x2-lt (rs2-lt h) (zero-fits h wordToStack (lit≤ tt))),
-    ((λ h. two-of x2-lt (rs2-lt h) (zero-fits h doubleToStack (lit≤ tt))),
-    tt)))))))))))))))))))))))))))))))))
+lines-ranged = (
+  (λ h. two-of (short-lt h 2) x2-lt (zero-fits h addi4spn (lit≤ tt))),
+  (
+    (λ h. two-of (short-lt h 2) (short-lt h 7) (zero-fits h wordOffset (lit≤ tt))),
+    (
+      (λ h. two-of (short-lt h 2) (short-lt h 7) (zero-fits h doubleOffset (lit≤ tt))),
+      (
+        (λ h. two-of (short-lt h 7) (short-lt h 2) (zero-fits h wordOffset (lit≤ tt))),
+        (
+          (λ h. two-of (short-lt h 7) (short-lt h 2) (zero-fits h doubleOffset (lit≤ tt))),
+          (
+            (λ h. two-of x0-lt x0-lt (sign-fits h sixBits 12 (lit< tt) (lit≤ tt) (lit≤ tt))),
+            (
+              (λ h. two-of (rd-lt h) (rd-lt h) (sign-fits h sixBits 12 (lit< tt) (lit≤ tt) (lit≤ tt))),
+              (
+                (λ h. two-of (rd-lt h) (rd-lt h) (sign-fits h sixBits 12 (lit< tt) (lit≤ tt) (lit≤ tt))),
+                (
+                  (λ h. two-of (rd-lt h) x0-lt (sign-fits h sixBits 12 (lit< tt) (lit≤ tt) (lit≤ tt))),
+                  (
+                    (λ h. two-of x2-lt x2-lt (sign-fits h addi16sp 12 (lit< tt) (lit≤ tt) (lit≤ tt))),
+                    (
+                      (λ h. and-of (lt-ltb (rd h) 32 (rd-lt h)) (sign-multiple h upper 32 (lit< tt) (lit≤ tt) (lit≤ tt))),
+                      (
+                        (λ h. two-of (short-lt h 7) (short-lt h 7) (amount-fits h)),
+                        (
+                          (λ h. two-of (short-lt h 7) (short-lt h 7) (amount-fits h)),
+                          (
+                            (λ h. two-of (short-lt h 7) (short-lt h 7) (sign-fits h sixBits 12 (lit< tt) (lit≤ tt) (lit≤ tt))),
+                            (
+                              (λ h. three (short-lt h 7) (short-lt h 7) (short-lt h 2)),
+                              (
+                                (λ h. three (short-lt h 7) (short-lt h 7) (short-lt h 2)),
+                                (
+                                  (λ h. three (short-lt h 7) (short-lt h 7) (short-lt h 2)),
+                                  (
+                                    (λ h. three (short-lt h 7) (short-lt h 7) (short-lt h 2)),
+                                    (
+                                      (λ h. three (short-lt h 7) (short-lt h 7) (short-lt h 2)),
+                                      (
+                                        (λ h. three (short-lt h 7) (short-lt h 7) (short-lt h 2)),
+                                        (
+                                          (λ h. and-of (lt-ltb 0 32 x0-lt) (sign-multiple h jumpOffset 21 (lit< tt) (lit≤ tt) (lit≤ tt))),
+                                          (
+                                            (λ h. two-of (short-lt h 7) x0-lt (sign-multiple h branchOffset 13 (lit< tt) (lit≤ tt) (lit≤ tt))),
+                                            (
+                                              (λ h. two-of (short-lt h 7) x0-lt (sign-multiple h branchOffset 13 (lit< tt) (lit≤ tt) (lit≤ tt))),
+                                              (
+                                                (λ h. two-of (rd-lt h) (rd-lt h) (amount-fits h)),
+                                                (
+                                                  (λ h. two-of (rd-lt h) x2-lt (zero-fits h wordFromStack (lit≤ tt))),
+                                                  (
+                                                    (λ h. two-of (rd-lt h) x2-lt (zero-fits h doubleFromStack (lit≤ tt))),
+                                                    (
+                                                      (λ h. two-of x0-lt (rd-lt h) refl),
+                                                      (
+                                                        (λ h. three (rd-lt h) x0-lt (rs2-lt h)),
+                                                        (
+                                                          (λ h. refl),
+                                                          (
+                                                            (λ h. two-of x1-lt (rd-lt h) refl),
+                                                            (
+                                                              (λ h. three (rd-lt h) (rd-lt h) (rs2-lt h)),
+                                                              (
+                                                                (λ h. two-of x2-lt (rs2-lt h) (zero-fits h wordToStack (lit≤ tt))),
+                                                                (
+                                                                  (λ h. two-of x2-lt (rs2-lt h) (zero-fits h doubleToStack (lit≤ tt))),
+                                                                  tt,
+                                                                ),
+                                                              ),
+                                                            ),
+                                                          ),
+                                                        ),
+                                                      ),
+                                                    ),
+                                                  ),
+                                                ),
+                                              ),
+                                            ),
+                                          ),
+                                        ),
+                                      ),
+                                    ),
+                                  ),
+                                ),
+                              ),
+                            ),
+                          ),
+                        ),
+                      ),
+                    ),
+                  ),
+                ),
+              ),
+            ),
+          ),
+        ),
+      ),
+    ),
+  ),
+)
 
 ranged : (ls : List Line) → AllRanged ls → (h : ℕ) (i : Instruction) → expandBy ls h ≡ Legal i → inRange i ≡ true
 ranged [] a h i e = absurd (no-legal e)
@@ -136,6 +201,7 @@ ranged (l ∷ ls) a h i e = go (takes h l) (ranged ls (a .1) h i) e
   where
     same : {j : Instruction} → _≡_ {A = Decoded} (Legal j) (Legal i) → j ≡ i
     same q = cc
+
     go : (b : Bool) → (expandBy ls h ≡ Legal i → inRange i ≡ true) → cond b (Legal (l .expansion h)) (expandBy ls h) ≡ Legal i → inRange i ≡ true
     go true later q = ap inRange (sym (same q)) ∙ a .0 h
     go false later q = later q

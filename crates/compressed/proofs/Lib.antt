@@ -1,1 +1,5 @@
+pub mod Legal
 pub mod InRange
+pub mod OneLine
+pub mod LowBits
+pub mod Cases

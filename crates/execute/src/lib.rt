@@ -20,7 +20,6 @@ use arithmetic::operate_word;
 use arithmetic::taken;
 use hart::effect::Effect;
 use hart::effect::completed;
-use hart::effect::jump;
 use hart::effect::register;
 use hart::effect::stopped;
 use hart::effect::write_back;
@@ -57,9 +56,8 @@ fn upper(
     write_back(x, hfi, next, rd, v)
 }
 
-// A taken branch is a jump without a link: x0 takes none.
 fn branch(
-    x: &mut [u64; 32],
+    x: &[u64; 32],
     pc: u64,
     hfi: Control,
     next: u64,
@@ -69,12 +67,12 @@ fn branch(
     offset: u64,
 ) -> Effect
     requires { ⌜ (rs1 < 32) × (rs2 < 32) ⌝ }
-    ensures { λ r. ⌜ ((numbers mem : List ℕ) → effectWith r (now (x .exit)) numbers mem ≡ perform (hart (now (x .entry)) pc hfi numbers) mem next (Branch k rs1 rs2 offset)) ⌝ }
+    ensures { λ r. ⌜ ((numbers mem : List ℕ) → effectWith r (now (x .entry)) numbers mem ≡ perform (hart (now (x .entry)) pc hfi numbers) mem next (Branch k rs1 rs2 offset)) ⌝ }
 {
     if !taken(k, register(x, rs1), register(x, rs2)) {
         return completed(next, hfi);
     }
-    jump(x, pc, hfi, next, 0, wrapping_add_u64(pc, offset))
+    completed(wrapping_add_u64(pc, offset), hfi)
 }
 
 // ECALL, which HFI may redirect to the handler, and EBREAK.
@@ -205,9 +203,10 @@ pub fn execute(
 {
     match i {
         Instruction::Upper(k, rd, imm) => upper(x, pc, hfi, next, k, rd, imm),
-        Instruction::Jal(rd, offset) => jump(x, pc, hfi, next, rd, wrapping_add_u64(pc, offset)),
+        Instruction::Jal(rd, offset) => write_back(x, hfi, wrapping_add_u64(pc, offset), rd, next),
         Instruction::Jalr(rd, rs1, imm) => {
-            jump(x, pc, hfi, next, rd, jalr_target(register(x, rs1), imm))
+            let target = jalr_target(register(x, rs1), imm);
+            write_back(x, hfi, target, rd, next)
         }
         Instruction::Branch(k, rs1, rs2, offset) => branch(x, pc, hfi, next, k, rs1, rs2, offset),
         Instruction::Load(k, rd, rs1, imm) => load(x, pc, hfi, rs, mem, next, k, rd, rs1, imm),

@@ -4,7 +4,6 @@ ghost use mathlib.Core.List.{List};
 ghost use Prim.Native.Nat.{ℕ, _<_};
 ghost use Rattle.model.specs.Machine.{reg, setReg};
 ghost use Rattle.model.specs.Outcome.{completed as completedOf, stopped as stoppedOf, faulted as faultedOf};
-ghost use Rattle.model.specs.Step.{jump as jumpOf};
 ghost use Rattle.hart.specs.State.{hart};
 ghost use Rattle.hart.specs.Effect.{effectWith};
 use crate::state::Control;
@@ -86,22 +85,11 @@ pub fn faulted(stop: u64, pc: u64, hfi: Control, op: u64, at: u64, region: u64) 
     stopped(stop, pc, h)
 }
 
-// `v` in `rd`, and on at `next`.
+// `v` in `rd`, and on at `next`. A jump is this with its target and its link.
 pub fn write_back(x: &mut [u64; 32], hfi: Control, next: u64, rd: u64, v: u64) -> Effect
     requires { ⌜ rd < 32 ⌝ }
     ensures { λ r. ⌜ ((numbers mem : List ℕ) → effectWith r (now (x .exit)) numbers mem ≡ completedOf (hart (setReg (now (x .entry)) rd v) next hfi numbers) mem) ⌝ }
 {
     assign(x, rd, v);
     completed(next, hfi)
-}
-
-// A jump to `target`, which must be a multiple of 4, with the link `next` in `rd`.
-pub fn jump(x: &mut [u64; 32], pc: u64, hfi: Control, next: u64, rd: u64, target: u64) -> Effect
-    requires { ⌜ rd < 32 ⌝ }
-    ensures { λ r. ⌜ ((numbers mem : List ℕ) → effectWith r (now (x .exit)) numbers mem ≡ jumpOf (hart (now (x .entry)) pc hfi numbers) mem next rd target) ⌝ }
-{
-    if target % 4 != 0 {
-        return stopped(15, pc, hfi);
-    }
-    write_back(x, hfi, target, rd, next)
 }

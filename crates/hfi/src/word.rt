@@ -161,11 +161,11 @@ fn clear_regions(rs: &mut [u64; REGION_NUMBERS])
     *rs = [0u64; REGION_NUMBERS];
 }
 
-// Enter with a jump to `target`, which must be a multiple of 4.
+// Enter with a jump to `target`, which must be a multiple of 2.
 fn enter_jump(pc: u64, h: Control, options: u64, target: u64) -> Effect
     ensures { λ r. ⌜ ((x numbers mem : List ℕ) → effectWith r x numbers mem ≡ aligned (hart x pc h numbers) mem target (completedOf (machine x target (enteredOf (stateWith h (regionsOf numbers)) options)) mem)) ⌝ }
 {
-    if target % 4 != 0 {
+    if target % 2 != 0 {
         return stopped(15, pc, h);
     }
     completed(target, entered(h, options))

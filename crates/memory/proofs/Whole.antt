@@ -6,20 +6,22 @@ use mathlib.Core.List.{List, [], _∷_}
 use Prim.Native.Nat.{ℕ, suc, _+_, _-_, _%_, _^_, _<_, _≤_}
 use native.Mathlib.Nat.{zero-add}
 use native.Mathlib.Omega.{arith}
-use lib.Dec.{eqb, leb, ltb}
+use lib.Dec.{eqb, leb, ltb, lit≤}
 use lib.Bits.{bitAnd}
 use lib.ListN.{length, getD, drop, drop-of-length-le}
 use lib.Seq.{drop-cons}
-use borrow.Author.Tests.{ne-eqb, ltb-true, le-leb}
+use borrow.Author.Tests.{ne-eqb, ltb-true, ltb-false, le-leb, lt-leb, leb-true, leb-false}
 use Rattle.instructions.proofs.Tests.{and-both}
 use Rattle.model.specs.Machine.{region}
-use Rattle.model.specs.Regions.{permits, maskZeros, implicitRule, matches, firstMatch, granting, implicitGrants}
+use Rattle.model.specs.Regions.{execute, codeRegions, permits, maskZeros, implicitRule, matches, firstMatch, granting, implicitGrants}
 use Rattle.model.specs.Bytes.{byteOf}
-use Rattle.model.specs.Access.{implicitAccess, scan, firstRefused}
+use Rattle.model.specs.Access.{implicitAccess, fetchAccess, scan, firstRefused, verdict}
+use Rattle.model.specs.declared.Verdict.the-variants.{Passed}
+use Rattle.model.proofs.Cleared.{passes}
 use Rattle.model.specs.declared.Region.{Region}
 use Rattle.model.proofs.Scan.{scan-all}
 use Rattle.model.proofs.Intervals.{implicit-kept, matches-inside, inside-matches, matches-low, broken-matches-none}
-use Rattle.memory.specs.Loops.{hasWhole, touches, grantsWhole, passesWhole}
+use Rattle.memory.specs.Loops.{hasWhole, touches, grantsWhole, passesWhole, fetchesWhole}
 
 -- ---- one region
 
@@ -131,6 +133,26 @@ whole-passes mode rs ns wanted a n z l s g =
     each j h true e = refl
     each j h false e = whole-granted rs ns wanted a n j z l s h e
 
+-- and where the four bytes of a fetch pass so, either half does
+pub whole-fetched : (mode : ℕ) (rs : List Region) (size pc : ℕ) → pc < 2 ^ 64 → size < 2 ^ 64 → fetchesWhole mode rs size pc ≡ true
+    → (verdict mode size (fetchAccess rs pc) ≡ Passed) × (verdict mode size (fetchAccess rs (byteOf pc 2)) ≡ Passed)
+whole-fetched mode rs size pc l m g = (half 0 pc (λ i h. omega arith) (lit≤ tt), half 2 (byteOf pc 2) (λ i h. let e = leb-true (pc + 4) size (q .0) in omega (arith, e)) (lit≤ tt))
+  where
+    q : (leb (pc + 4) size ≡ true) × (passesWhole mode rs codeRegions execute pc 4 ≡ true)
+    q = asked _ _ g
+
+    each : (j : ℕ) → j < 4 → (b : Bool) → cond b true (grantsWhole rs codeRegions execute pc 4) ≡ true → cond b true (implicitGrants rs codeRegions execute (byteOf pc j)) ≡ true
+    each j h true e = refl
+    each j h false e = whole-granted rs codeRegions execute pc 4 j refl l (lit≤ tt) h e
+
+    -- byte i of a half is byte k + i of the word
+    half : (k a : ℕ) → ((i : ℕ) → i < 2 → byteOf a i ≡ byteOf pc (k + i)) → k ≤ 2 → verdict mode size (fetchAccess rs a) ≡ Passed
+    half k a same u =
+        passes mode size (fetchAccess rs a) (record {
+          granted = λ i h. rw (same i h) (each (k + i) (omega arith) (eqb mode 0) (q .1));
+          present = λ i h. let e = leb-true (pc + 4) size (q .0) in rw (same i h) (omega (arith, e));
+        })
+
 -- ---- the code's words for it
 
 -- a difference modulo 2^64, by what wrapping subtraction says of it
@@ -142,6 +164,15 @@ pub touched : (r : Region) (last n : ℕ) {d s : ℕ} → last < 2 ^ 64 → r .b
     → s ≡ ((2 ^ 64 - 1) - r .bound + (n - 1)) % 2 ^ 64
     → (t : Bool) → leb d s ≡ t → cond t (implicitRule r) false ≡ touches r last n
 touched r last n {d} {s} p q h e f t g = ap (λ b. cond b (implicitRule r) false) (sym g ∙ ap₂ leb (difference last (r .base) d p q h e) f)
+
+-- the test that four bytes are in memory
+pub in-memory : (size pc d : ℕ) → size < 2 ^ 64 → pc < 2 ^ 64 → d < 2 ^ 64 → (d + pc) % 2 ^ 64 ≡ size → (ltb pc size && leb 4 d) ≡ leb (pc + 4) size
+in-memory size pc d p q r e = go (ltb pc size) refl (leb 4 d) refl
+  where
+    go : (b : Bool) → ltb pc size ≡ b → (c : Bool) → leb 4 d ≡ c → (b && c) ≡ leb (pc + 4) size
+    go true l true m = let x = ltb-true pc size l in let y = leb-true 4 d m in sym (le-leb (pc + 4) size (omega (arith, x, y)))
+    go true l false m = let x = ltb-true pc size l in let y = leb-false 4 d m in sym (lt-leb (pc + 4) size (omega (arith, x, y)))
+    go false l c m = let x = ltb-false pc size l in sym (lt-leb (pc + 4) size (omega (arith, x)))
 
 -- ---- the loops over the numbers of a list, from index i on
 

@@ -8,7 +8,7 @@ use lib.Bits.{bitAnd}
 use lib.IntN.{ℤ, pos, _+ℤ_}
 use Rattle.words.specs.Word.{word}
 use Rattle.model.specs.Machine.{region}
-use Rattle.model.specs.Regions.{permits, implicitRule, explicitGrants}
+use Rattle.model.specs.Regions.{execute, codeRegions, permits, implicitRule, explicitGrants}
 use Rattle.model.specs.Bytes.{byteOf}
 use Rattle.model.specs.Access.{scan, firstAbsent}
 use Rattle.model.specs.declared.Region.{Region}
@@ -37,6 +37,10 @@ grantsWhole rs (m ∷ ms) wanted a n =
 
 abbrev pub passesWhole : ℕ → List Region → List ℕ → ℕ → ℕ → ℕ → Bool
 passesWhole mode rs ns wanted a n = cond (eqb mode 0) true (grantsWhole rs ns wanted a n)
+
+-- the four bytes at a fetch are in memory, and one region decides them
+abbrev pub fetchesWhole : ℕ → List Region → ℕ → ℕ → Bool
+fetchesWhole mode rs length pc = cond (leb (pc + 4) length) (passesWhole mode rs codeRegions execute pc 4) false
 
 -- ---- what is found of the bytes
 

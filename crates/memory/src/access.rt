@@ -9,7 +9,7 @@ ghost use Rattle.model.specs.Machine.{region};
 ghost use Rattle.model.specs.Regions.{firstMatch, implicitGrants};
 ghost use Rattle.model.specs.Access.{fetchAccess, dataAccess, implicitAccess, explicitAccess, offset, firstRefused, firstAbsent, verdict};
 ghost use Rattle.hart.specs.State.{regionsOf};
-ghost use Rattle.memory.specs.Loops.{explicitRefused, presenceOf, explicitFirst, hasWhole, touches as isTouched, grantsWhole, passesWhole};
+ghost use Rattle.memory.specs.Loops.{explicitRefused, presenceOf, explicitFirst, hasWhole, touches as isTouched, grantsWhole, passesWhole, fetchesWhole};
 use crate::region::explicit_rule;
 use crate::region::implicit_rule;
 use crate::region::matches;
@@ -209,15 +209,22 @@ fn passes_whole(
     }
 }
 
-// Questions 5 and 6 of the four bytes at `pc`.
-pub fn check_fetch(mode: u64, rs: &[u64; REGION_NUMBERS], len: u64, pc: u64) -> Verdict
-    ensures { λ q. ⌜ q ≡ verdict mode len (fetchAccess (regionsOf (now (rs .entry))) pc) ⌝ }
+// Do the four bytes at `pc` pass questions 5 and 6, as the mode or one region tells? Then so does either half of them.
+pub fn fetches_whole(mode: u64, rs: &[u64; REGION_NUMBERS], len: u64, pc: u64) -> bool
+    ensures { λ q. ⌜ q ≡ fetchesWhole mode (regionsOf (now (rs .entry))) len pc ⌝ }
 {
-    if passes_whole(mode, rs, &CODE_REGIONS, EXECUTE, pc, 4) {
-        presence(len, pc, 4)
+    if (pc < len) & (4 <= wrapping_sub_u64(len, pc)) {
+        passes_whole(mode, rs, &CODE_REGIONS, EXECUTE, pc, 4)
     } else {
-        check_bytes(mode, rs, &CODE_REGIONS, EXECUTE, len, pc, 4)
+        false
     }
+}
+
+// Questions 5 and 6 of the two bytes at `a`.
+pub fn check_fetch(mode: u64, rs: &[u64; REGION_NUMBERS], len: u64, a: u64) -> Verdict
+    ensures { λ q. ⌜ q ≡ verdict mode len (fetchAccess (regionsOf (now (rs .entry))) a) ⌝ }
+{
+    check_bytes(mode, rs, &CODE_REGIONS, EXECUTE, len, a, 2)
 }
 
 // Questions 10 and 11 of an ordinary load or store.

@@ -1,7 +1,5 @@
-use mathlib.Core.Path.{_∙_}
 use borrow.Author.Tests.{not-true, not-false}
-use Rattle.model.specs.Step.{perform, branch, jump}
-use Rattle.model.specs.Outcome.{aligned}
+use Rattle.model.specs.Step.{perform}
 use borrow.Author.Needs.{needs}
 use Rattle.execute.proofs.branch.Statement.{statement}
 use Rattle.execute.proofs.branch.Tie as tie
@@ -19,12 +17,12 @@ completed-requires : tie.Need-completed-requires
 completed-requires c κs = search needs
 
 returns : tie.Need-returns
-unfolding perform branch
+unfolding perform
 returns c = λ numbers mem.
     let t = c .before .before .taken in
     rw (
       c .completed .ensures,
-      ← c .before .before .before .before .before .register .ensures,
+      ← c .before .before .before .before .register .ensures,
       ← c .before .before .before .register2 .ensures,
       ← t .ensures,
       not-true (t .result) (c .before .if1 .taken),
@@ -33,18 +31,19 @@ returns c = λ numbers mem.
 wrapping-add-u64-requires : tie.Need-wrapping-add-u64-requires
 wrapping-add-u64-requires c κs = search needs
 
-jump-requires : tie.Need-jump-requires
-jump-requires c κs = search needs
+completed-requires-2 : tie.Need-completed-requires-2
+completed-requires-2 c κs = search needs
 
 returns-2 : tie.Need-returns-2
-unfolding perform branch jump aligned
+unfolding perform
 returns-2 c = λ numbers mem.
-    let t = c .before .before .before .before .taken in
-    c .jump .ensures numbers mem ∙ rw (
-      ← c .before .before .before .before .before .before .before .register .ensures,
-      ← c .before .before .before .before .before .register2 .ensures,
+    let t = c .before .before .before .taken in
+    rw (
+      c .completed2 .ensures,
+      ← c .before .before .before .before .before .register .ensures,
+      ← c .before .before .before .before .register2 .ensures,
       ← t .ensures,
-      not-false (t .result) (c .before .before .before .if1 .left),
+      not-false (t .result) (c .before .before .if1 .left),
       c .before .wrapping-add-u64 .ensures,
     )
 
@@ -58,5 +57,5 @@ branch-spec =
     completed-requires
     returns
     wrapping-add-u64-requires
-    jump-requires
+    completed-requires-2
     returns-2)

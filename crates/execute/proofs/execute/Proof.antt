@@ -19,20 +19,20 @@ enum-known-i-2 c = search needs
 wrapping-add-u64-requires : tie.Need-wrapping-add-u64-requires
 wrapping-add-u64-requires c κs = search needs
 
-jump-requires : tie.Need-jump-requires
-jump-requires c κs = below (c .before .before .before .i2 .given .1) (c .before .before .before .before .before .before .pre)
+write-back-requires : tie.Need-write-back-requires
+write-back-requires c κs = below (c .before .before .before .i2 .given .1) (c .before .before .before .before .before .before .pre)
 
 enum-known-i-3 : tie.Need-enum-known-i-3
 enum-known-i-3 c = search needs
 
 register-requires : tie.Need-register-requires
-register-requires c κs = below (c .before .before .before .i3 .given .1) (c .before .before .before .before .before .before .pre) .1
+register-requires c κs = below (c .before .before .i3 .given .1) (c .before .before .before .before .before .pre) .1
 
 jalr-target-requires : tie.Need-jalr-target-requires
 jalr-target-requires c κs = search needs
 
-jump-requires-2 : tie.Need-jump-requires-2
-jump-requires-2 c κs = below (c .before .before .before .before .before .i3 .given .1) (c .before .before .before .before .before .before .before .before .pre) .0
+write-back-requires-2 : tie.Need-write-back-requires-2
+write-back-requires-2 c κs = below (c .before .before .before .before .before .i3 .given .1) (c .before .before .before .before .before .before .before .before .pre) .0
 
 enum-known-i-4 : tie.Need-enum-known-i-4
 enum-known-i-4 c = search needs
@@ -61,8 +61,8 @@ register-requires-2 c κs = below (c .before .before .i7 .given .1) (c .before .
 operate-immediate-requires : tie.Need-operate-immediate-requires
 operate-immediate-requires c κs = search needs
 
-write-back-requires : tie.Need-write-back-requires
-write-back-requires c κs = below (c .before .before .before .before .before .i7 .given .1) (c .before .before .before .before .before .before .before .before .pre) .0
+write-back-requires-3 : tie.Need-write-back-requires-3
+write-back-requires-3 c κs = below (c .before .before .before .before .before .i7 .given .1) (c .before .before .before .before .before .before .before .before .pre) .0
 
 enum-known-i-8 : tie.Need-enum-known-i-8
 enum-known-i-8 c = search needs
@@ -73,8 +73,8 @@ register-requires-3 c κs = below (c .before .before .i8 .given .1) (c .before .
 operate-shift-requires : tie.Need-operate-shift-requires
 operate-shift-requires c κs = search needs
 
-write-back-requires-2 : tie.Need-write-back-requires-2
-write-back-requires-2 c κs = below (c .before .before .before .before .before .i8 .given .1) (c .before .before .before .before .before .before .before .before .pre) .0
+write-back-requires-4 : tie.Need-write-back-requires-4
+write-back-requires-4 c κs = below (c .before .before .before .before .before .i8 .given .1) (c .before .before .before .before .before .before .before .before .pre) .0
 
 enum-known-i-9 : tie.Need-enum-known-i-9
 enum-known-i-9 c = search needs
@@ -85,8 +85,8 @@ register-requires-4 c κs = below (c .before .before .i9 .given .1) (c .before .
 add-word-requires : tie.Need-add-word-requires
 add-word-requires c κs = search needs
 
-write-back-requires-3 : tie.Need-write-back-requires-3
-write-back-requires-3 c κs = below (c .before .before .before .before .before .i9 .given .1) (c .before .before .before .before .before .before .before .before .pre) .0
+write-back-requires-5 : tie.Need-write-back-requires-5
+write-back-requires-5 c κs = below (c .before .before .before .before .before .i9 .given .1) (c .before .before .before .before .before .before .before .before .pre) .0
 
 enum-known-i-10 : tie.Need-enum-known-i-10
 enum-known-i-10 c = search needs
@@ -100,8 +100,8 @@ register-requires-5 c κs = below (c .before .before .before .i10 .given .1) (c 
 operate-word-requires : tie.Need-operate-word-requires
 operate-word-requires c κs = search needs
 
-write-back-requires-4 : tie.Need-write-back-requires-4
-write-back-requires-4 c κs = below (c .before .before .before .before .before .before .i10 .given .1) (c .before .before .before .before .before .before .before .before .before .pre) .0
+write-back-requires-6 : tie.Need-write-back-requires-6
+write-back-requires-6 c κs = below (c .before .before .before .before .before .before .i10 .given .1) (c .before .before .before .before .before .before .before .before .before .pre) .0
 
 enum-known-i-11 : tie.Need-enum-known-i-11
 enum-known-i-11 c = search needs
@@ -115,8 +115,8 @@ register-requires-7 c κs = below (c .before .before .before .before .i11 .given
 operate-requires : tie.Need-operate-requires
 operate-requires c κs = search needs
 
-write-back-requires-5 : tie.Need-write-back-requires-5
-write-back-requires-5 c κs = below (c .before .before .before .before .before .before .before .i11 .given .1) (c .before .before .before .before .before .before .before .before .before .before .pre) .0
+write-back-requires-7 : tie.Need-write-back-requires-7
+write-back-requires-7 c κs = below (c .before .before .before .before .before .before .before .i11 .given .1) (c .before .before .before .before .before .before .before .before .before .before .pre) .0
 
 enum-known-i-12 : tie.Need-enum-known-i-12
 enum-known-i-12 c = search needs
@@ -130,8 +130,8 @@ register-requires-9 c κs = below (c .before .before .before .before .i12 .given
 operate-word-requires-2 : tie.Need-operate-word-requires-2
 operate-word-requires-2 c κs = search needs
 
-write-back-requires-6 : tie.Need-write-back-requires-6
-write-back-requires-6 c κs = below (c .before .before .before .before .before .before .before .i12 .given .1) (c .before .before .before .before .before .before .before .before .before .before .pre) .0
+write-back-requires-8 : tie.Need-write-back-requires-8
+write-back-requires-8 c κs = below (c .before .before .before .before .before .before .before .i12 .given .1) (c .before .before .before .before .before .before .before .before .before .before .pre) .0
 
 enum-told : tie.Need-enum-told
 enum-told c = search needs
@@ -169,11 +169,11 @@ returns c = c .upper .ensures _ _ ∙ ap (executeInstruction _ _ _) (sym (c .bef
 
 returns-2 : tie.Need-returns-2
 unfolding perform executeInstruction allowed hfiStop
-returns-2 c = c .jump .ensures _ _ ∙ rw (c .before .before .before .before .i2 .given .1, c .before .wrapping-add-u64 .ensures)
+returns-2 c = c .write-back .ensures _ _ ∙ rw (c .before .before .before .before .i2 .given .1, c .before .wrapping-add-u64 .ensures)
 
 returns-3 : tie.Need-returns-3
 unfolding perform executeInstruction allowed hfiStop
-returns-3 c = c .jump2 .ensures _ _ ∙ rw (c .before .before .before .before .before .before .i3 .given .1, c .before .jalr-target .ensures, c .before .before .register .ensures)
+returns-3 c = c .write-back2 .ensures _ _ ∙ rw (c .before .before .before .before .before .before .i3 .given .1, c .before .before .jalr-target .ensures, c .before .before .before .register .ensures)
 
 returns-4 : tie.Need-returns-4
 unfolding executeInstruction allowed hfiStop
@@ -195,27 +195,27 @@ returns-6 c = c .before .before .store .ensures ∙ ap (executeInstruction _ _ _
 
 returns-7 : tie.Need-returns-7
 unfolding perform executeInstruction allowed hfiStop
-returns-7 c = c .write-back .ensures _ _ ∙ rw (c .before .before .before .before .before .before .i7 .given .1, c .before .before .operate-immediate .ensures, c .before .before .before .register2 .ensures)
+returns-7 c = c .write-back3 .ensures _ _ ∙ rw (c .before .before .before .before .before .before .i7 .given .1, c .before .before .operate-immediate .ensures, c .before .before .before .register2 .ensures)
 
 returns-8 : tie.Need-returns-8
 unfolding perform executeInstruction allowed hfiStop
-returns-8 c = c .write-back2 .ensures _ _ ∙ rw (c .before .before .before .before .before .before .i8 .given .1, c .before .before .operate-shift .ensures, c .before .before .before .register3 .ensures)
+returns-8 c = c .write-back4 .ensures _ _ ∙ rw (c .before .before .before .before .before .before .i8 .given .1, c .before .before .operate-shift .ensures, c .before .before .before .register3 .ensures)
 
 returns-9 : tie.Need-returns-9
 unfolding perform executeInstruction allowed hfiStop
-returns-9 c = c .write-back3 .ensures _ _ ∙ rw (c .before .before .before .before .before .before .i9 .given .1, c .before .before .add-word .ensures, c .before .before .before .register4 .ensures)
+returns-9 c = c .write-back5 .ensures _ _ ∙ rw (c .before .before .before .before .before .before .i9 .given .1, c .before .before .add-word .ensures, c .before .before .before .register4 .ensures)
 
 returns-10 : tie.Need-returns-10
 unfolding perform executeInstruction allowed hfiStop
-returns-10 c = c .write-back4 .ensures _ _ ∙ rw (c .before .before .before .before .before .before .before .i10 .given .1, c .before .before .operate-word .ensures, c .before .before .before .before .before .of-shift-word .ensures, c .before .before .before .register5 .ensures)
+returns-10 c = c .write-back6 .ensures _ _ ∙ rw (c .before .before .before .before .before .before .before .i10 .given .1, c .before .before .operate-word .ensures, c .before .before .before .before .before .of-shift-word .ensures, c .before .before .before .register5 .ensures)
 
 returns-11 : tie.Need-returns-11
 unfolding perform executeInstruction allowed hfiStop
-returns-11 c = c .write-back5 .ensures _ _ ∙ rw (c .before .before .before .before .before .before .before .before .i11 .given .1, c .before .before .operate .ensures, c .before .before .before .register7 .ensures, c .before .before .before .before .before .register6 .ensures)
+returns-11 c = c .write-back7 .ensures _ _ ∙ rw (c .before .before .before .before .before .before .before .before .i11 .given .1, c .before .before .operate .ensures, c .before .before .before .register7 .ensures, c .before .before .before .before .before .register6 .ensures)
 
 returns-12 : tie.Need-returns-12
 unfolding perform executeInstruction allowed hfiStop
-returns-12 c = c .write-back6 .ensures _ _ ∙ rw (c .before .before .before .before .before .before .before .before .i12 .given .1, c .before .before .operate-word2 .ensures, c .before .before .before .register9 .ensures, c .before .before .before .before .before .register8 .ensures)
+returns-12 c = c .write-back8 .ensures _ _ ∙ rw (c .before .before .before .before .before .before .before .before .i12 .given .1, c .before .before .operate-word2 .ensures, c .before .before .before .register9 .ensures, c .before .before .before .before .before .register8 .ensures)
 
 returns-13 : tie.Need-returns-13
 unfolding perform executeInstruction allowed hfiStop
@@ -248,11 +248,11 @@ execute-spec =
     upper-requires
     enum-known-i-2
     wrapping-add-u64-requires
-    jump-requires
+    write-back-requires
     enum-known-i-3
     register-requires
     jalr-target-requires
-    jump-requires-2
+    write-back-requires-2
     enum-known-i-4
     branch-requires
     enum-known-i-5
@@ -262,30 +262,30 @@ execute-spec =
     enum-known-i-7
     register-requires-2
     operate-immediate-requires
-    write-back-requires
+    write-back-requires-3
     enum-known-i-8
     register-requires-3
     operate-shift-requires
-    write-back-requires-2
+    write-back-requires-4
     enum-known-i-9
     register-requires-4
     add-word-requires
-    write-back-requires-3
+    write-back-requires-5
     enum-known-i-10
     of-shift-word-requires
     register-requires-5
     operate-word-requires
-    write-back-requires-4
+    write-back-requires-6
     enum-known-i-11
     register-requires-6
     register-requires-7
     operate-requires
-    write-back-requires-5
+    write-back-requires-7
     enum-known-i-12
     register-requires-8
     register-requires-9
     operate-word-requires-2
-    write-back-requires-6
+    write-back-requires-8
     enum-told
     completed-requires
     enum-known-i-13

@@ -1,25 +1,26 @@
 use mathlib.Core.Path.{sym, ap, _∙_}
-use Rattle.instructions.proofs.RoundTrip.{decoded-range}
 use Rattle.model.specs.Step.{executeWord}
+use Rattle.step.proofs.Verdicts.{word-range}
 use borrow.Author.Needs.{needs}
 use Rattle.step.proofs.execute_word.Statement.{statement}
 use Rattle.step.proofs.execute_word.Tie as tie
 
-cast-decode : tie.Need-cast-decode
-cast-decode c = search needs
-
-decode-requires : tie.Need-decode-requires
-decode-requires c κs = search needs
-
-enum-known-d : tie.Need-enum-known-d
-enum-known-d c = search needs
+size-at-requires : tie.Need-size-at-requires
+size-at-requires c κs = c .before .before .pre .0
 
 wrapping-add-u64-requires : tie.Need-wrapping-add-u64-requires
 wrapping-add-u64-requires c κs = search needs
 
+word-at-requires : tie.Need-word-at-requires
+word-at-requires c κs = c .before .before .before .before .before .pre
+
+enum-known-d : tie.Need-enum-known-d
+enum-known-d c = search needs
+
 execute-requires : tie.Need-execute-requires
 execute-requires c κs =
-    decoded-range (c .before .before .before .before .before .before .before .before .before .args .w) _ (sym (c .before .before .before .before .before .before .before .decode .ensures) ∙ c .before .before .before .before .before .d .given .1)
+    let a = c .before .before .before .before .before .before .before .before .before .before .before .before .args in
+    word-range (a .mem .now) (a .pc) _ (sym (c .before .before .before .before .before .before .word-at .ensures) ∙ c .before .before .before .before .d .given .1)
 
 enum-told : tie.Need-enum-told
 enum-told c = search needs
@@ -34,23 +35,27 @@ returns : tie.Need-returns
 unfolding executeWord
 returns c =
     c .before .before .execute .ensures
-    ∙ rw (c .before .before .before .wrapping-add-u64 .ensures) (ap (executeWord _ _) (sym (c .before .before .before .before .before .before .before .before .d .given .1) ∙ c .before .before .before .before .before .before .before .before .before .before .decode .ensures))
+    ∙ rw (c .before .before .before .before .before .before .before .before .before .before .before .wrapping-add-u64 .ensures, c .before .before .before .before .before .before .before .before .before .before .before .before .size-at .ensures) (ap (executeWord _ _ _) (sym (c .before .before .before .before .before .before .before .d .given .1) ∙ c .before .before .before .before .before .before .before .before .before .word-at .ensures))
+
+same-length-2 : tie.Need-same-length-2
+same-length-2 c = search needs
 
 returns-2 : tie.Need-returns-2
 unfolding executeWord
-returns-2 c = rw (c .stopped .ensures) (ap (executeWord _ _) (sym (c .before .enum-told .given .1) ∙ c .before .before .before .decode .ensures))
+returns-2 c = rw (c .stopped .ensures) (ap (executeWord _ _ _) (sym (c .before .enum-told .given .1) ∙ c .before .before .before .word-at .ensures))
 
 pub execute-word-spec : {M : Type 1} → statement M
 execute-word-spec =
     tie.close
     (tie.spec
-    cast-decode
-    decode-requires
-    enum-known-d
+    size-at-requires
     wrapping-add-u64-requires
+    word-at-requires
+    enum-known-d
     execute-requires
     enum-told
     stopped-requires
     same-length
     returns
+    same-length-2
     returns-2)

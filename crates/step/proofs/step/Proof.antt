@@ -1,12 +1,9 @@
-use mathlib.Core.Path.{refl, sym, _∙_}
+use mathlib.Core.Path.{sym, _∙_}
 use Prim.Native.Nat.{_%_}
-use lib.ListN.{length}
-use borrow.Author.Tests.{eq-eqb, ne-eqb}
+use borrow.Author.Tests.{ne-eqb}
 use Rattle.model.specs.Step.{step}
-use Rattle.model.specs.Outcome.{settle}
-use Rattle.model.specs.Access.{fetchAccess}
-use Rattle.memory.proofs.Fits.{passed-fits}
-use Rattle.hart.specs.State.{regionsOf}
+use Rattle.hart.specs.State.{regionsOf, hart}
+use Rattle.step.proofs.Verdicts.{half-fits, long-fits, passed-step, refused-step, absent-step}
 use borrow.Author.Needs.{needs}
 use Rattle.step.proofs.step.Statement.{statement}
 use Rattle.step.proofs.step.Tie as tie
@@ -16,24 +13,21 @@ stopped-requires c κs = search needs
 
 returns : tie.Need-returns
 unfolding step
-returns c = rw (c .stopped .ensures, ne-eqb (c .before .before .before .args .pc % 4) 0 (c .before .if1 .taken))
+returns c = rw (c .stopped .ensures, ne-eqb (c .before .before .before .args .pc % 2) 0 (c .before .if1 .taken))
 
-check-fetch-requires : tie.Need-check-fetch-requires
-check-fetch-requires c κs = search needs
+check-word-requires : tie.Need-check-word-requires
+check-word-requires c κs = search needs
 
 enum-told : tie.Need-enum-told
 enum-told c = search needs
 
-read-requires : tie.Need-read-requires
-read-requires c κs =
-    let a = c .before .before .before .before .before .before .before .before .before .before .args in (
-      refl,
-      passed-fits (a .hfi .mode) (length (a .mem .now)) (fetchAccess (regionsOf (a .rs .now)) (a .pc)) refl (search needs) (search needs)
-          (c .before .before .before .before .before .before .check-fetch .ensures) (c .before .before .before .before .enum-told .given .1),
-    )
-
 execute-word-requires : tie.Need-execute-word-requires
-execute-word-requires c κs = c .read .ensures .1
+execute-word-requires c κs =
+    let a = c .before .before .before .before .before .before .before .before .before .before .args in
+    let v = sym (c .before .before .before .before .before .check-word .ensures) ∙ c .before .before .before .enum-told .given .1 in (
+      half-fits (a .hfi .mode) (regionsOf (a .rs .now)) (a .mem .now) (a .pc) (search needs) (search needs) v,
+      long-fits (a .hfi .mode) (regionsOf (a .rs .now)) (a .mem .now) (a .pc) (search needs) (search needs) v,
+    )
 
 enum-known-v : tie.Need-enum-known-v
 enum-known-v c = search needs
@@ -51,25 +45,31 @@ same-length : tie.Need-same-length
 same-length c = search needs
 
 returns-2 : tie.Need-returns-2
-unfolding step settle
 returns-2 c =
-    c .before .before .execute-word .ensures ∙ rw (
-      eq-eqb (c .before .before .before .before .before .before .before .before .before .before .before .before .before .before .args .pc % 4) 0 (c .before .before .before .before .before .before .before .before .before .before .before .before .if1 .left),
-      sym (c .before .before .before .before .before .before .before .before .before .before .check-fetch .ensures) ∙ c .before .before .before .before .before .before .before .before .enum-told .given .1,
-      c .before .before .before .read .ensures .0,
-    )
+    let a = c .before .before .before .before .before .before .before .before .before .before .before .before .before .args in
+    c .before .before .execute-word .ensures
+    ∙ sym (passed-step (hart (a .x .now) (a .pc) (a .hfi) (a .rs .now)) (a .mem .now) (c .before .before .before .before .before .before .before .before .before .before .before .if1 .left)
+    (sym (c .before .before .before .before .before .before .before .before .check-word .ensures) ∙ c .before .before .before .before .before .before .enum-told .given .1))
+
+same-length-2 : tie.Need-same-length-2
+same-length-2 c = search needs
 
 returns-3 : tie.Need-returns-3
-unfolding step settle
 returns-3 c =
-    let a = c .before .before .before .before .before .before .before .before .args in
-    rw (eq-eqb (a .pc % 4) 0 (c .before .before .before .before .before .before .if1 .left), sym (c .before .before .before .before .check-fetch .ensures) ∙ c .before .before .v .given .1)
-    (c .faulted .ensures (a .x .now) (a .rs .now) (a .mem .now))
+    let a = c .before .before .before .before .before .before .before .before .before .args in
+    c .faulted .ensures (a .x .now) (a .rs .now) (a .mem .now)
+    ∙ sym (refused-step (hart (a .x .now) (a .pc) (a .hfi) (a .rs .now)) (a .mem .now) (c .before .before .before .before .before .before .before .if1 .left)
+    (sym (c .before .before .before .before .check-word .ensures) ∙ c .before .before .v .given .1))
+
+same-length-3 : tie.Need-same-length-3
+same-length-3 c = search needs
 
 returns-4 : tie.Need-returns-4
-unfolding step settle
 returns-4 c =
-    rw (c .absent .ensures, eq-eqb (c .before .before .before .before .before .before .before .before .args .pc % 4) 0 (c .before .before .before .before .before .before .if1 .left), sym (c .before .before .before .before .check-fetch .ensures) ∙ c .before .before .v2 .given .1)
+    let a = c .before .before .before .before .before .before .before .before .before .args in
+    rw (c .absent .ensures)
+    (sym (absent-step (hart (a .x .now) (a .pc) (a .hfi) (a .rs .now)) (a .mem .now) (c .before .before .before .before .before .before .before .if1 .left)
+    (sym (c .before .before .before .before .check-word .ensures) ∙ c .before .before .v2 .given .1)))
 
 pub step-spec : {M : Type 1} → statement M
 step-spec =
@@ -77,9 +77,8 @@ step-spec =
     (tie.spec
     stopped-requires
     returns
-    check-fetch-requires
+    check-word-requires
     enum-told
-    read-requires
     execute-word-requires
     enum-known-v
     faulted-requires
@@ -87,5 +86,7 @@ step-spec =
     absent-requires
     same-length
     returns-2
+    same-length-2
     returns-3
+    same-length-3
     returns-4)

@@ -12,7 +12,7 @@ stopped-requires c κs = search needs
 
 returns : tie.Need-returns
 unfolding aligned
-returns c = λ x numbers mem. rw (c .stopped .ensures, ne-eqb (c .before .before .args .target % 4) 0 (c .before .if1 .taken))
+returns c = λ x numbers mem. rw (c .stopped .ensures, ne-eqb (c .before .before .args .target % 2) 0 (c .before .if1 .taken))
 
 entered-requires : tie.Need-entered-requires
 entered-requires c κs = search needs
@@ -23,7 +23,7 @@ completed-requires c κs = search needs
 returns-2 : tie.Need-returns-2
 unfolding aligned
 returns-2 c = λ x numbers mem.
-    rw (eq-eqb (c .before .before .before .args .target % 4) 0 (c .before .before .if1 .left))
+    rw (eq-eqb (c .before .before .before .args .target % 2) 0 (c .before .before .if1 .left))
     (completes x numbers mem (c .completed .ensures) (c .before .entered .ensures (regionsOf numbers)))
 
 pub enter-jump-spec : {M : Type 1} → statement M
