@@ -12,17 +12,16 @@ use borrow.Author.Tests.{lt-ltb, eq-eqb}
 use Rattle.words.specs.Word.{field, sext, fitsSigned, width, lay}
 use Rattle.words.proofs.Fields.{field-lt, Fit, Are, lay-lt, lay-read}
 use Rattle.words.proofs.Extend.{sext-field, low-fits, sext-wider}
-use Rattle.instructions.specs.Answers.{decodeNumber}
 use Rattle.instructions.specs.Encode.{two, multiple, inRange, encodeFields, encodeWord}
 use Rattle.instructions.specs.Fields.{wordOf}
 use Rattle.instructions.specs.declared.instruction.Instruction.{Instruction}
-use Rattle.instructions.specs.declared.instruction.Decoded.{Decoded}
-use Rattle.instructions.specs.declared.instruction.Decoded.the-variants.{Legal, Illegal}
+use Rattle.instructions.specs.declared.instruction.Decoded.the-variants.{Legal}
 use Rattle.instructions.specs.declared.instruction.Encoded.the-variants.{Word}
 use Rattle.instructions.proofs.Tests.{and-of, two-of}
 use Rattle.compressed.specs.Immediates.{rd, rs2, short, Scattered, piecesAt, pieces, zeroExtended, signExtended, addi4spn, wordOffset, doubleOffset, sixBits, addi16sp, upper, jumpOffset, branchOffset, wordFromStack, doubleFromStack, wordToStack, doubleToStack}
 use Rattle.compressed.specs.Table.{Line, takes, table}
 use Rattle.compressed.specs.Expand.{expandBy, expandHalf}
+use Rattle.compressed.proofs.Answers.{not-legal, legal-same}
 
 -- ---- registers and immediates, of whatever places
 
@@ -193,17 +192,11 @@ lines-ranged = (
 )
 
 ranged : (ls : List Line) → AllRanged ls → (h : ℕ) (i : Instruction) → expandBy ls h ≡ Legal i → inRange i ≡ true
-ranged [] a h i e = absurd (no-legal e)
-  where
-    no-legal : _≡_ {A = Decoded} Illegal (Legal i) → ⊥
-    no-legal q = let z : _≡_ {A = ℕ} 13 0 = ap decodeNumber q in omega arith
+ranged [] a h i e = absurd (not-legal e)
 ranged (l ∷ ls) a h i e = go (takes h l) (ranged ls (a .1) h i) e
   where
-    same : {j : Instruction} → _≡_ {A = Decoded} (Legal j) (Legal i) → j ≡ i
-    same q = cc
-
     go : (b : Bool) → (expandBy ls h ≡ Legal i → inRange i ≡ true) → cond b (Legal (l .expansion h)) (expandBy ls h) ≡ Legal i → inRange i ≡ true
-    go true later q = ap inRange (sym (same q)) ∙ a .0 h
+    go true later q = ap inRange (sym (legal-same q)) ∙ a .0 h
     go false later q = later q
 
 -- each field of an expansion is in its range

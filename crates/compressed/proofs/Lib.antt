@@ -1,4 +1,4 @@
-pub mod Legal
+pub mod Answers
 pub mod InRange
 pub mod OneLine
 pub mod LowBits

@@ -17,7 +17,7 @@ use Rattle.instructions.specs.declared.instruction.Decoded.the-variants.{Legal,
 use Rattle.instructions.proofs.Tests.{and-both}
 use Rattle.instructions.proofs.Tables.{cond-ind}
 use Rattle.compressed.specs.Expand.{expandHalf}
-use Rattle.compressed.proofs.Legal.{not-legal}
+use Rattle.compressed.proofs.Answers.{not-legal}
 
 -- a half-word has not both low bits
 pub half-low : (h : ℕ) (i : Instruction) → expandHalf h ≡ Legal i → field h 0 2 ≡ 3 → ⊥

@@ -13,7 +13,7 @@ use Rattle.instructions.specs.declared.instruction.Decoded.the-variants.{Legal,
 use Rattle.instructions.proofs.Tests.{and-both, and-of}
 use Rattle.compressed.specs.Table.{Bits, matches, matchesOne, Line, takes, table}
 use Rattle.compressed.specs.Expand.{expandBy, expandHalf}
-use Rattle.compressed.proofs.Legal.{not-legal, legal-same}
+use Rattle.compressed.proofs.Answers.{not-legal, legal-same}
 
 -- ---- a test that tells two lines apart by what they ask
 

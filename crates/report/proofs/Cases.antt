@@ -11,7 +11,8 @@ use Rattle.model.specs.Hfi.{hfiStop, hfiPerform}
 use Rattle.model.specs.Outcome.{allowed, aligned, settle}
 use Rattle.model.specs.Regions.{explicitRule, matches, firstMatch, implicitGrants, explicitGrants}
 use Rattle.model.specs.Run.{runBy, runCall}
-use Rattle.model.specs.Step.{load, store, jump, branch, perform, executeInstruction, executeWord, step}
+use Rattle.model.specs.Step.{load, store, perform, executeInstruction, executeWord, fetching, executeFetched, step}
+use Rattle.compressed.specs.Expand.{expandHalf}
 use Rattle.model.specs.WellFormed.{stateFits, wellFormed}
 use Rattle.model.specs.WritableCode.{explicitCovers, writableCode, exposesCode}
 use Rattle.text.specs.Number.{spelled, digits}
@@ -44,6 +45,8 @@ rows =
     )
     -- sixteen steps of a jump to itself, printed in hexadecimal
     ∷ (ascii "0,5,100,200,10,3,0,0,0,0,fffffffffffffff0,4,10\n0,0000006f\n", ascii "21,10,0,0,0,0,0,0,0\n")
+    -- a half-word at a pc that is 2 modulo 4 (02, Job 8): c.li x7, 7
+    ∷ (ascii "2,5,100,200,10,3,0,0,0,0,fffffffffffffff0,4,1\n0,439d0000\n", ascii "21,1,4,0,0,0,0,0,0\n7,7\n")
     -- document 01's example of a refusal
     ∷ (lineOne ++ ascii "0,\n", ascii "sheet,33,2\n")
     -- an empty file
@@ -59,5 +62,5 @@ expected [] = []
 expected (r ∷ rs) = r .1 ∷ expected rs
 
 pub rows-hold : reported rows ≡ expected rows
-unfolding report reportOver registerLines sheetRefusal linesRefusal wordsRefusal readWord rowOf memoryOf blank fileNo permissionsInRange readSetup split allWide firstThat count spelled digits runCall runBy step executeWord executeInstruction perform branch jump store load stateFits wellFormed explicitRule matches firstMatch implicitGrants explicitGrants explicitCovers writableCode exposesCode allowed aligned settle hfiStop hfiPerform value written scan firstRefused firstAbsent verdict decodeWord sext trailingZeros
+unfolding report reportOver registerLines sheetRefusal linesRefusal wordsRefusal readWord rowOf memoryOf blank fileNo permissionsInRange readSetup split allWide firstThat count spelled digits runCall runBy step executeFetched fetching executeWord executeInstruction perform store load stateFits wellFormed explicitRule matches firstMatch implicitGrants explicitGrants explicitCovers writableCode exposesCode allowed aligned settle hfiStop hfiPerform value written scan firstRefused firstAbsent verdict decodeWord expandHalf sext trailingZeros
 rows-hold = refl

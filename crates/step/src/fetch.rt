@@ -6,9 +6,9 @@ ghost use lib.ListN.{length};
 ghost use Rattle.compressed.specs.Expand.{isLong};
 ghost use Rattle.hart.specs.State.{regionsOf};
 ghost use Rattle.step.specs.Fetch.{halfAt, fetchVerdict, sizeAt, wordAt};
-use compressed::expand;
-use compressed::is_long;
 use decode::decode;
+use expand::expand;
+use expand::is_long;
 use hart::regions::REGION_NUMBERS;
 use instructions::instruction::Decoded;
 use memory::access::check_fetch;
@@ -25,7 +25,8 @@ fn check_halves(mode: u64, rs: &[u64; REGION_NUMBERS], mem: &[u8], pc: u64) -> V
     let v = check_fetch(mode, rs, len, pc);
     match v {
         Verdict::Passed => {
-            if is_long(read(mem, pc, 2)) {
+            let first = read(mem, pc, 2);
+            if is_long(first) {
                 check_fetch(mode, rs, len, wrapping_add_u64(pc, 2))
             } else {
                 Verdict::Passed
