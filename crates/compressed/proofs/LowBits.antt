@@ -3,10 +3,10 @@
 use mathlib.Core.Path.{_≡_, refl, sym, ap, _∙_}
 use mathlib.Core.Bool.{Bool, true, false, cond, _&&_}
 use mathlib.Core.List.{List, [], _∷_}
-use Prim.Native.Nat.{ℕ}
+use Prim.Native.Nat.{ℕ, _%_, _^_}
 use native.Mathlib.Omega.{arith}
 use lib.Dec.{eqb}
-use borrow.Author.Tests.{eqb-true}
+use borrow.Author.Tests.{eqb-true, eq-eqb, ne-eqb}
 use Rattle.words.specs.Word.{field}
 use Rattle.instructions.specs.Table.{lookup}
 use Rattle.instructions.specs.Fields.{fieldsOf}
@@ -16,7 +16,7 @@ use Rattle.instructions.specs.declared.instruction.Decoded.{Decoded}
 use Rattle.instructions.specs.declared.instruction.Decoded.the-variants.{Legal, Illegal}
 use Rattle.instructions.proofs.Tests.{and-both}
 use Rattle.instructions.proofs.Tables.{cond-ind}
-use Rattle.compressed.specs.Expand.{expandHalf}
+use Rattle.compressed.specs.Expand.{expandHalf, isLong}
 use Rattle.compressed.proofs.Answers.{not-legal}
 
 -- a half-word has not both low bits
@@ -45,6 +45,13 @@ found-low (r ∷ rs) n i t e =
 pub long-low : (w : ℕ) (i : Instruction) → decodeWord w ≡ Legal i → field w 0 2 ≡ 3
 unfolding decodeWord
 long-low w i e = let l : field (field w 0 7) 0 2 ≡ 3 = found-low (groups (fieldsOf w)) (field w 0 7) i refl e in omega arith
+
+-- so the test that a fetch makes tells which it is
+pub half-not-long : (h : ℕ) (i : Instruction) → expandHalf h ≡ Legal i → isLong h ≡ false
+half-not-long h i e = ne-eqb (field h 0 2) 3 (half-low h i e)
+
+pub word-long : (w : ℕ) (i : Instruction) → decodeWord w ≡ Legal i → isLong (w % 2 ^ 16) ≡ true
+word-long w i e = let l = long-low w i e in eq-eqb (field (w % 2 ^ 16) 0 2) 3 (omega (arith, l))
 
 pub not-both : (n : ℕ) (i j : Instruction) → decodeWord n ≡ Legal i → expandHalf n ≡ Legal j → ⊥
 not-both n i j d e = half-low n j e (long-low n i d)
