@@ -2,10 +2,11 @@
 //! row in the order of the manual's listing. A row has the 16 bits as the listing
 //! draws them, and the instruction that it stands for.
 
+use std::collections::HashMap;
 use std::sync::OnceLock;
 
 use crate::instruction::{
-    BranchKind, ImmediateKind, Instruction, LoadKind, RegisterKind, ShiftKind, StoreKind, SystemKind, UpperKind,
+    encode, BranchKind, ImmediateKind, Instruction, LoadKind, RegisterKind, ShiftKind, StoreKind, SystemKind, UpperKind,
 };
 use crate::numbers::{bits, signed};
 
@@ -226,6 +227,22 @@ pub fn expand(half: u16) -> Option<Instruction> {
     // Patterns are slow to read, so all words are expanded once.
     static ALL: OnceLock<Vec<Option<Instruction>>> = OnceLock::new();
     ALL.get_or_init(|| (0..=u16::MAX).map(|half| row(half).and_then(|row| row.2(Half(half)))).collect())[half as usize]
+}
+
+/// All half-words that stand for an instruction: "equal expansions need not be
+/// equal words".
+pub fn shortened(instruction: &Instruction) -> &'static [u16] {
+    static ALL: OnceLock<HashMap<u32, Vec<u16>>> = OnceLock::new();
+    let all = ALL.get_or_init(|| {
+        let mut all: HashMap<u32, Vec<u16>> = HashMap::new();
+        for half in 0..=u16::MAX {
+            if let Some(word) = expand(half).and_then(|instruction| encode(&instruction)) {
+                all.entry(word).or_default().push(half);
+            }
+        }
+        all
+    });
+    encode(instruction).and_then(|word| all.get(&word)).map_or(&[], |words| words.as_slice())
 }
 
 /// "takes two more only if the low two bits are both ones"

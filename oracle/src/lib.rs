@@ -6,6 +6,7 @@
 
 pub mod calls;
 pub mod compare;
+pub mod fetches;
 pub mod half_words;
 pub mod hfi_rules;
 pub mod instruction;

@@ -244,7 +244,7 @@ fn twenty_two_in_its_order() {
         stops(Machine { mode: 1, options: 14, ..machine }, &at(enter), 23, 0);
         stops(Machine { mode: 1, options: 15, ..machine }, &at(enter), 4, 0);
         // 10, 12 and 13 come before
-        stops(Machine { pc: 0x1002, ..machine }, &at(enter), 10, 0);
+        stops(Machine { pc: 0x1001, ..machine }, &at(enter), 10, 0);
         stops(Machine { pc: 0x2000, ..machine }, &at(enter), 12, 0x2000);
         stops(machine, &at(enter | 1 << 7), 13, 0);
     }
