@@ -570,7 +570,7 @@ fn changed_regions_are_noticed() {
         let changes: [Box<dyn Fn(&mut Machine)>; 2] = [Box::new(grant), Box::new(mend)];
         for (n, change) in changes.into_iter().enumerate() {
             let (mut counts, engine) = (Counts::default(), Changing(change));
-            (0..4).for_each(|seed| compare(&Oracle, &engine, &mut Supply::new(7 + seed), &mut counts));
+            (0..8).for_each(|seed| compare(&Oracle, &engine, &mut Supply::new(7 + seed), &mut counts));
             assert!(counts.differing > 0, "region {number}, change {n}");
         }
     }
