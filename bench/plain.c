@@ -275,18 +275,6 @@ static __attribute__((noinline, cold)) uint64_t fetch_by_halves(struct machine *
     return 0;
 }
 
-/* The word at pc. Where all four bytes are granted and in memory nothing is left
-   to ask, whatever its length is. */
-static inline uint64_t fetch(struct machine *m, const uint8_t *memory, size_t length, uint32_t *w, uint64_t *address)
-{
-    uint64_t pc = m->pc;
-    if (pc < length && length - pc >= 4 && (!m->mode || one_grants(m, &implicit_code, pc, 4, EXECUTE))) {
-        *w = (uint32_t)get(memory + pc, 4);
-        return 0;
-    }
-    return fetch_by_halves(m, memory, length, w, address);
-}
-
 /* Long words by their formats; an immediate may have bits above its field. */
 static inline uint32_t i_word(uint32_t opcode, uint32_t funct3, uint32_t rd, uint32_t rs1, uint32_t value)
 {
@@ -320,62 +308,69 @@ static inline uint32_t r_word(uint32_t operation, uint32_t rd, uint32_t rs1, uin
 /* Ones from bit `to` on if bit 12 of a half-word is set: the sign. */
 #define SIGN(h, to) ((0 - ((h) >> 12 & 1)) << (to))
 
-/* Half-words by quadrant: the long word of the same instruction, 0 if illegal.
-   C.LW, C.LD, C.SW, C.SD and C.ADDI4SPN. */
-static inline uint32_t quadrant_0(uint32_t h)
+/* The immediates of half-words. */
+static inline uint32_t six(uint32_t h)
 {
-    uint32_t low = 8 + (h >> 2 & 7), high = 8 + (h >> 7 & 7);
-    uint32_t word = MOVED(h, 10, 3, 3) | MOVED(h, 6, 1, 2) | MOVED(h, 5, 1, 6), twice = MOVED(h, 10, 3, 3) | MOVED(h, 5, 2, 6);
-    uint32_t above = MOVED(h, 11, 2, 4) | MOVED(h, 7, 4, 6) | MOVED(h, 6, 1, 2) | MOVED(h, 5, 1, 3);
-    switch (h >> 13) {
-    case 0: return above ? i_word(0x13, 0, low, 2, above) : 0;
-    case 2: return i_word(0x03, 2, low, high, word);
-    case 3: return i_word(0x03, 3, low, high, twice);
-    case 6: return s_word(2, high, low, word);
-    case 7: return s_word(3, high, low, twice);
-    default: return 0;
-    }
+    return MOVED(h, 12, 1, 5) | MOVED(h, 2, 5, 0);
 }
 
-/* C.SRLI, C.SRAI, C.ANDI, and what two registers of x8 to x15 make. */
-static inline uint32_t short_operation(uint32_t h)
+static inline uint32_t six_signed(uint32_t h)
 {
-    /* SUB, XOR, OR, AND; SUBW, ADDW */
-    static const uint32_t operations[8] = {0x40000033, 0x00004033, 0x00006033, 0x00007033, 0x4000003b, 0x0000003b, 0, 0};
-    uint32_t rd = 8 + (h >> 7 & 7), amount = MOVED(h, 12, 1, 5) | MOVED(h, 2, 5, 0);
-    uint32_t operation = operations[MOVED(h, 12, 1, 2) | MOVED(h, 5, 2, 0)];
-    switch (h >> 10 & 3) {
-    case 0: return i_word(0x13, 5, rd, rd, amount);
-    case 1: return i_word(0x13, 5, rd, rd, 0x400 | amount);
-    case 2: return i_word(0x13, 7, rd, rd, SIGN(h, 5) | MOVED(h, 2, 5, 0));
-    default: return operation ? r_word(operation, rd, rd, 8 + (h >> 2 & 7)) : 0;
-    }
+    return SIGN(h, 5) | MOVED(h, 2, 5, 0);
+}
+
+static inline uint32_t stack_distance(uint32_t h)
+{
+    return MOVED(h, 11, 2, 4) | MOVED(h, 7, 4, 6) | MOVED(h, 6, 1, 2) | MOVED(h, 5, 1, 3);
+}
+
+static inline uint32_t stack_step(uint32_t h)
+{
+    return SIGN(h, 9) | MOVED(h, 6, 1, 4) | MOVED(h, 5, 1, 6) | MOVED(h, 3, 2, 7) | MOVED(h, 2, 1, 5);
+}
+
+static inline uint32_t word_offset(uint32_t h)
+{
+    return MOVED(h, 10, 3, 3) | MOVED(h, 6, 1, 2) | MOVED(h, 5, 1, 6);
+}
+
+static inline uint32_t double_offset(uint32_t h)
+{
+    return MOVED(h, 10, 3, 3) | MOVED(h, 5, 2, 6);
+}
+
+static inline uint32_t jump_offset(uint32_t h)
+{
+    return SIGN(h, 11) | MOVED(h, 11, 1, 4) | MOVED(h, 9, 2, 8) | MOVED(h, 8, 1, 10) | MOVED(h, 7, 1, 6) | MOVED(h, 6, 1, 7) |
+           MOVED(h, 3, 3, 1) | MOVED(h, 2, 1, 5);
+}
+
+static inline uint32_t branch_offset(uint32_t h)
+{
+    return SIGN(h, 8) | MOVED(h, 10, 2, 3) | MOVED(h, 5, 2, 6) | MOVED(h, 3, 2, 1) | MOVED(h, 2, 1, 5);
 }
 
 /* C.LUI and, for x2, C.ADDI16SP. */
-static inline uint32_t short_upper(uint32_t h, uint32_t rd, uint32_t value)
+static inline uint32_t short_upper(uint32_t h, uint32_t rd)
 {
-    uint32_t stack = SIGN(h, 9) | MOVED(h, 6, 1, 4) | MOVED(h, 5, 1, 6) | MOVED(h, 3, 2, 7) | MOVED(h, 2, 1, 5);
-    if (value == 0)
+    if (six(h) == 0)
         return 0;
-    return rd == 2 ? i_word(0x13, 0, 2, 2, stack) : value << 12 | rd << 7 | 0x37;
+    return rd == 2 ? i_word(0x13, 0, 2, 2, stack_step(h)) : six_signed(h) << 12 | rd << 7 | 0x37;
 }
 
-static inline uint32_t quadrant_1(uint32_t h)
+/* C.SRLI, C.SRAI, C.ANDI, and what two registers of x8 to x15 make. */
+static inline uint32_t short_operation(uint32_t h, uint32_t rd, uint32_t rs2)
 {
-    uint32_t rd = h >> 7 & 31, value = SIGN(h, 5) | MOVED(h, 2, 5, 0);
-    uint32_t jump = SIGN(h, 11) | MOVED(h, 11, 1, 4) | MOVED(h, 9, 2, 8) | MOVED(h, 8, 1, 10) | MOVED(h, 7, 1, 6) |
-                    MOVED(h, 6, 1, 7) | MOVED(h, 3, 3, 1) | MOVED(h, 2, 1, 5);
-    uint32_t branch = SIGN(h, 8) | MOVED(h, 10, 2, 3) | MOVED(h, 5, 2, 6) | MOVED(h, 3, 2, 1) | MOVED(h, 2, 1, 5);
-    switch (h >> 13) {
-    case 0: return i_word(0x13, 0, rd, rd, value);
-    case 1: return rd ? i_word(0x1b, 0, rd, rd, value) : 0;
-    case 2: return i_word(0x13, 0, rd, 0, value);
-    case 3: return short_upper(h, rd, value);
-    case 4: return short_operation(h);
-    case 5: return j_word(jump);
-    case 6: return b_word(0, 8 + (h >> 7 & 7), branch);
-    default: return b_word(1, 8 + (h >> 7 & 7), branch);
+    /* SUB, XOR, OR, AND; SUBW, ADDW */
+    static const uint32_t operations[8] = {0x40000033, 0x00004033, 0x00006033, 0x00007033, 0x4000003b, 0x0000003b, 0, 0};
+    uint32_t operation;
+    switch (h >> 10 & 3) {
+    case 0: return i_word(0x13, 5, rd, rd, six(h));
+    case 1: return i_word(0x13, 5, rd, rd, 0x400 | six(h));
+    case 2: return i_word(0x13, 7, rd, rd, six_signed(h));
+    default:
+        operation = operations[MOVED(h, 12, 1, 2) | MOVED(h, 5, 2, 0)];
+        return operation ? r_word(operation, rd, rd, rs2) : 0;
     }
 }
 
@@ -390,26 +385,33 @@ static inline uint32_t short_register(uint32_t h, uint32_t rd, uint32_t rs2)
     return link ? 0x00100073 : 0;
 }
 
-static inline uint32_t quadrant_2(uint32_t h)
+/* The long word of a half-word's instruction, 0 if it is illegal: by quadrant and
+   funct3, in the listing's order. low and high are x8 to x15. Not part of the
+   loop of steps, where it would take registers from the long words. */
+static __attribute__((noinline)) uint32_t expand(uint32_t h)
 {
-    uint32_t rd = h >> 7 & 31, rs2 = h >> 2 & 31;
-    switch (h >> 13) {
-    case 0: return i_word(0x13, 1, rd, rd, MOVED(h, 12, 1, 5) | rs2);
-    case 2: return rd ? i_word(0x03, 2, rd, 2, MOVED(h, 12, 1, 5) | MOVED(h, 4, 3, 2) | MOVED(h, 2, 2, 6)) : 0;
-    case 3: return rd ? i_word(0x03, 3, rd, 2, MOVED(h, 12, 1, 5) | MOVED(h, 5, 2, 3) | MOVED(h, 2, 3, 6)) : 0;
-    case 4: return short_register(h, rd, rs2);
-    case 6: return s_word(2, 2, rs2, MOVED(h, 9, 4, 2) | MOVED(h, 7, 2, 6));
-    case 7: return s_word(3, 2, rs2, MOVED(h, 10, 3, 3) | MOVED(h, 7, 3, 6));
+    uint32_t low = 8 + (h >> 2 & 7), high = 8 + (h >> 7 & 7), rd = h >> 7 & 31, rs2 = h >> 2 & 31;
+    switch ((h & 3) << 3 | h >> 13) {
+    case 0: return stack_distance(h) ? i_word(0x13, 0, low, 2, stack_distance(h)) : 0;
+    case 2: return i_word(0x03, 2, low, high, word_offset(h));
+    case 3: return i_word(0x03, 3, low, high, double_offset(h));
+    case 6: return s_word(2, high, low, word_offset(h));
+    case 7: return s_word(3, high, low, double_offset(h));
+    case 8: return i_word(0x13, 0, rd, rd, six_signed(h));
+    case 9: return rd ? i_word(0x1b, 0, rd, rd, six_signed(h)) : 0;
+    case 10: return i_word(0x13, 0, rd, 0, six_signed(h));
+    case 11: return short_upper(h, rd);
+    case 12: return short_operation(h, high, low);
+    case 13: return j_word(jump_offset(h));
+    case 14: return b_word(0, high, branch_offset(h));
+    case 15: return b_word(1, high, branch_offset(h));
+    case 16: return i_word(0x13, 1, rd, rd, six(h));
+    case 18: return rd ? i_word(0x03, 2, rd, 2, MOVED(h, 12, 1, 5) | MOVED(h, 4, 3, 2) | MOVED(h, 2, 2, 6)) : 0;
+    case 19: return rd ? i_word(0x03, 3, rd, 2, MOVED(h, 12, 1, 5) | MOVED(h, 5, 2, 3) | MOVED(h, 2, 3, 6)) : 0;
+    case 20: return short_register(h, rd, rs2);
+    case 22: return s_word(2, 2, rs2, MOVED(h, 9, 4, 2) | MOVED(h, 7, 2, 6));
+    case 23: return s_word(3, 2, rs2, MOVED(h, 10, 3, 3) | MOVED(h, 7, 3, 6));
     default: return 0;
-    }
-}
-
-static inline uint32_t expand(uint32_t h)
-{
-    switch (h & 3) {
-    case 0: return quadrant_0(h);
-    case 1: return quadrant_1(h);
-    default: return quadrant_2(h);
     }
 }
 
@@ -423,13 +425,21 @@ static inline uint32_t expand(uint32_t h)
 static inline uint64_t one_step(struct machine *m, uint8_t *memory, size_t length, uint64_t *address)
 {
     uint64_t *x = m->x;
-    uint64_t pc = m->pc, stop, next = pc + 4;
+    uint64_t pc = m->pc, next = pc + 4;
     uint32_t w;
 
     if (pc & 1)
         STOP(10);
-    if ((stop = fetch(m, memory, length, &w, address)))
-        return stop;
+    /* Where all four bytes are granted and in memory nothing is left to ask, whatever the word's length is. */
+    if ((!m->mode || one_grants(m, &implicit_code, pc, 4, EXECUTE)) && pc < length && length - pc >= 4) {
+        w = (uint32_t)get(memory + pc, 4);
+    } else {
+        uint32_t fetched; /* so that w stays in a register */
+        uint64_t stop = fetch_by_halves(m, memory, length, &fetched, address);
+        if (stop)
+            return stop;
+        w = fetched;
+    }
     if ((w & 3) != 3) {
         w = expand(w & 65535);
         next = pc + 2;
