@@ -673,7 +673,7 @@ def noticed(program, folder, source):
     subprocess.run(["gcc", "-O1", "-std=gnu11", "-w", "-shared", "-fPIC", "-I", HERE, edited, "-o", thing], check=True)
     rounds = sys.argv[1] if len(sys.argv) > 1 else "300"
     try: # a fault may keep a step from ending
-        made = subprocess.run([program, "plain", "3", rounds], stdout=subprocess.DEVNULL, stderr=subprocess.DEVNULL, timeout=1800,
+        made = subprocess.run([program, "plain", "3", rounds, "1", "first"], stdout=subprocess.DEVNULL, stderr=subprocess.DEVNULL, timeout=1800,
                               env=dict(os.environ, PLAIN=thing))
     except subprocess.TimeoutExpired:
         return True
