@@ -12,12 +12,17 @@ import tempfile
 HERE = os.path.dirname(os.path.abspath(__file__))
 ORACLE = os.path.join(HERE, "..", "oracle")
 
+# of fetch_by_halves
+GRANTED = "if (m->mode && !implicit_grant(m, &implicit_code, a, 2, EXECUTE, OP_FETCH))\n            return 11;\n        "
+IN_MEMORY = "if (!present(a, 2, length, address))\n            return 12;\n        "
+TWO_MORE = "if ((*w & 3) != 3)\n            break;"
+
 FAULTS = [
     # the traps document 01 names
     ("an unset mask passes", "(low & (low + 1)) == 0 && low < TOP &&", "(low & (low + 1)) == 0 && (low < TOP || low + 1 == 0) &&"),
     ("only the first byte is checked", "&& ((a + n - 1) & r->bound) == r->base && ", "&& "),
-    ("jalr takes the new value", "v = next;\n        next = target;\n        goto write_rd;\n    }\n    case 0x63",
-     "v = next;\n        if (rd && rd == rs1) target = (next + (uint64_t)i_value) & ~(uint64_t)3;\n        next = target;\n        goto write_rd;\n    }\n    case 0x63"),
+    ("jalr takes the new value", "next = (x[rs1] + (uint64_t)i_value) & ~(uint64_t)1;",
+     "next = ((rd && rd == rs1 ? next : x[rs1]) + (uint64_t)i_value) & ~(uint64_t)1;"),
     ("an h-load asks the implicit regions", "i_value, n, READ, OP_LOAD, &a))\n                STOP(16);",
      "i_value, n, READ, OP_LOAD, &a) || !implicit_grant(m, &implicit_data, a, n, READ, OP_LOAD))\n                STOP(16);"),
     # what the published vectors do not notice
@@ -29,7 +34,7 @@ FAULTS = [
     ("slt compares 32 bits", "case 2: v = (int64_t)x[rs1] < (int64_t)x[rs2];", "case 2: v = (int32_t)x[rs1] < (int32_t)x[rs2];"),
     ("slli with bit 26", "if (w >> 26)\n", "if (w >> 27)\n"),
     ("slliw with bit 25", "if (funct7)\n                STOP(13);\n            v = word_value(x[rs1] << rs2);", "v = word_value(x[rs1] << rs2);"),
-    ("jalr with any funct3", "if (funct3)\n            STOP(13);\n        uint64_t target = (x", "uint64_t target = (x"),
+    ("jalr with any funct3", "if (funct3)\n            STOP(13);\n        v = next;", "v = next;"),
     ("a load with funct3 7", "if (funct3 == 7)\n            STOP(13);", ""),
     ("an access across the end of memory", "if (a < length && length - a >= n)", "if (a < length)"),
     ("first absent byte is the start", "*absent = a >= length ? a : (uint64_t)length;", "*absent = a;"),
@@ -53,8 +58,7 @@ FAULTS = [
     ("fault region never named", "{1, number, op, a + i}", "{1, 0, op, a + i}"),
     ("17 before 16", "if (m->mode && !implicit_grant(m, &implicit_data, a, n, READ, OP_LOAD))\n                STOP(16);\n        }",
      "if (!present(a, n, length, address))\n                return 17;\n            if (m->mode && !implicit_grant(m, &implicit_data, a, n, READ, OP_LOAD))\n                STOP(16);\n        }"),
-    ("12 before 11", "if (m->mode && !implicit_grant(m, &implicit_code, pc, 4, EXECUTE, OP_FETCH))\n        STOP(11);",
-     "if (!present(pc, 4, length, address))\n        return 12;\n    if (m->mode && !implicit_grant(m, &implicit_code, pc, 4, EXECUTE, OP_FETCH))\n        STOP(11);"),
+    ("12 before 11", GRANTED + IN_MEMORY, IN_MEMORY + GRANTED),
     ("loads into x0 ask nothing", "a = x[rs1] + (uint64_t)i_value;\n", "a = x[rs1] + (uint64_t)i_value;\n            if (!rd) goto done;\n"),
     # the offset of h-words
     ("offset: wraps at 2^64", "(value | offset) >> 63", "offset >> 63"),
@@ -94,7 +98,7 @@ FAULTS = [
     ("set handler keeps bit 62", "operand & 0x3ffffffffffffffcu", "operand & 0x7ffffffffffffffcu"),
     ("reset keeps the selector", "m->selector = 0;\n            break;", "break;"),
     ("permission bits not asked", "if (operand & ~has[m->selector])\n                STOP(14);", ""),
-    ("enter's jump target not asked", "if (x[rs2] & 3)\n                    STOP(15);", ""),
+    ("enter's jump target not asked", "if (x[rs2] & 1)\n                    STOP(15);", ""),
     ("h-words outside HFI mode", "if (!m->mode)\n                STOP(14);\n            if (!explicit_grant(m, chosen(rs1, rd), x[rs1 & 15], i_value", "if (!explicit_grant(m, chosen(rs1, rd), x[rs1 & 15], i_value"),
     ("hfi rows may name rs2", "|| (spare & 4 && rs2))", ")"),
     # runs
@@ -421,6 +425,117 @@ FAULTS = [
      "for (unsigned i = 0; i < 3; i++)\n        if (both("),
     ("regions: code: the base of the last is not asked", "for (unsigned i = 0; i < REGIONS; i++)\n        if (both(",
      "for (unsigned i = 0; i < REGIONS - 1; i++)\n        if (both("),
+    # half-words: pc, fetch, lengths, targets
+    ("half: pc may be odd", "if (pc & 1)\n        STOP(10);", ""),
+    ("half: pc is a multiple of 4", "if (pc & 1)", "if (pc & 3)"),
+    ("half: an enter's target is a multiple of 4", "if (x[rs2] & 1)", "if (x[rs2] & 3)"),
+    ("half: jal gets 15", "next = pc + (uint64_t)extend(offset, 21);", "if ((pc + offset) & 3)\n            STOP(15);\n        next = pc + (uint64_t)extend(offset, 21);"),
+    ("half: jalr gets 15", "v = next;\n        next = (x[rs1]", "if ((x[rs1] + (uint64_t)i_value) & 2)\n            STOP(15);\n        v = next;\n        next = (x[rs1]"),
+    ("half: a branch gets 15", "next = pc + (uint64_t)extend(offset, 13);", "next = pc + (uint64_t)extend(offset, 13);\n            if (next & 3)\n                STOP(15);"),
+    ("half: the next pc is 4 on", "next = pc + 2;", "next = pc + 4;"),
+    ("half: the next pc of a long word is 2 on", "next = pc + 4;", "next = pc + 2;"),
+    ("half: a long word at 2 past a multiple of 4 ends there", "next = pc + 4;", "next = (pc + 4) & ~(uint64_t)3;"),
+    ("half: a jump links 4 on", "v = next;\n        next = (x[rs1]", "v = pc + 4;\n        next = (x[rs1]"),
+    ("half: jal links 2 on", "v = next;\n        next = pc +", "v = pc + 2;\n        next = pc +"),
+    ("half: exit pc loses bit 1", "m->reason = 1;\n            m->exit_pc = pc;", "m->reason = 1;\n            m->exit_pc = pc & ~(uint64_t)3;"),
+    ("half: exit pc of a call loses bit 1", "m->reason = 2;\n        m->exit_pc = pc;", "m->reason = 2;\n        m->exit_pc = pc & ~(uint64_t)3;"),
+    ("half: all four bytes are asked of a half-word", TWO_MORE, ""),
+    ("half: one low bit takes two more", TWO_MORE, "if (!(*w & 1))\n            break;"),
+    ("half: the other low bit takes two more", TWO_MORE, "if (!(*w & 2))\n            break;"),
+    ("half: no second half is taken", TWO_MORE, "break;"),
+    ("half: the second half is not refused", GRANTED, GRANTED.replace("m->mode &&", "m->mode && !at &&")),
+    ("half: the first half is not refused", GRANTED, GRANTED.replace("m->mode &&", "m->mode && at &&")),
+    ("half: outside HFI mode regions are asked", GRANTED, GRANTED.replace("m->mode && ", "")),
+    ("half: 12 before 11 of the second half", GRANTED, "if (at && !present(a, 2, length, address))\n            return 12;\n        " + GRANTED),
+    ("half: 11 of both halves before 12", "*address = 0;\n    for (unsigned at",
+     "*address = 0;\n    if (m->mode && m->pc < length && (memory[m->pc] & 3) == 3 && !implicit_grant(m, &implicit_code, m->pc, 4, EXECUTE, OP_FETCH))\n        return 11;\n    for (unsigned at"),
+    ("half: 13 before the second half is asked", TWO_MORE, "if ((*w & 31) == 31)\n            return 13;\n        " + TWO_MORE),
+    ("half: a refused second half is recorded at pc", GRANTED, GRANTED.replace("return 11;", "return m->fault.address -= at, 11;")),
+    ("half: an absent second half is told at pc", IN_MEMORY, IN_MEMORY.replace("return 12;", "return *address -= at, 12;")),
+    ("half: only the first byte of a half is in question", GRANTED, GRANTED.replace("a, 2,", "a, 1,")),
+    ("half: only the first byte of a half need be in memory", IN_MEMORY, IN_MEMORY.replace("a, 2,", "a, 1,")),
+    ("half: the first half is taken twice", "get(memory + a, 2) << 8 * at", "get(memory + m->pc, 2) << 8 * at"),
+    ("half: halves are exchanged", "w = (uint32_t)get(memory + pc, 4);", "w = (uint32_t)get(memory + pc, 4);\n        if (pc & 2)\n            w = w << 16 | w >> 16;"),
+    ("half: what follows a half-word counts", "w = expand(w & 65535);", "w = expand(w);"),
+    # half-words: quadrant 0
+    ("half: c.addi4spn 0 is legal", "case 0: return stack_distance(h) ? i_word(0x13, 0, low, 2, stack_distance(h)) : 0;", "case 0: return i_word(0x13, 0, low, 2, stack_distance(h));"),
+    ("half: only 0 is illegal of c.addi4spn 0", "case 0: return stack_distance(h) ?", "case 0: return h ?"),
+    ("half: c.addi4spn bits 2 and 3", "MOVED(h, 6, 1, 2) | MOVED(h, 5, 1, 3);", "MOVED(h, 6, 1, 3) | MOVED(h, 5, 1, 2);"),
+    ("half: c.addi4spn bits 4 to 9", "MOVED(h, 11, 2, 4) | MOVED(h, 7, 4, 6)", "MOVED(h, 11, 2, 8) | MOVED(h, 7, 4, 4)"),
+    ("half: c.addi4spn of rd", "i_word(0x13, 0, low, 2, stack", "i_word(0x13, 0, low, low, stack"),
+    ("half: c.lw bits 2 and 6", "MOVED(h, 6, 1, 2) | MOVED(h, 5, 1, 6)", "MOVED(h, 6, 1, 6) | MOVED(h, 5, 1, 2)"),
+    ("half: c.ld as c.lw", "return MOVED(h, 10, 3, 3) | MOVED(h, 5, 2, 6);", "return word_offset(h);"),
+    ("half: c.ld bits 6 and 7", "return MOVED(h, 10, 3, 3) | MOVED(h, 5, 2, 6);", "return MOVED(h, 10, 3, 3) | MOVED(h, 5, 1, 7) | MOVED(h, 6, 1, 6);"),
+    ("half: c.lw without its sign", "i_word(0x03, 2, low, high,", "i_word(0x03, 6, low, high,"),
+    ("half: c.sw stores rs1", "s_word(2, high, low,", "s_word(2, low, high,"),
+    ("half: registers from x0", "low = 8 + (h >> 2 & 7), high", "low = (h >> 2 & 7), high"),
+    ("half: c.fld is c.ld", "case 3: return i_word", "case 1:\n    case 3: return i_word"),
+    ("half: c.fsd is c.sd", "case 7: return s_word", "case 5:\n    case 7: return s_word"),
+    ("half: c.lbu of Zcb", "case 6: return s_word",
+     "case 4: return h >> 10 & 7 ? 0 : i_word(0x03, 4, low, high, MOVED(h, 6, 1, 0) | MOVED(h, 5, 1, 1));\n    case 6: return s_word"),
+    # quadrant 1
+    ("half: c.addi unsigned", "case 8: return i_word(0x13, 0, rd, rd, six_signed(h));", "case 8: return i_word(0x13, 0, rd, rd, six(h));"),
+    ("half: c.addi of 0 is illegal", "case 8: return", "case 8: return !six(h) && rd ? 0 :"),
+    ("half: c.nop with a number is illegal", "case 8: return", "case 8: return six(h) && !rd ? 0 :"),
+    ("half: c.addiw x0 is legal", "case 9: return rd ?", "case 9: return 1 ?"),
+    ("half: c.addiw of 64 bits", "i_word(0x1b, 0, rd, rd,", "i_word(0x13, 0, rd, rd,"),
+    ("half: c.jal of RV32", "case 9: return", "case 9: return j_word(jump_offset(h)) | 1 << 7;\n        return"),
+    ("half: c.li adds", "i_word(0x13, 0, rd, 0,", "i_word(0x13, 0, rd, rd,"),
+    ("half: c.li x0 is illegal", "case 10: return i_word", "case 10: return !rd ? 0 : i_word"),
+    ("half: c.lui 0 is legal", "if (six(h) == 0)", "if (six(h) == 0 && rd == 2)"),
+    ("half: c.lui x0 0 is legal", "if (six(h) == 0)", "if (six(h) == 0 && rd)"),
+    ("half: c.addi16sp 0 is legal", "if (six(h) == 0)", "if (six(h) == 0 && rd != 2)"),
+    ("half: c.lui x0 is illegal", "if (six(h) == 0)", "if (six(h) == 0 || rd == 0)"),
+    ("half: c.lui unsigned", "six_signed(h) << 12", "six(h) << 12"),
+    ("half: c.addi16sp bits 4 and 6", "MOVED(h, 6, 1, 4) | MOVED(h, 5, 1, 6)", "MOVED(h, 6, 1, 6) | MOVED(h, 5, 1, 4)"),
+    ("half: c.addi16sp bits 5 and 7", "MOVED(h, 3, 2, 7) | MOVED(h, 2, 1, 5);", "MOVED(h, 4, 1, 8) | MOVED(h, 2, 1, 7) | MOVED(h, 3, 1, 5);"),
+    ("half: c.addi16sp unsigned", "SIGN(h, 9)", "MOVED(h, 12, 1, 9)"),
+    ("half: c.addi16sp is c.lui", "return rd == 2 ? i_word(0x13, 0, 2, 2, stack_step(h)) : ", "return "),
+    ("half: c.srai shifts in zeros", "0x400 | six(h)", "six(h)"),
+    ("half: amounts of 5 bits", "case 0: return i_word(0x13, 5, rd, rd, six(h));", "case 0: return i_word(0x13, 5, rd, rd, six(h) & 31);"),
+    ("half: c.srli by 0 is illegal", "case 0: return i_word(0x13, 5,", "case 0: return !six(h) ? 0 : i_word(0x13, 5,"),
+    ("half: c.andi unsigned", "i_word(0x13, 7, rd, rd, six_signed(h))", "i_word(0x13, 7, rd, rd, six(h))"),
+    ("half: c.sub and c.xor exchanged", "{0x40000033, 0x00004033,", "{0x00004033, 0x40000033,"),
+    ("half: c.or and c.and exchanged", "0x00006033, 0x00007033,", "0x00007033, 0x00006033,"),
+    ("half: c.subw and c.addw exchanged", "0x4000003b, 0x0000003b, 0, 0}", "0x0000003b, 0x4000003b, 0, 0}"),
+    ("half: c.subw of 64 bits", "0x4000003b, 0x0000003b, 0, 0}", "0x40000033, 0x0000003b, 0, 0}"),
+    ("half: c.mul of Zcb", "0x0000003b, 0, 0}", "0x0000003b, 0x02000033, 0}"),
+    ("half: the last slot is c.addw", "0x0000003b, 0, 0}", "0x0000003b, 0, 0x0000003b}"),
+    ("half: operands exchanged", "r_word(operation, rd, rd, rs2)", "r_word(operation, rd, rs2, rd)"),
+    ("half: c.j bits 4, 8 and 9", "MOVED(h, 11, 1, 4) | MOVED(h, 9, 2, 8)", "MOVED(h, 11, 1, 9) | MOVED(h, 10, 1, 8) | MOVED(h, 9, 1, 4)"),
+    ("half: c.j bits 6 and 10", "MOVED(h, 8, 1, 10) | MOVED(h, 7, 1, 6)", "MOVED(h, 8, 1, 6) | MOVED(h, 7, 1, 10)"),
+    ("half: c.j bits 7 and 5", "MOVED(h, 6, 1, 7) |\n           MOVED(h, 3, 3, 1) | MOVED(h, 2, 1, 5)", "MOVED(h, 6, 1, 5) |\n           MOVED(h, 3, 3, 1) | MOVED(h, 2, 1, 7)"),
+    ("half: c.j unsigned", "SIGN(h, 11)", "MOVED(h, 12, 1, 11)"),
+    ("half: c.j links", "case 13: return j_word(jump_offset(h));", "case 13: return j_word(jump_offset(h)) | 1 << 7;"),
+    ("half: c.beqz bits 3, 4, 6, 7", "MOVED(h, 10, 2, 3) | MOVED(h, 5, 2, 6)", "MOVED(h, 10, 2, 6) | MOVED(h, 5, 2, 3)"),
+    ("half: c.beqz bits 1, 2, 5", "MOVED(h, 3, 2, 1) | MOVED(h, 2, 1, 5);", "MOVED(h, 2, 2, 1) | MOVED(h, 4, 1, 5);"),
+    ("half: c.beqz unsigned", "SIGN(h, 8)", "MOVED(h, 12, 1, 8)"),
+    ("half: c.beqz is c.bnez", "b_word(0, high", "b_word(1, high"),
+    ("half: c.bnez of any register", "b_word(1, high", "b_word(1, rd"),
+    # quadrant 2
+    ("half: c.slli by 5 bits", "i_word(0x13, 1, rd, rd, six(h))", "i_word(0x13, 1, rd, rd, rs2)"),
+    ("half: c.slli x0 is illegal", "case 16: return", "case 16: return !rd ? 0 :"),
+    ("half: c.slli64 is illegal", "case 16: return", "case 16: return !six(h) ? 0 :"),
+    ("half: c.lwsp x0 is legal", "case 18: return rd ?", "case 18: return 1 ?"),
+    ("half: c.ldsp x0 is legal", "case 19: return rd ?", "case 19: return 1 ?"),
+    ("half: c.lwsp bits", "MOVED(h, 4, 3, 2) | MOVED(h, 2, 2, 6)", "MOVED(h, 2, 3, 2) | MOVED(h, 5, 2, 6)"),
+    ("half: c.ldsp as c.lwsp", "MOVED(h, 5, 2, 3) | MOVED(h, 2, 3, 6)", "MOVED(h, 4, 3, 2) | MOVED(h, 2, 2, 6)"),
+    ("half: c.lwsp by x8", "i_word(0x03, 2, rd, 2,", "i_word(0x03, 2, rd, 8,"),
+    ("half: c.lwsp without its sign", "i_word(0x03, 2, rd, 2,", "i_word(0x03, 6, rd, 2,"),
+    ("half: c.fldsp is c.ldsp", "case 19: return", "case 17:\n    case 19: return"),
+    ("half: c.fsdsp is c.sdsp", "case 23: return", "case 21:\n    case 23: return"),
+    ("half: c.swsp bits", "MOVED(h, 9, 4, 2) | MOVED(h, 7, 2, 6)", "MOVED(h, 7, 4, 2) | MOVED(h, 11, 2, 6)"),
+    ("half: c.sdsp as c.swsp", "MOVED(h, 10, 3, 3) | MOVED(h, 7, 3, 6)", "MOVED(h, 9, 4, 2) | MOVED(h, 7, 2, 6)"),
+    ("half: c.mv adds", "r_word(0x33, rd, link ? rd : 0, rs2)", "r_word(0x33, rd, rd, rs2)"),
+    ("half: c.add moves", "r_word(0x33, rd, link ? rd : 0, rs2)", "r_word(0x33, rd, 0, rs2)"),
+    ("half: c.mv x0 is illegal", "if (rs2)\n        return r_word", "if (rs2 && !rd)\n        return 0;\n    if (rs2)\n        return r_word"),
+    ("half: c.jr x0 is legal", "if (rd)\n        return i_word(0x67", "if (rd || !link)\n        return i_word(0x67"),
+    ("half: c.jr links", "i_word(0x67, 0, link, rd, 0)", "i_word(0x67, 0, 1, rd, 0)"),
+    ("half: c.jalr does not link", "i_word(0x67, 0, link, rd, 0)", "i_word(0x67, 0, 0, rd, 0)"),
+    ("half: c.jalr links in x5", "i_word(0x67, 0, link, rd, 0)", "i_word(0x67, 0, 5 * link, rd, 0)"),
+    ("half: c.ebreak is illegal", "return link ? 0x00100073 : 0;", "return 0;"),
+    ("half: c.ebreak is ecall", "return link ? 0x00100073 : 0;", "return link ? 0x00000073 : 0;"),
+    ("half: quadrant 2 is 1", "switch ((h & 3) << 3 | h >> 13) {", "switch ((h & 1) << 3 | (h & 2) << 2 | h >> 13) {"),
     # RV64M
     ("rv64m: mul of the low halves", "case 0: return p * q;", "case 0: return (uint64_t)(uint32_t)p * (uint32_t)q;"),
     ("rv64m: mulh unsigned", "case 1: return (uint64_t)((__int128)(int64_t)p * (int64_t)q >> 64);",
@@ -508,37 +623,76 @@ FAULTS = [
 ]
 
 
-def noticed(source):
+# Hands the calls on to the interpreter in the shared object that PLAIN names, so that the comparison is linked once.
+SHIM = """#include <dlfcn.h>
+#include <stdint.h>
+#include <stdlib.h>
+static void *found(const char *name)
+{
+    static void *library;
+    if (!library && !(library = dlopen(getenv("PLAIN"), RTLD_NOW)))
+        abort();
+    return dlsym(library, name);
+}
+void plain_step(void *m, uint8_t *memory, size_t length, uint64_t *answer)
+{
+    static void (*call)(void *, uint8_t *, size_t, uint64_t *);
+    if (!call)
+        call = found("plain_step");
+    call(m, memory, length, answer);
+}
+void plain_run(void *m, uint8_t *memory, size_t length, uint64_t budget, uint64_t *answer)
+{
+    static void (*call)(void *, uint8_t *, size_t, uint64_t, uint64_t *);
+    if (!call)
+        call = found("plain_run");
+    call(m, memory, length, budget, answer);
+}
+"""
+
+
+def comparison(folder):
+    """The comparison, linked with the shim in place of the interpreter."""
+    source, thing, program = (os.path.join(folder, name) for name in ("shim.c", "shim.o", "compare"))
+    with open(source, "w") as file:
+        file.write(SHIM)
+    subprocess.run(["gcc", "-O1", "-c", source, "-o", thing], check=True)
+    subprocess.run(["ar", "rcs", os.path.join(folder, "libplain.a"), thing], check=True)
+    subprocess.run(["rustc", "--edition", "2021", "-O", "--crate-name", "compare", "src/bin/compare.rs", "--cfg", 'feature="plain"',
+                    "--check-cfg", 'cfg(feature, values("plain", "proved"))', "--extern", "oracle=target/release/liboracle.rlib",
+                    "-L", "native=" + folder, "-o", program], check=True, cwd=ORACLE,
+                   env=dict(os.environ, CARGO_MANIFEST_DIR=os.path.abspath(ORACLE)))
+    return program
+
+
+def noticed(program, folder, source):
     """Does the comparison of this source with the oracle end with a difference?"""
-    with tempfile.TemporaryDirectory() as folder:
-        edited, thing, program = (os.path.join(folder, name) for name in ("plain.c", "plain.o", "compare"))
-        with open(edited, "w") as file:
-            file.write(source)
-        subprocess.run(["gcc", "-O1", "-std=gnu11", "-w", "-I", HERE, "-c", edited, "-o", thing], check=True)
-        subprocess.run(["ar", "rcs", os.path.join(folder, "libplain.a"), thing], check=True)
-        subprocess.run(["rustc", "--edition", "2021", "-O", "--crate-name", "compare", "src/bin/compare.rs", "--cfg", 'feature="plain"',
-                        "--check-cfg", 'cfg(feature, values("plain", "proved"))', "--extern", "oracle=target/release/liboracle.rlib",
-                        "-L", "native=" + folder, "-o", program], check=True, cwd=ORACLE,
-                       env=dict(os.environ, CARGO_MANIFEST_DIR=os.path.abspath(ORACLE)))
-        rounds = sys.argv[1] if len(sys.argv) > 1 else "300"
-        try: # a fault may keep a step from ending
-            made = subprocess.run([program, "plain", "3", rounds], stdout=subprocess.DEVNULL, stderr=subprocess.DEVNULL, timeout=1800)
-        except subprocess.TimeoutExpired:
-            return True
-        return made.returncode != 0
+    edited, thing = (os.path.join(folder, name) for name in ("plain.c", "plain.so"))
+    with open(edited, "w") as file:
+        file.write(source)
+    subprocess.run(["gcc", "-O1", "-std=gnu11", "-w", "-shared", "-fPIC", "-I", HERE, edited, "-o", thing], check=True)
+    rounds = sys.argv[1] if len(sys.argv) > 1 else "300"
+    try: # a fault may keep a step from ending
+        made = subprocess.run([program, "plain", "3", rounds, "1", "first"], stdout=subprocess.DEVNULL, stderr=subprocess.DEVNULL, timeout=1800,
+                              env=dict(os.environ, PLAIN=thing))
+    except subprocess.TimeoutExpired:
+        return True
+    return made.returncode != 0
 
 
 def main():
     source = open(os.path.join(HERE, "plain.c")).read()
-    if noticed(source):
-        sys.exit("the comparison finds a difference without any fault")
     chosen = [f for f in FAULTS if len(sys.argv) < 3 or f[0].startswith(sys.argv[2])]
     missed = []
-    for name, old, new in chosen:
-        assert source.count(old) == 1, name
-        if not noticed(source.replace(old, new, 1)):
-            missed.append(name)
-            print("UNNOTICED:", name, flush=True)
+    with tempfile.TemporaryDirectory() as folder:
+        program = comparison(folder)
+        if noticed(program, folder, source):
+            sys.exit("the comparison finds a difference without any fault")
+        for name, old, new in chosen:
+            assert source.count(old) == 1, name
+            if not noticed(program, folder, source.replace(old, new, 1)):
+                missed.append(name)
+                print("UNNOTICED:", name, flush=True)
     print(len(chosen), "faults,", len(missed), "unnoticed")
     sys.exit(1 if missed else 0)
 

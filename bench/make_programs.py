@@ -1,9 +1,10 @@
 #!/usr/bin/env python3
 """Assembles programs/*.S with binutils, or with LLVM where that is all there is,
-and writes them as run sheets and as arrays of words (programs.h), each twice:
-with three regions in use (programs/NAME.sheet) and with ten
-(programs/NAME-ten.sheet). The expected x10 is worked out here in Python, apart
-from any interpreter; the expected steps are those the oracle prints."""
+and writes them as run sheets and as arrays of words (programs.h), each three times:
+as RV64IM with three regions in use (programs/NAME.sheet) and with ten
+(programs/NAME-ten.sheet), and as RV64IMC, with three (programs/NAME-c.sheet). The
+expected x10 is worked out here in Python, apart from any interpreter; the expected
+steps are those the oracle prints, with half-words as many as without."""
 import os
 import shutil
 import struct
@@ -118,20 +119,38 @@ def registers_fit(words):
     return not any(is_h_word(w) and (w >> 19 & 1 or w >> second(w) + 4 & 1) for w in words)
 
 
-def assemble(path):
+def assemble(path, halves):
+    """The bytes of a program, with half-words wherever the assembler has one, or with none."""
     folder = tempfile.mkdtemp()
     source, thing, image = (os.path.join(folder, n) for n in ("a.s", "a.o", "a.bin"))
-    open(source, "w").write(".option norvc\n" + open(path).read())
+    option, march = (".option rvc\n", "-march=rv64imc") if halves else (".option norvc\n", "-march=rv64im")
+    open(source, "w").write(option + open(path).read())
     if shutil.which(BINUTILS + "as"):
         tools = [BINUTILS + "as"], BINUTILS + "ld", BINUTILS + "objcopy"
     else:
         tools = ["clang", "--target=riscv64", "-c"], "ld.lld", "llvm-objcopy"
-    subprocess.run([*tools[0], "-march=rv64im", "-mno-relax", source, "-o", thing], check=True)
+    subprocess.run([*tools[0], march, "-mno-relax", source, "-o", thing], check=True)
     subprocess.run([tools[1], "--no-relax", "-Ttext=0", "-e", "0", thing, "-o", thing + "2"], check=True)
     subprocess.run([tools[2], "-O", "binary", "-j", ".text", thing + "2", image], check=True)
     blob = open(image, "rb").read()
     shutil.rmtree(folder)
+    return blob
+
+
+def words_of(blob):
+    """The bytes as words of 32 bits, whatever stands in them, with zeros at the end of the last."""
+    blob += bytes(-len(blob) % 4)
     return struct.unpack("<%dI" % (len(blob) // 4), blob)
+
+
+def half_words(blob):
+    """How many half-words and how many long words stand in the bytes of a program."""
+    at, counts = 0, [0, 0]
+    while at < len(blob):
+        long = blob[at] & 3 == 3
+        counts[long] += 1
+        at += 4 if long else 2
+    return counts
 
 
 def sheet(regions, words):
@@ -170,7 +189,8 @@ def entry(name, regions, stop, steps, x10, ident, words):
     return made, '    {"%s",\n     {%s},\n     %d, %d, %#xu, %s, %d},' % (name, regions, stop, made, x10, ident, len(words))
 
 
-HEAD = """/* Made by make_programs.py from programs/. First the programs with three regions in use, then the same with ten. */
+HEAD = """/* Made by make_programs.py from programs/. First the programs with three regions in use, then the same with ten, then
+   with three again and with half-words. */
 struct program {
     const char *name;
     struct region regions[REGIONS];
@@ -182,9 +202,10 @@ struct program {
 
 
 def main():
-    out, of_three, of_ten = [HEAD], [], []
+    out, of_three, of_ten, of_halves = [HEAD], [], [], []
     for name, explicit, data, code, free, stop, x10 in PROGRAMS:
-        words = assemble(os.path.join(HERE, "programs", name + ".S"))
+        source = os.path.join(HERE, "programs", name + ".S")
+        words = words_of(assemble(source, False))
         assert registers_fit(words), name
         ident = "words_" + name.replace("-", "_")
         out += array(ident, words)
@@ -194,7 +215,11 @@ def main():
             words, ident = [choosing_6(w) for w in words], ident + "_ten"
             out += array(ident, words)
         of_ten.append(entry(name + "-ten", ten(explicit, data, code, free), stop, steps, x10, ident, words)[1])
-    out += ["static const struct program programs[] = {"] + of_three + of_ten + ["};"]
+        blob, ident = assemble(source, True), "words_" + name.replace("-", "_") + "_c"
+        print(name + "-c", "%d half-words, %d long words, %d bytes" % (*half_words(blob), len(blob)))
+        out += array(ident, words_of(blob))
+        of_halves.append(entry(name + "-c", three(explicit, data, code), stop, steps, x10, ident, words_of(blob))[1])
+    out += ["static const struct program programs[] = {"] + of_three + of_ten + of_halves + ["};"]
     open(os.path.join(HERE, "programs.h"), "w").write("\n".join(out) + "\n")
 
 

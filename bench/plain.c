@@ -1,7 +1,7 @@
 /* A plain switch interpreter of the machine of document 01, with Jobs 1, 2 and 5
-   to 7 of document 02: RV64I and RV64M with HFI checks on every fetch, load and
-   store, over ten regions. It is the measure of speed; nothing is decoded ahead
-   or remembered from one step to the next. */
+   to 8 of document 02: RV64I, RV64M and the half-words of RV64C with HFI checks on
+   every fetch, load and store, over ten regions. It is the measure of speed;
+   nothing is decoded ahead or remembered from one step to the next. */
 #include "machine.h"
 
 #include <string.h>
@@ -82,12 +82,11 @@ static inline int touches(const struct region *r, uint64_t a, uint64_t n)
     return a + n - 1 - r->base <= ~r->bound + n - 1;
 }
 
-/* The bytes a .. a + n - 1 of an ordinary access or a fetch. The first region
-   that touches them decides if it has them all: it is one stretch, so its first
-   and last byte tell. They are judged one by one only where it has not, and
-   after a no. A rule is asked after the addresses, which tell more often. */
-static inline __attribute__((always_inline)) int implicit_grant(struct machine *m, const struct kind *k, uint64_t a,
-                                                                uint64_t n, uint64_t wanted, uint64_t op)
+/* Does the first region that touches the bytes a .. a + n - 1 have them all, and
+   grant them? It is one stretch, so its first and last byte tell. A rule is asked
+   after the addresses, which tell more often. */
+static inline __attribute__((always_inline)) int one_grants(const struct machine *m, const struct kind *k, uint64_t a,
+                                                            uint64_t n, uint64_t wanted)
 {
 #pragma GCC unroll 4
     for (unsigned i = 0; i < k->count; i++) {
@@ -97,7 +96,15 @@ static inline __attribute__((always_inline)) int implicit_grant(struct machine *
         if (touches(r, a, n) && implicit_rule(r))
             break;
     }
-    return bytes_grant(m, k, a, n, wanted, op);
+    return 0;
+}
+
+/* The bytes a .. a + n - 1 of an ordinary access or a fetch. They are judged one
+   by one only where no one region has them all, and after a no. */
+static inline __attribute__((always_inline)) int implicit_grant(struct machine *m, const struct kind *k, uint64_t a,
+                                                                uint64_t n, uint64_t wanted, uint64_t op)
+{
+    return one_grants(m, k, a, n, wanted) || bytes_grant(m, k, a, n, wanted, op);
 }
 
 static inline int explicit_rule(const struct region *r)
@@ -248,6 +255,166 @@ static inline uint64_t chosen(unsigned rs1, unsigned other)
     return explicit_data.numbers[choice];
 }
 
+/* A fetch half by half: 11 and 12 of two bytes, and of the next two only if the
+   low two bits of the first half are both ones. */
+static __attribute__((noinline, cold)) uint64_t fetch_by_halves(struct machine *m, const uint8_t *memory, size_t length,
+                                                                uint32_t *w, uint64_t *address)
+{
+    *w = 0;
+    *address = 0;
+    for (unsigned at = 0; at < 4; at += 2) {
+        uint64_t a = m->pc + at;
+        if (m->mode && !implicit_grant(m, &implicit_code, a, 2, EXECUTE, OP_FETCH))
+            return 11;
+        if (!present(a, 2, length, address))
+            return 12;
+        *w |= (uint32_t)get(memory + a, 2) << 8 * at;
+        if ((*w & 3) != 3)
+            break;
+    }
+    return 0;
+}
+
+/* Long words by their formats; an immediate may have bits above its field. */
+static inline uint32_t i_word(uint32_t opcode, uint32_t funct3, uint32_t rd, uint32_t rs1, uint32_t value)
+{
+    return value << 20 | rs1 << 15 | funct3 << 12 | rd << 7 | opcode;
+}
+
+static inline uint32_t s_word(uint32_t funct3, uint32_t rs1, uint32_t rs2, uint32_t offset)
+{
+    return (offset >> 5) << 25 | rs2 << 20 | rs1 << 15 | funct3 << 12 | (offset & 31) << 7 | 0x23;
+}
+
+static inline uint32_t b_word(uint32_t funct3, uint32_t rs1, uint32_t offset)
+{
+    return (offset >> 12 & 1) << 31 | (offset >> 5 & 63) << 25 | rs1 << 15 | funct3 << 12 | (offset >> 1 & 15) << 8 |
+           (offset >> 11 & 1) << 7 | 0x63;
+}
+
+static inline uint32_t j_word(uint32_t offset)
+{
+    return (offset >> 20 & 1) << 31 | (offset >> 1 & 1023) << 21 | (offset >> 11 & 1) << 20 | (offset >> 12 & 255) << 12 | 0x6f;
+}
+
+static inline uint32_t r_word(uint32_t operation, uint32_t rd, uint32_t rs1, uint32_t rs2)
+{
+    return operation | rs2 << 20 | rs1 << 15 | rd << 7;
+}
+
+/* Bits from .. from + n - 1 of a half-word, moved to bit to. */
+#define MOVED(h, from, n, to) (((h) >> (from) & ((1u << (n)) - 1)) << (to))
+
+/* Ones from bit `to` on if bit 12 of a half-word is set: the sign. */
+#define SIGN(h, to) ((0 - ((h) >> 12 & 1)) << (to))
+
+/* The immediates of half-words. */
+static inline uint32_t six(uint32_t h)
+{
+    return MOVED(h, 12, 1, 5) | MOVED(h, 2, 5, 0);
+}
+
+static inline uint32_t six_signed(uint32_t h)
+{
+    return SIGN(h, 5) | MOVED(h, 2, 5, 0);
+}
+
+static inline uint32_t stack_distance(uint32_t h)
+{
+    return MOVED(h, 11, 2, 4) | MOVED(h, 7, 4, 6) | MOVED(h, 6, 1, 2) | MOVED(h, 5, 1, 3);
+}
+
+static inline uint32_t stack_step(uint32_t h)
+{
+    return SIGN(h, 9) | MOVED(h, 6, 1, 4) | MOVED(h, 5, 1, 6) | MOVED(h, 3, 2, 7) | MOVED(h, 2, 1, 5);
+}
+
+static inline uint32_t word_offset(uint32_t h)
+{
+    return MOVED(h, 10, 3, 3) | MOVED(h, 6, 1, 2) | MOVED(h, 5, 1, 6);
+}
+
+static inline uint32_t double_offset(uint32_t h)
+{
+    return MOVED(h, 10, 3, 3) | MOVED(h, 5, 2, 6);
+}
+
+static inline uint32_t jump_offset(uint32_t h)
+{
+    return SIGN(h, 11) | MOVED(h, 11, 1, 4) | MOVED(h, 9, 2, 8) | MOVED(h, 8, 1, 10) | MOVED(h, 7, 1, 6) | MOVED(h, 6, 1, 7) |
+           MOVED(h, 3, 3, 1) | MOVED(h, 2, 1, 5);
+}
+
+static inline uint32_t branch_offset(uint32_t h)
+{
+    return SIGN(h, 8) | MOVED(h, 10, 2, 3) | MOVED(h, 5, 2, 6) | MOVED(h, 3, 2, 1) | MOVED(h, 2, 1, 5);
+}
+
+/* C.LUI and, for x2, C.ADDI16SP. */
+static inline uint32_t short_upper(uint32_t h, uint32_t rd)
+{
+    if (six(h) == 0)
+        return 0;
+    return rd == 2 ? i_word(0x13, 0, 2, 2, stack_step(h)) : six_signed(h) << 12 | rd << 7 | 0x37;
+}
+
+/* C.SRLI, C.SRAI, C.ANDI, and what two registers of x8 to x15 make. */
+static inline uint32_t short_operation(uint32_t h, uint32_t rd, uint32_t rs2)
+{
+    /* SUB, XOR, OR, AND; SUBW, ADDW */
+    static const uint32_t operations[8] = {0x40000033, 0x00004033, 0x00006033, 0x00007033, 0x4000003b, 0x0000003b, 0, 0};
+    uint32_t operation;
+    switch (h >> 10 & 3) {
+    case 0: return i_word(0x13, 5, rd, rd, six(h));
+    case 1: return i_word(0x13, 5, rd, rd, 0x400 | six(h));
+    case 2: return i_word(0x13, 7, rd, rd, six_signed(h));
+    default:
+        operation = operations[MOVED(h, 12, 1, 2) | MOVED(h, 5, 2, 0)];
+        return operation ? r_word(operation, rd, rd, rs2) : 0;
+    }
+}
+
+/* C.JR, C.MV, C.EBREAK, C.JALR, C.ADD */
+static inline uint32_t short_register(uint32_t h, uint32_t rd, uint32_t rs2)
+{
+    uint32_t link = h >> 12 & 1;
+    if (rs2)
+        return r_word(0x33, rd, link ? rd : 0, rs2);
+    if (rd)
+        return i_word(0x67, 0, link, rd, 0);
+    return link ? 0x00100073 : 0;
+}
+
+/* The long word of a half-word's instruction, 0 if it is illegal: by quadrant and
+   funct3, in the listing's order. low and high are x8 to x15. Not part of the
+   loop of steps, where it would take registers from the long words. */
+static __attribute__((noinline)) uint32_t expand(uint32_t h)
+{
+    uint32_t low = 8 + (h >> 2 & 7), high = 8 + (h >> 7 & 7), rd = h >> 7 & 31, rs2 = h >> 2 & 31;
+    switch ((h & 3) << 3 | h >> 13) {
+    case 0: return stack_distance(h) ? i_word(0x13, 0, low, 2, stack_distance(h)) : 0;
+    case 2: return i_word(0x03, 2, low, high, word_offset(h));
+    case 3: return i_word(0x03, 3, low, high, double_offset(h));
+    case 6: return s_word(2, high, low, word_offset(h));
+    case 7: return s_word(3, high, low, double_offset(h));
+    case 8: return i_word(0x13, 0, rd, rd, six_signed(h));
+    case 9: return rd ? i_word(0x1b, 0, rd, rd, six_signed(h)) : 0;
+    case 10: return i_word(0x13, 0, rd, 0, six_signed(h));
+    case 11: return short_upper(h, rd);
+    case 12: return short_operation(h, high, low);
+    case 13: return j_word(jump_offset(h));
+    case 14: return b_word(0, high, branch_offset(h));
+    case 15: return b_word(1, high, branch_offset(h));
+    case 16: return i_word(0x13, 1, rd, rd, six(h));
+    case 18: return rd ? i_word(0x03, 2, rd, 2, MOVED(h, 12, 1, 5) | MOVED(h, 4, 3, 2) | MOVED(h, 2, 2, 6)) : 0;
+    case 19: return rd ? i_word(0x03, 3, rd, 2, MOVED(h, 12, 1, 5) | MOVED(h, 5, 2, 3) | MOVED(h, 2, 3, 6)) : 0;
+    case 20: return short_register(h, rd, rs2);
+    case 22: return s_word(2, 2, rs2, MOVED(h, 9, 4, 2) | MOVED(h, 7, 2, 6));
+    case 23: return s_word(3, 2, rs2, MOVED(h, 10, 3, 3) | MOVED(h, 7, 3, 6));
+    default: return 0;
+    }
+}
+
 #define STOP(number)  \
     do {              \
         *address = 0; \
@@ -258,20 +425,30 @@ static inline uint64_t chosen(unsigned rs1, unsigned other)
 static inline uint64_t one_step(struct machine *m, uint8_t *memory, size_t length, uint64_t *address)
 {
     uint64_t *x = m->x;
-    uint64_t pc = m->pc;
+    uint64_t pc = m->pc, next = pc + 4;
+    uint32_t w;
 
-    if (pc & 3)
+    if (pc & 1)
         STOP(10);
-    if (m->mode && !implicit_grant(m, &implicit_code, pc, 4, EXECUTE, OP_FETCH))
-        STOP(11);
-    if (!present(pc, 4, length, address))
-        return 12;
-    uint32_t w = (uint32_t)get(memory + pc, 4);
+    /* Where all four bytes are granted and in memory nothing is left to ask, whatever the word's length is. */
+    if ((!m->mode || one_grants(m, &implicit_code, pc, 4, EXECUTE)) && pc < length && length - pc >= 4) {
+        w = (uint32_t)get(memory + pc, 4);
+    } else {
+        uint32_t fetched; /* so that w stays in a register */
+        uint64_t stop = fetch_by_halves(m, memory, length, &fetched, address);
+        if (stop)
+            return stop;
+        w = fetched;
+    }
+    if ((w & 3) != 3) {
+        w = expand(w & 65535);
+        next = pc + 2;
+    }
 
     unsigned rd = w >> 7 & 31, rs1 = w >> 15 & 31, rs2 = w >> 20 & 31, funct3 = w >> 12 & 7, funct7 = w >> 25;
     int64_t i_value = (int32_t)w >> 20;
     int64_t s_value = (int64_t)((int32_t)w >> 25) * 32 + rd;
-    uint64_t next = pc + 4, v = 0, a;
+    uint64_t v = 0, a;
 
     switch (w & 127) {
     case 0x37: /* LUI */
@@ -282,21 +459,15 @@ static inline uint64_t one_step(struct machine *m, uint8_t *memory, size_t lengt
         goto write_rd;
     case 0x6f: { /* JAL */
         uint64_t offset = (w >> 31) << 20 | (w >> 12 & 255) << 12 | (w >> 20 & 1) << 11 | (w >> 21 & 1023) << 1;
-        uint64_t target = pc + (uint64_t)extend(offset, 21);
-        if (target & 3)
-            STOP(15);
         v = next;
-        next = target;
+        next = pc + (uint64_t)extend(offset, 21);
         goto write_rd;
     }
     case 0x67: { /* JALR */
         if (funct3)
             STOP(13);
-        uint64_t target = (x[rs1] + (uint64_t)i_value) & ~(uint64_t)1;
-        if (target & 3)
-            STOP(15);
         v = next;
-        next = target;
+        next = (x[rs1] + (uint64_t)i_value) & ~(uint64_t)1;
         goto write_rd;
     }
     case 0x63: { /* branches */
@@ -314,8 +485,6 @@ static inline uint64_t one_step(struct machine *m, uint8_t *memory, size_t lengt
         if (taken) {
             uint64_t offset = (w >> 31) << 12 | (w >> 7 & 1) << 11 | (w >> 25 & 63) << 5 | (w >> 8 & 15) << 1;
             next = pc + (uint64_t)extend(offset, 13);
-            if (next & 3)
-                STOP(15);
         }
         goto done;
     }
@@ -497,7 +666,7 @@ static inline uint64_t one_step(struct machine *m, uint8_t *memory, size_t lengt
             if ((operand & 1) && code_is_writable(m))
                 STOP(22);
             if (funct7 == 1) {
-                if (x[rs2] & 3)
+                if (x[rs2] & 1)
                     STOP(15);
                 next = x[rs2];
             }

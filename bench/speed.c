@@ -1,5 +1,5 @@
-/* speed RUNS: times runs of the programs, with three regions in use and with ten, by both engines in turn, and prints the
-   steps a second of each and the ratio. speed programs: their numbers, names and steps. speed ENGINE PROGRAM: one run, for
+/* speed RUNS: times runs of the programs, with three regions in use, with ten, and with three and half-words, by both
+   engines in turn, and prints the steps a second of each and the ratio. speed programs: their numbers, names and steps. speed ENGINE PROGRAM: one run, for
    counting instructions; PROGRAM from 0 on, or no run at all past the last. Every run starts from a fresh machine in locked
    HFI mode and fresh memory; only the run call is timed. Stop, steps and x10 are checked each time. */
 #include "../c/koubospar.h"

@@ -3,7 +3,7 @@
 
 Each sheet stands below with the first line of its output, worked out by hand
 from document 01, as document 02 has changed it; some of RV64M, some budgets, two
-long ones, most of Job 5 and all of Jobs 6 and 7 with all their registers too. `oracle sheets FOLDER` then
+long ones, most of Job 5 and all of Jobs 6 to 8 with all their registers too. `oracle sheets FOLDER` then
 prints what the oracle makes of them, and `--check FILE` holds that against the
 lines here. `--store ORACLE` writes data/index and stdout, the answers being the
 oracle's, if its first lines are those here.
@@ -377,11 +377,13 @@ sheet("steps-in-hexadecimal", program(LOOP, budget=0x1f), "21,1f,0,0,0,0,0,0,0",
 
 # ---------------------------------------------------------------- 10, 11, 12
 section("Stops 10, 11 and 12: the fetch")
-Q4 = "4. Is pc a multiple of 4? No: **10**."
+Q4 = "02, Job 8: 10 now asks for a multiple of 2."
 Q5 = "5. In HFI mode, are all four bytes executable? No: **11**."
+FETCH = "02, Job 8: A fetch takes two bytes, asks 11 and 12 of them, and takes two more only if the low two bits are both ones"
 Q6 = "6. Are they in memory? No: **12**."
 sheet("pc-1", program(NOP, pc=1), "10,0,1,0,0,0,0,0,0", "pc 1", Q4)
-sheet("pc-2", program(NOP, pc=2), "10,0,2,0,0,0,0,0,0", "pc 2", Q4)
+sheet("pc-2", program(NOP, pc=2), "13,0,2,0,0,0,0,0,0", "pc 2: the upper half of a NOP is 0, which is illegal", Q4)
+sheet("pc-3", program(NOP, pc=3), "10,0,3,0,0,0,0,0,0", "pc 3", Q4)
 sheet("pc-all-ones", program(NOP, pc=ONES), "10,0,ffffffffffffffff,0,0,0,0,0,0", "10 before 11", Q4)
 sheet("setup-line-alone", SETUP, "13,0,0,0,0,0,0,0,0", "no words: zeros are fetched and illegal", "Each further line: address, word.")
 FR = "Its fault region is 1 for explicit; otherwise the region that matched without permission, or 0 if none matched."
@@ -429,7 +431,7 @@ Q7 = "7. Is the word legal? No: **13**."
 for name, word, shows in [
     ("illegal-zero", 0, "the zero word"),
     ("illegal-all-ones", 0xffffffff, "the word of ones"),
-    ("illegal-half-word", 0x00000001, "a half-word"),
+    ("illegal-half-word", 0x00002000, "C.FLD"),
     ("illegal-multiply-bit-26", 0x06b50533, "MUL with bit 26"),
     ("illegal-multiply-bit-30", 0x42b50533, "MUL with bit 30"),
     ("illegal-divide-word-bit-31", 0x82b5453b, "DIVW with bit 31"),
@@ -532,14 +534,15 @@ sheet("unlocked-broken-base-kept", program(
     "A region that breaks its rule keeps its values and matches nothing")
 
 # ---------------------------------------------------------------- 15
-section("Stop 15: targets")
-Q9 = "9. Is the target of a taken branch, a jump or an enter with jump a multiple of 4? No: **15**."
-sheet("branch-to-half-word", program(NOP, B(0, 0, 0, 6)), "15,1,4,0,0,0,0,0,0", "a taken branch to a", Q9)
-sheet("branch-not-taken-to-half-word", program(NOP, B(1, 0, 0, 6), ECALL), "18,2,8,0,0,0,0,0,0", "a branch not taken asks nothing", Q9)
-sheet("jal-to-half-word", program(NOP, J(1, 2)), "15,1,4,0,0,0,0,0,0", "JAL to 6; the link is not written", Q9)
-sheet("jal-back-to-half-word", program(NOP, J(1, -2)), "15,1,4,0,0,0,0,0,0", "JAL to 2", Q9)
-sheet("jalr-to-half-word", program(addi(5, 0, 6), jalr(1, 5, 0)), "15,1,4,0,0,0,0,0,0", "JALR to 6", Q9)
-sheet("jalr-to-seven", program(addi(5, 0, 7), jalr(1, 5, 0)), "15,1,4,0,0,0,0,0,0", "JALR to 7: bit 0 is cleared, 6 remains", Q9)
+section("Targets; a sheet comes to no 15")
+Q9 = "02, Job 8: jumps and branches never get it"
+sheet("branch-to-half-word", program(NOP, B(0, 0, 0, 6)), "13,2,a,0,0,0,0,0,0", "a taken branch to a", Q9)
+sheet("branch-not-taken-to-half-word", program(NOP, B(1, 0, 0, 6), ECALL), "18,2,8,0,0,0,0,0,0", "a branch not taken", Q9)
+sheet("jal-to-half-word", program(NOP, J(1, 2)), "13,3,8,0,0,0,0,0,0", "JAL to 6, its own upper half, which is C.ADDI4SPN x8, 8", Q9)
+registers["jal-to-half-word"] = {1: 8, 8: 8}
+sheet("jal-back-to-half-word", program(NOP, J(1, -2)), "13,2,2,0,0,0,0,0,0", "JAL to 2", Q9)
+sheet("jalr-to-half-word", program(addi(5, 0, 6), jalr(1, 5, 0)), "13,3,8,0,0,0,0,0,0", "JALR to 6, its own upper half, which is C.SLLI x0, 0", Q9)
+sheet("jalr-to-seven", program(addi(5, 0, 7), jalr(1, 5, 0)), "13,3,8,0,0,0,0,0,0", "JALR to 7: bit 0 is cleared, 6 remains", Q9)
 sheet("jalr-clears-bit-zero", program(addi(5, 0, 13), jalr(1, 5, 0), NOP, ECALL), "18,2,c,0,0,0,0,0,0", "JALR to d goes to c", Q9)
 sheet("jalr-rd-is-rs1", program(addi(5, 0, 12), jalr(5, 5, 0), NOP, ECALL), "18,2,c,0,0,0,0,0,0", "the target is of the old value",
       "JALR with rd equal to rs1 that takes the new value.")
@@ -979,7 +982,9 @@ m_sheet("multiply-as-offset", program(addi(5, 0, 0x80), addi(6, 0, 0x20), m("mul
         "16,4,10,0,0,1,1,1,3000", "a product as the offset of an h-load", ADD_M, {5: 0x80, 6: 0x20, 7: 0x1000, 10: 0x8123456789abcdef})
 sheet("multiply-not-executable", program(NOP, m("mul", 10, 5, 6), r3=(0, mask(2), 4)), "11,1,4,0,0,1,0,3,4", "11 as for any word", LEGAL)
 sheet("multiply-half-executable", program(m("mul", 10, 5, 6), r3=(0, mask(1), 4)), "11,0,0,0,0,1,0,3,2", "its third byte is refused", LEGAL)
-sheet("divide-pc-2", program(m("div", 10, 5, 6), m("div", 10, 5, 6), pc=2), "10,0,2,0,0,0,0,0,0", "10 as for any word", LEGAL)
+sheet("divide-pc-2", program(m("div", 10, 5, 6), m("div", 10, 5, 6), pc=2), "13,2,8,0,0,0,0,0,0", "the upper half is C.SLLI x4, 24; then the second word divides", Q4)
+registers["divide-pc-2"] = {10: ONES}
+sheet("divide-pc-3", program(m("div", 10, 5, 6), m("div", 10, 5, 6), pc=3), "10,0,3,0,0,0,0,0,0", "10 as for any word", LEGAL)
 sheet("divide-last-word", program(m("div", 10, 5, 6), pc=0xfffc, at=0xfffc, r3=(0, mask(17), 4)), "12,1,10000,0,0,0,0,0,0",
       "it runs, the next word is absent", LEGAL)
 sheet("multiply-budget-used-up", program(addi(5, 0, 3), m("mul", 5, 5, 5), m("mul", 5, 5, 5), budget=2), "21,2,8,0,0,0,0,0,0", "a step each", ADD_M)
@@ -1296,7 +1301,7 @@ ruled("select-3-then-0", [addi(5, 0, 3), hfi(SELECT, 0, 5), hfi(SETBASE, 0, 0), 
       "a selection, then number 0", KEEP, {5: 3}, options=0)
 
 # order
-ruled("ten-before-twenty-three", [hfi(0, 0, 0)], "10,0,2,0,0,0,0,0,0", "pc 2: 10 before 23", JUST, pc=2)
+ruled("ten-before-twenty-three", [hfi(0, 0, 0)], "10,0,3,0,0,0,0,0,0", "pc 3: 10 before 23", JUST, pc=3)
 ruled("eleven-before-twenty-three", [hfi(0, 0, 0)], "11,0,0,0,0,1,3,3,0", "region 3 without execute: 11 before 23", JUST, r3=(0, mask(12), 0))
 ruled("eleven-before-twenty-five", [hfi(RESET)], "11,0,0,0,0,1,0,3,2", "code of two bytes: 11 before 25", JUST, r3=(0, mask(1), 4))
 ruled("thirteen-before-twenty-three", [hfi(0, 1, 0)], "13,0,0,0,0,0,0,0,0", "enter with rd 1: 13 before 23", JUST)
@@ -1569,6 +1574,79 @@ four_of_ten("four-code-10-of-one-byte", "region 10 is one byte, which region 9 w
 ten_go_on("code-10-without-execute-written", "region 10 without execute may be written", r9=(0x3000, mask(12), 3), r10=(0x3000, mask(12), 0))
 
 
+# ---------------------------------------------------------------- Job 8
+section("Half-size words")
+STANDS = "02, Job 8: Each stands for one RV64I instruction, with 2 in place of 4 in the next pc and in link values."
+ILLEGAL = "02, Job 8: its floating-point loads and stores are illegal, as are reserved words"
+C_NOP, C_EBREAK = 0x0001, 0x9002
+
+
+def stream(*items):
+    """Words of half-words (below 10000, low two bits not both ones) and long words one after the other."""
+    blob = b"".join(i.to_bytes(4 if i & 3 == 3 else 2, "little") for i in items)
+    blob += bytes(-len(blob) % 4)
+    return [int.from_bytes(blob[i:i + 4], "little") for i in range(0, len(blob), 4)]
+
+
+def half(name, items, first, shows, sentence, x, **how):
+    sheet(name, program(*stream(*items), **how), first, shows, sentence)
+    registers[name] = x
+
+
+# The half-words below are those that GNU as makes of the names beside them.
+half("half-addi", [0x1511, ECALL], "18,1,2,0,0,0,0,0,0", "C.ADDI x10, -28; the ECALL stands at 2", STANDS, {10: ONES - 27})
+half("half-li-and-addiw", [0x557d, 0x2505, 0x5581, 0x35fd, ECALL], "18,4,8,0,0,0,0,0,0", "C.LI -1, C.ADDIW 1; C.LI -32, C.ADDIW -1", STANDS, {11: ONES - 32})
+half("half-lui", [0x6505, 0x7581, 0x667d, ECALL], "18,3,6,0,0,0,0,0,0", "C.LUI 1, fffe0 and 1f", STANDS, {10: 0x1000, 11: ONES - 0x1ffff, 12: 0x1f000})
+half("half-stack-pointer", [0x6171, 0x0040, 0x1ffc, 0x713d, ECALL], "18,4,8,0,0,0,0,0,0",
+     "C.ADDI16SP 336; C.ADDI4SPN x8, 4 and x15, 1020; C.ADDI16SP -32", STANDS, {2: 304, 8: 340, 15: 1356})
+half("half-shifts", [0x557d, 0x9101, 0x052e, 0x55fd, 0x95fd, 0x91fd, ECALL], "18,6,c,0,0,0,0,0,0",
+     "C.LI -1, C.SRLI 32, C.SLLI 11; C.LI -1, C.SRAI 63, C.SRLI 63", STANDS, {10: 0x7fffffff800, 11: 1})
+half("half-operations", [0x4515, 0x4599, 0x8d0d, 0x4615, 0x8e2d, 0x4695, 0x8ecd, 0x4715, 0x8f6d, ECALL], "18,9,12,0,0,0,0,0,0",
+     "5 and 6: C.SUB, C.XOR, C.OR, C.AND", STANDS, {10: ONES, 11: 6, 12: 3, 13: 7, 14: 4})
+half("half-word-operations", [addi(10, 0, 1), srli(11, 0, 0), 0x157e, 0x15fd, 0x9d0d, 0x85aa, 0x9da9, ECALL], "18,7,12,0,0,0,0,0,0",
+     "C.SLLI 63 of 1, C.ADDI -1: C.SUBW gives 1, C.MV, C.ADDW gives 2", STANDS, {10: 1, 11: 2})
+half("half-andi", [addi(10, 0, -1), 0x897d, addi(11, 0, -1), 0x9981, ECALL], "18,4,c,0,0,0,0,0,0", "C.ANDI 31 and -32 of ones", STANDS,
+     {10: 31, 11: ONES - 31})
+half("half-move-and-add", [0x4515, 0x85aa, 0x95aa, 0x95ae, ECALL], "18,4,8,0,0,0,0,0,0", "C.MV, C.ADD of another and of itself", STANDS, {10: 5, 11: 20})
+half("half-memory", [lui(8, 1), 0x557d, 0xdc68, 0x5c6c, 0xfc68, 0x7c70, ECALL], "18,6,e,0,0,0,0,0,0",
+     "C.SW and C.LW at 124, C.SD and C.LD at 248", STANDS, {8: 0x1000, 10: ONES, 11: ONES, 12: ONES}, r2=DATA)
+half("half-stack-memory", [lui(2, 1), 0x557d, 0xdfaa, 0x55fe, 0xffaa, 0x767e, ECALL], "18,6,e,0,0,0,0,0,0",
+     "C.SWSP and C.LWSP at 252, C.SDSP and C.LDSP at 504", STANDS, {2: 0x1000, 10: ONES, 11: ONES, 12: ONES}, r2=DATA)
+half("half-load-refused", [lui(8, 2), 0x5c6c], "16,1,4,0,0,1,0,1,207c", "C.LW x11, 124(x8) past the data", STANDS, {8: 0x2000}, r2=DATA)
+half("half-store-refused", [lui(2, 2), 0xffaa], "16,1,4,0,0,1,0,2,21f8", "C.SDSP x10, 504 past the data", STANDS, {2: 0x2000}, r2=DATA)
+half("half-jump", [0xa021, 0x4505, C_EBREAK, C_EBREAK, 0x4509, ECALL], "18,2,a,0,0,0,0,0,0", "C.J to 8", STANDS, {10: 2})
+half("half-jump-to-two", [0xa011, C_EBREAK, 0xbffd], "19,2,2,0,0,0,0,0,0", "C.J to 4, C.J back to 2", STANDS, {})
+half("half-call", [0x4529, 0x9502, C_EBREAK, C_EBREAK, C_EBREAK, 0x8082], "19,3,4,0,0,0,0,0,0", "C.LI x10, 10, C.JALR x10 to a with link 4, C.JR x1", STANDS, {1: 4, 10: 10})
+half("half-branches", [0x440d, 0x0509, 0x147d, 0xfc75, 0xc011, C_EBREAK, ECALL], "18,b,c,0,0,0,0,0,0",
+     "a loop of three rounds by C.BNEZ, then C.BEQZ taken", STANDS, {10: 6})
+half("half-ebreak", [C_NOP, C_EBREAK], "19,1,2,0,0,0,0,0,0", "C.EBREAK", STANDS, {})
+half("half-hints", [0x0005, 0x107d, 0x0081, 0x4001, 0x6005, 0x8001, 0x8401, 0x0082, 0x0002, 0x8006, 0x9006, ECALL], "18,b,16,0,0,0,0,0,0",
+     "HINTs do nothing", STANDS, {})
+for name, word, shows in [
+    ("addi4spn-0", 0x0004, "C.ADDI4SPN with 0"), ("quadrant-0-4", 0x8000, "quadrant 0, funct3 4"), ("addiw-x0", 0x2001, "C.ADDIW x0"),
+    ("lui-0", 0x6281, "C.LUI with 0"), ("addi16sp-0", 0x6101, "C.ADDI16SP with 0"), ("lui-x0-0", 0x6001, "C.LUI x0 with 0"),
+    ("beside-subw", 0x9c41, "the first free slot beside C.SUBW"), ("beside-addw", 0x9c61, "the second one"), ("lwsp-x0", 0x4002, "C.LWSP x0"),
+    ("ldsp-x0", 0x6002, "C.LDSP x0"), ("jr-x0", 0x8002, "C.JR x0"), ("fld", 0x2000, "C.FLD"), ("fsd", 0xa000, "C.FSD"), ("fldsp", 0x2002, "C.FLDSP"),
+    ("fsdsp", 0xa002, "C.FSDSP")]:
+    half("half-illegal-" + name, [C_NOP, word], "13,1,2,0,0,0,0,0,0", shows, ILLEGAL, {})
+half("long-at-two", [C_NOP, addi(10, 0, 5), C_NOP, ECALL], "18,3,8,0,0,0,0,0,0", "a long word at 2", FETCH, {10: 5})
+half("long-jump-at-two", [C_NOP, J(1, 6), C_EBREAK, ECALL], "18,2,8,0,0,0,0,0,0", "JAL at 2 to 8: the link is 6", STANDS, {1: 6})
+half("long-exit-at-two", [C_NOP, EXIT], "20,2,6,1,2,0,0,0,0", "exit pc 2, then pc 6", "02, Job 8: pc need only be a multiple of 2.", {}, options=1)
+half("long-exit-at-two-redirected", [C_NOP, EXIT], "20,2,100,1,2,0,0,0,0", "exit pc 2, then the handler", "02, Job 8: pc need only be a multiple of 2.", {}, options=5, handler=0x100)
+half("long-call-at-two-redirected", [C_NOP, ECALL], "20,2,100,2,2,0,0,0,0", "exit pc 2", "02, Job 8: pc need only be a multiple of 2.", {}, options=3, handler=0x100)
+half("start-at-two", [C_EBREAK, addi(10, 0, 5), C_EBREAK], "19,1,6,0,0,0,0,0,0", "pc 2", "02, Job 8: pc need only be a multiple of 2.", {10: 5}, pc=2)
+half("half-fetch-code-of-two-bytes", [C_NOP, C_NOP], "11,1,2,0,0,1,0,3,2", "two bytes of code: a half-word runs", FETCH, {}, r3=(0, mask(1), 4))
+half("half-fetch-code-of-one-byte", [C_NOP], "11,0,0,0,0,1,0,3,1", "one byte of code", FETCH, {}, r3=(0, mask(0), 4))
+half("long-fetch-code-of-two-bytes", [NOP], "11,0,0,0,0,1,0,3,2", "two bytes of code: a long word's third byte is refused", FETCH, {}, r3=(0, mask(1), 4))
+half("illegal-long-code-of-two-bytes", [0xffffffff], "11,0,0,0,0,1,0,3,2", "11 of the second half before 13", FETCH, {}, r3=(0, mask(1), 4))
+half("illegal-half-code-of-two-bytes", [0x8000], "13,0,0,0,0,0,0,0,0", "13 of a half-word, whatever follows", FETCH, {}, r3=(0, mask(1), 4))
+half("half-last-of-memory", [C_NOP, C_NOP], "12,2,10000,0,0,0,0,0,0", "half-words at fffc and fffe, then off the end", FETCH, {}, pc=0xfffc, at=0xfffc, r3=(0, mask(17), 4))
+sheet("long-over-end-of-memory", program(0x00130001, pc=0xfffc, at=0xfffc, r3=(0, mask(17), 4)), "12,1,fffe,0,0,0,0,0,0",
+      "the second half of a long word at fffe is absent", FETCH)
+sheet("long-over-end-refused-first", program(0x00130001, pc=0xfffc, at=0xfffc, r3=(0, mask(16), 4)), "11,1,fffe,0,0,1,0,3,10000",
+      "its second half is refused and absent: 11", FETCH)
+
+
 def write():
     names = [r[0] for r in rows]
     assert len(set(names)) == len(names), [n for n in names if names.count(n) > 1]
@@ -1580,7 +1658,7 @@ def write():
     out = ["# Stored sheets", "",
            "One file a sheet. The first lines were worked out by hand from document 01, or from",
            "document 02 where a row says `02` (they stand in `oracle/authoring/make_sheets.py`, which",
-           "writes this page, and so do the registers of most RV64M sheets, of some budgets, of two long ones, of most of Job 5 and of Jobs 6 and 7), and then confirmed by the oracle. The sheets stand in `crates/sheets/data`; `crates/sheets/stdout` has",
+           "writes this page, and so do the registers of most RV64M sheets, of some budgets, of two long ones, of most of Job 5 and of Jobs 6 to 8), and then confirmed by the oracle. The sheets stand in `crates/sheets/data`; `crates/sheets/stdout` has",
            "for each a line with its name and then the whole output.", ""]
     starts = dict(sections)
     for i, (name, _, first, shows, sentence) in enumerate(rows):
