@@ -1,6 +1,7 @@
 /* cost WAY PROGRAM STEPS: the first steps of a program of bench/, by one run (WAY run) or by as many step calls (WAY
  * step), for counting instructions under valgrind --tool=callgrind. WAY none makes everything ready and calls nothing.
- * PROGRAM is its place in bench/programs.h: 0 to 4 with three regions in use, 5 to 9 the same with ten. */
+ * PROGRAM is its place in bench/programs.h: 0 to 4 with three regions in use, 5 to 9 the same with ten, 10 to 14 with
+ * three and half-words. */
 #include "koubospar.h"
 
 #include "../bench/machine.h"

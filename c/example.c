@@ -1,7 +1,8 @@
 /* example: guest programs in sandboxes, as a controller runs them. Each result is printed as the sheet program
  * prints it. The second program makes a system call; the controller answers it and goes on. A third sandbox grants a
  * byte of its code for writing too, and its run is refused. In a fourth the program tries to widen what it was granted. The
- * fifth has several regions at once: a stack, a curve, and a shared table that it may only read. */
+ * fifth has several regions at once: a stack, a curve, and a shared table that it may only read. The sixth was assembled with
+ * half-size words. */
 #include "koubospar.h"
 
 #include <inttypes.h>
@@ -121,6 +122,15 @@ static const struct placed summing[] = {
     {0x2000, 3}, {0x2004, 5}, {0x2008, 7}, {0x200c, 9}, /* the curve */
 };
 
+/* c/half.sheet: 4 times the factorial of 5, as `as -march=rv64imc` lays it out; a half-word is half of a word placed here */
+static const struct placed halves[] = {
+    {0x0, 0x45954505},  /* c.li x10, 1; c.li x11, 5 */
+    {0x4, 0x0533862e},  /* c.mv x12, x11; and mul x10, x10, x12, */
+    {0x8, 0x15fd02c5},  /* which goes on here; c.addi x11, -1 */
+    {0xc, 0x050afde5},  /* c.bnez x11, .-8, which is the c.mv; c.slli x10, 2 */
+    {0x10, 0x0400005b}, /* hfiexit */
+};
+
 int main(void)
 {
     static uint8_t memory[LENGTH];
@@ -154,5 +164,10 @@ int main(void)
     m = several();
     r = koubospar_run(&m, memory, sizeof memory, 100);
     print(r, &m); /* KOUBOSPAR_DATA_REFUSED, by region 2 */
+
+    place(memory, halves, sizeof halves / sizeof halves[0]);
+    m = sandbox(0xffffffffffffffe0);
+    r = koubospar_run(&m, memory, sizeof memory, 100);
+    print(r, &m); /* KOUBOSPAR_LEFT */
     return 0;
 }

@@ -103,6 +103,7 @@ struct koubospar_machine {
 #define KOUBOSPAR_STACK_RESPOND 69632
 #define KOUBOSPAR_STACK_DECODE 512
 #define KOUBOSPAR_STACK_ENCODE 512
+#define KOUBOSPAR_STACK_EXPAND 512
 #define KOUBOSPAR_STACK_PROBE 768
 #define KOUBOSPAR_STACK_PLACE 1152
 
@@ -123,12 +124,12 @@ enum {
     KOUBOSPAR_BUDGET_TOO_LARGE = 2,    /* the budget is above 1,000,000 */
     KOUBOSPAR_ILL_FORMED = 3,          /* the machine is not well formed */
     KOUBOSPAR_WRITABLE_CODE = 4,       /* in HFI mode with regions locked, a byte is both writable and executable */
-    KOUBOSPAR_PC_MISALIGNED = 10,      /* pc is no multiple of 4 */
+    KOUBOSPAR_PC_MISALIGNED = 10,      /* pc is no multiple of 2 */
     KOUBOSPAR_FETCH_REFUSED = 11,      /* in HFI mode, a byte of the word is not executable */
     KOUBOSPAR_FETCH_ABSENT = 12,       /* a byte of the word is not in memory */
     KOUBOSPAR_ILLEGAL_WORD = 13,       /* the word is not legal */
     KOUBOSPAR_HFI_FORBIDS = 14,        /* a bad operand of an HFI word, no region selected, an h-word outside HFI mode */
-    KOUBOSPAR_TARGET_MISALIGNED = 15,  /* the target of a branch, a jump or an enter is no multiple of 4 */
+    KOUBOSPAR_TARGET_MISALIGNED = 15,  /* the target of an enter with jump is no multiple of 2 */
     KOUBOSPAR_DATA_REFUSED = 16,       /* a data byte is not granted */
     KOUBOSPAR_DATA_ABSENT = 17,        /* a data byte is not in memory */
     KOUBOSPAR_SYSTEM_CALL = 18,        /* an ECALL that is not redirected */
@@ -160,7 +161,7 @@ struct koubospar_stop koubospar_step(struct koubospar_machine *machine, uint8_t 
  * memory are as after `count` completed steps, and after 11 and 16 the fault record is written besides. */
 struct koubospar_run_stop koubospar_run(struct koubospar_machine *machine, uint8_t *memory, size_t length, uint64_t budget);
 
-/* Meant for 18: puts `value` in x10 and adds 4 to pc, and answers 0; or 3, which leaves the machine as it was. It asks
+/* Meant for 18: puts `value` in x10 and adds 4 to pc (ECALL has no half-word), and answers 0; or 3, which leaves the machine as it was. It asks
  * nothing else, 4 neither. */
 struct koubospar_stop koubospar_resume(struct koubospar_machine *machine, uint64_t value);
 
@@ -214,8 +215,14 @@ struct koubospar_encoded {
     uint32_t word;
 };
 
-/* "Decoding answers 13 for an illegal word and only then." */
+/* "Decoding answers 13 for an illegal word and only then." A word here is a long one, of four bytes: one whose low two bits are
+ * not both ones is illegal. */
 struct koubospar_decoded koubospar_decode(uint32_t word);
+
+/* The instruction that a half-word, an integer word of RV64C, stands for; or 13, for floating-point and reserved ones, 0, and
+ * any number whose low two bits are both ones, which begins a long word. HINTs are legal. What is answered has a long word
+ * too: koubospar_encode takes it. Several half-words may stand for one instruction, so there is no way back. */
+struct koubospar_decoded koubospar_expand(uint16_t half);
 
 /* "Encoding answers 5, with word 0, if a field of the instruction is outside its range and only then": also a group or
  * a kind that there is not, and a field that is not 0 in a group that lacks it. */

@@ -180,6 +180,33 @@ static void codec(void)
     IS(d.instruction.group, 0);
 }
 
+/* a half-word against the long word that it stands for; half-words are no words for decoding */
+static void half_word(uint16_t half, uint32_t word)
+{
+    struct koubospar_decoded h = koubospar_expand(half), w = koubospar_decode(word);
+    IS(h.number, 0);
+    IS(w.number, 0);
+    IS(memcmp(&h.instruction, &w.instruction, sizeof h.instruction), 0);
+    IS(koubospar_encode(h.instruction).word, word);
+    IS(koubospar_decode(half).number, 13);
+}
+
+static void half_words(void)
+{
+    half_word(0x439d, 0x00700393); /* c.li x7, 7: addi x7, x0, 7 */
+    half_word(0x15fd, 0xfff58593); /* c.addi x11, -1: addi x11, x11, -1 */
+    half_word(0x862e, 0x00b00633); /* c.mv x12, x11: add x12, x0, x11 */
+    half_word(0x9282, 0x000280e7); /* c.jalr x5: jalr x1, 0(x5) */
+    half_word(0xfde5, 0xfe059ce3); /* c.bnez x11, .-8: bne x11, x0, .-8 */
+    half_word(0x9002, 0x00100073); /* c.ebreak: ebreak */
+    static const uint16_t illegal[] = {0, 0x2000, 0x2001, 0x6001, 0x8002, 0x9c41, 0x0003, 0xffff};
+    for (size_t i = 0; i < sizeof illegal / sizeof illegal[0]; i++) {
+        struct koubospar_decoded d = koubospar_expand(illegal[i]);
+        IS(d.number, 13);
+        IS(d.instruction.group, 0);
+    }
+}
+
 /* each region's name against the permission bits with which the library takes a machine */
 static void regions(void)
 {
@@ -247,6 +274,7 @@ int main(void)
     machine();
     calls();
     codec();
+    half_words();
     h_words();
     regions();
     names();

@@ -50,6 +50,7 @@ static uint64_t budget, place, read_back, written;
 static struct koubospar_stop stop;
 static struct koubospar_run_stop run_stop;
 static uint32_t word;
+static uint16_t half;
 static struct koubospar_instruction instruction;
 static struct koubospar_decoded decoded;
 static struct koubospar_encoded encoded;
@@ -61,6 +62,7 @@ static void resume(void) { m = before, stop = koubospar_resume(&m, budget); }
 static void respond(void) { written = koubospar_respond(sheet, length, output); }
 static void decode(void) { decoded = koubospar_decode(word); }
 static void encode(void) { encoded = koubospar_encode(instruction); }
+static void expand(void) { decoded = koubospar_expand(half); }
 static void probe(void) { m = koubospar_probe(); }
 static void look(void) { read_back = koubospar_place(before, place); }
 
@@ -71,7 +73,7 @@ struct measured {
     uint64_t calls, stops, missed; /* bit n: stop n was met, was not met */
 };
 
-enum { STEP, RUN, RESUME, RESPOND, DECODE, ENCODE, PROBE, PLACE, CALLS };
+enum { STEP, RUN, RESUME, RESPOND, DECODE, ENCODE, EXPAND, PROBE, PLACE, CALLS };
 
 static struct measured all[CALLS] = {
     {.name = "step", .action = step, .said = KOUBOSPAR_STACK_STEP},
@@ -80,6 +82,7 @@ static struct measured all[CALLS] = {
     {.name = "respond", .action = respond, .said = KOUBOSPAR_STACK_RESPOND},
     {.name = "decode", .action = decode, .said = KOUBOSPAR_STACK_DECODE},
     {.name = "encode", .action = encode, .said = KOUBOSPAR_STACK_ENCODE},
+    {.name = "expand", .action = expand, .said = KOUBOSPAR_STACK_EXPAND},
     {.name = "probe", .action = probe, .said = KOUBOSPAR_STACK_PROBE},
     {.name = "place", .action = look, .said = KOUBOSPAR_STACK_PLACE},
 };
@@ -213,6 +216,19 @@ static void words(void)
             }
 }
 
+/* Half-words: each is expanded, and one of five is stepped over. */
+static void half_words(void)
+{
+    for (uint32_t h = 0; h < 65536; h++) {
+        half = (uint16_t)h;
+        measure(EXPAND);
+        if (h % 5 == 0) {
+            start(1, 0, h);
+            step_and_run();
+        }
+    }
+}
+
 /* The stops that the words above do not meet. */
 static void stops(void)
 {
@@ -287,6 +303,7 @@ static void sheets(void)
 int main(void)
 {
     words();
+    half_words();
     for (ten = 0; ten < 2; ten++)
         stops();
     sheets();

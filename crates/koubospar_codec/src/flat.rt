@@ -1,9 +1,11 @@
 // An instruction as numbers alone, since an enum cannot cross to C: laid out, read back, decoded and encoded.
 ghost use mathlib.Core.Path.{_≡_};
 ghost use Rattle.instructions.specs.Decode.{decodeWord};
+ghost use Rattle.compressed.specs.Expand.{expandHalf};
 ghost use Rattle.koubospar_codec.specs.Flat.{layout, fenceLayout, hWordLayout, flatten as flattenOf, unflatten as unflattenOf, same as sameAs, standsFor, flatDecoded, flatEncoded, encodeFlat};
 use decode::decode;
 use encode::encode;
+use expand::expand;
 use instructions::instruction::Decoded;
 use instructions::instruction::Encoded;
 use instructions::instruction::Instruction;
@@ -181,12 +183,9 @@ pub fn stands_for(f: Flat) -> Decoded
     }
 }
 
-// The instruction of any word.
-#[no_mangle]
-pub extern "C" fn koubospar_decode(word: u32) -> FlatDecoded
-    ensures { λ r. ⌜ r ≡ flatDecoded (decodeWord word) ⌝ }
+fn answer_decoded(d: Decoded) -> FlatDecoded
+    ensures { λ r. ⌜ r ≡ flatDecoded d ⌝ }
 {
-    let d = decode(word);
     match d {
         Decoded::Legal(i) => FlatDecoded {
             number: 0,
@@ -197,6 +196,22 @@ pub extern "C" fn koubospar_decode(word: u32) -> FlatDecoded
             instruction: lay_out(0, 0, 0, 0, 0, 0),
         },
     }
+}
+
+// The instruction of any word.
+#[no_mangle]
+pub extern "C" fn koubospar_decode(word: u32) -> FlatDecoded
+    ensures { λ r. ⌜ r ≡ flatDecoded (decodeWord word) ⌝ }
+{
+    answer_decoded(decode(word))
+}
+
+// The instruction that any half-word stands for.
+#[no_mangle]
+pub extern "C" fn koubospar_expand(half: u16) -> FlatDecoded
+    ensures { λ r. ⌜ r ≡ flatDecoded (expandHalf half) ⌝ }
+{
+    answer_decoded(expand(half))
 }
 
 fn answer_encoded(e: Encoded) -> FlatEncoded
