@@ -13,6 +13,15 @@ abbrev μ-loop : tie.MeasureT-loop
 loop-holds : tie.Need-loop-holds Inv-loop μ-loop
 loop-holds c = search needs
 
+cast-print-half-word : tie.Need-cast-print-half-word Inv-loop μ-loop
+cast-print-half-word c = search needs
+
+print-half-word-requires : tie.Need-print-half-word-requires Inv-loop μ-loop
+print-half-word-requires c κs = search needs
+
+add-h : tie.Need-add-h Inv-loop μ-loop
+add-h c = search needs
+
 loop-less : tie.Need-loop-less Inv-loop μ-loop
 loop-less c = search needs
 
@@ -29,6 +38,9 @@ half-words-spec =
     Inv-loop
     μ-loop
     loop-holds
+    cast-print-half-word
+    print-half-word-requires
+    add-h
     loop-less
     loop-again
     returns)
