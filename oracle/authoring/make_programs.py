@@ -20,7 +20,7 @@ import sys
 import tempfile
 import zlib
 
-import half_words as c
+import half_formats as c
 
 HERE = os.path.dirname(os.path.abspath(__file__))
 OUT = os.path.join(HERE, "..", "..", "crates", "sheets", "data")

@@ -5,6 +5,7 @@
 //! come from the supply.
 
 use crate::compare::Engine;
+use crate::fetches;
 use crate::hfi_rules;
 use crate::instruction::{decode, encode, m_kind, Instruction, M_WORDS};
 use crate::m_words::PAIRS;
@@ -15,6 +16,7 @@ use crate::supply::Supply;
 use crate::ten_regions;
 use crate::writable_code::{aimed_call, aims, hiding_aims, WAYS};
 
+mod half;
 mod ten;
 
 /// The bytes that a call has room for; the first `length` of them are lent.
@@ -456,15 +458,16 @@ impl List {
     /// Questions 4, 7 and 9 of ordinary words.
     fn asked(&mut self) {
         for (place, world) in [("outside", outside as fn(u32) -> World), ("inside", inside)] {
-            for pc in [0x41, 0x42, 0x43] {
+            for pc in [0x41, 0x43] {
                 self.step(&format!("{place}, pc {pc:x}"), world(NOP).with(|m| m.pc = pc), 10, unchanged);
             }
+            self.step(&format!("{place}, pc 42"), world(NOP).with(|m| m.pc = 0x42), 13, unchanged);
             for word in [0, 0xffff_ffff, 0x0000_100f, 0x0400_015b] {
                 self.step(&format!("{place}, illegal word {word:x}"), world(word), 13, unchanged);
             }
-            self.step(&format!("{place}, jal to a half word"), world(0x0020_006f), 15, unchanged);
-            self.step(&format!("{place}, jalr to a half word"), world(i_type(0x67, 0, 1, 0, 6)), 15, unchanged);
-            self.step(&format!("{place}, branch to a half word"), world(0x0000_0363), 15, unchanged);
+            self.step(&format!("{place}, jal to a half word"), world(0x0020_006f), 0, |m| m.pc = 0x42);
+            self.step(&format!("{place}, jalr to a half word"), world(i_type(0x67, 0, 1, 0, 6)), 0, |m| (m.x[1], m.pc) = (0x44, 6));
+            self.step(&format!("{place}, branch to a half word"), world(0x0000_0363), 0, |m| m.pc = 0x46);
             self.step(&format!("{place}, branch not taken to a half word"), world(0x0002_8363), 0, |m| m.pc = 0x44);
             self.step(&format!("{place}, ebreak"), world(EBREAK), 19, unchanged);
         }
@@ -477,9 +480,9 @@ impl List {
             let world = outside(hfi(ENTER_JUMP)).with(options(value)).with(|m| m.x[6] = 0x80);
             self.step(&format!("enter with jump, options operand {value:x}"), world, 14, unchanged);
         }
-        for target in [0x81, 0x82, 0x83, ALL] {
+        for target in [0x81, 0x83, ALL] {
             let world = outside(hfi(ENTER_JUMP)).with(options(5)).with(|m| m.x[6] = target);
-            self.step(&format!("enter with jump to {target:x}, no multiple of 4"), world, 15, unchanged);
+            self.step(&format!("enter with jump to {target:x}, no multiple of 2"), world, 15, unchanged);
         }
         let worst = outside(hfi(ENTER_JUMP)).with(options(16)).with(|m| m.x[6] = 0x81);
         self.step("enter with jump, operand 16 and a misaligned target", worst, 14, unchanged);
@@ -723,7 +726,7 @@ impl List {
         let back = outside(NOP).put(0, 0xffdff06f).with(|m| m.pc = 0);
         self.add("run: a jump to pc - 4 wraps", Request::Run(5), back, (12, 1, ALL - 3), |m| m.pc = ALL - 3);
         let tiny = inside(NOP).length(0x41).with(|m| m.regions[2] = Region { base: 0x40, bound: mask(1), permission: 4 });
-        self.step("11 before 12: byte 41 absent, 42 refused", tiny, 11, |m| m.fault = fault(0, 3, 0x42));
+        self.add("step: 12 before 11: byte 41 absent, 42 refused", Request::Step, tiny, (12, 0, 0x41), unchanged);
     }
 
     fn absent_data(&mut self) {
@@ -1023,7 +1026,7 @@ impl List {
             self.step(&format!("{}, region 3 without execute", row.0), barred, 11, |m| m.fault = fault(3, 3, 0x40));
             let half = operands(inside(word)).with(|m| m.regions[2] = Region { base: 0x40, bound: mask(1), permission: 4 });
             self.step(&format!("{}, its third byte is refused", row.0), half, 11, |m| m.fault = fault(0, 3, 0x42));
-            self.step(&format!("{}, pc 3e", row.0), operands(outside(word)).with(|m| m.pc = 0x3e), 10, unchanged);
+            self.step(&format!("{}, pc 3f", row.0), operands(outside(word)).with(|m| m.pc = 0x3f), 10, unchanged);
             self.step(&format!("{}, not well formed", row.0), operands(outside(word)).with(|m| m.selector = 11), 3, unchanged);
             self.run(&format!("{}, budget 0", row.0), operands(outside(word)), 0, (21, 0), unchanged);
         }
@@ -1088,7 +1091,7 @@ impl List {
         self.step("no region outside: ld", double(bare(load(3, 7, 8, 0))), 0, read);
         self.step("no region outside: sd", bare(store(3, 7, 8, 0)), 0, |m| m.pc = 0x44).stores(0x700, 8, 0x107);
         let misaligned = |pc: u64| move |m: &mut Machine| m.pc = pc;
-        for pc in [0x41, 0x42, 0x43, ALL] {
+        for pc in [0x41, 0x43, ALL] {
             self.step(&format!("pc {pc:x} outside"), outside(NOP).with(misaligned(pc)), 10, unchanged);
             self.step(&format!("pc {pc:x} inside"), inside(NOP).with(misaligned(pc)), 10, unchanged);
         }
@@ -1254,19 +1257,19 @@ impl List {
                 }
                 let stop = if value % 2 == 1 { 22 } else { 15 };
                 if jump {
-                    self.step(&format!("{name}, to 82"), world(outside(word), value, 0x82), stop, unchanged);
+                    self.step(&format!("{name}, to 81"), world(outside(word), value, 0x81), stop, unchanged);
                 }
             }
             for value in [17, 31, (1 << 32) + 1, ALL] {
-                self.step(&format!("{form}, writable code, options operand {value:x}"), world(outside(word), value, 0x82), 14, unchanged);
+                self.step(&format!("{form}, writable code, options operand {value:x}"), world(outside(word), value, 0x81), 14, unchanged);
             }
             for (options, stop) in [(0, 23), (14, 23), (1, 4), (15, 4)] {
                 let name = format!("{form}, writable code, inside, options {options}");
-                self.step(&name, world(inside(word), 1, 0x82).with(|m| m.options = options), stop, unchanged);
+                self.step(&name, world(inside(word), 1, 0x81).with(|m| m.options = options), stop, unchanged);
             }
             let lock_bit = world(outside(word), 1, 0x80).with(|m| m.options = 15);
             self.step(&format!("{form}, writable code, options 15 from before"), lock_bit, 22, unchanged);
-            self.step(&format!("{form}, writable code, pc 42"), world(outside(word), 1, 0x80).with(|m| m.pc = 0x42), 10, unchanged);
+            self.step(&format!("{form}, writable code, pc 41"), world(outside(word), 1, 0x80).with(|m| m.pc = 0x41), 10, unchanged);
             self.step(&format!("{form}, writable code, rd 1"), world(outside(word | 1 << 7), 1, 0x80), 13, unchanged);
             self.run(&format!("{form}, writable code, budget 0"), world(outside(word), 1, 0x80), 0, (21, 0), unchanged);
             self.run(&format!("{form}, writable code"), world(outside(word), 1, 0x80), 5, (22, 0), unchanged);
@@ -1369,7 +1372,7 @@ impl List {
             for value in [0, 15, 17, 1 << 32, 1 << 63, ALL] {
                 self.step(&format!("enter inside, {place}, operand {value:x}"), world(hfi(ENTER), value), 23, unchanged);
             }
-            for (value, target) in [(0, 0x81), (1, 0x83), (15, ALL), (ALL, 0x82)] {
+            for (value, target) in [(0, 0x81), (1, 0x83), (15, ALL), (ALL, 0x85)] {
                 let jump = world(hfi(ENTER_JUMP), value).with(|m| m.x[6] = target);
                 self.step(&format!("enter with jump inside, {place}, operand {value:x}, to {target:x}"), jump, 23, unchanged);
             }
@@ -1413,7 +1416,7 @@ impl List {
             self.run(&format!("{name}, budget 1"), world.clone(), 1, (number, 0), unchanged);
             self.run(&format!("{name}, budget f4241"), world.clone(), 1_000_001, (2, 0), unchanged);
             self.step(&format!("{name}, not well formed"), world.clone().with(|m| m.fault.op = 4), 3, unchanged);
-            self.step(&format!("{name}, pc 42"), world.clone().with(|m| m.pc = 0x42), 10, unchanged);
+            self.step(&format!("{name}, pc 41"), world.clone().with(|m| m.pc = 0x41), 10, unchanged);
             let short = world.clone().length(0x43);
             self.add(&format!("step: {name}, memory ends at 43"), Request::Step, short, (12, 0, 0x43), unchanged);
             if number != 24 {
@@ -1541,8 +1544,8 @@ fn cases(funct7: u32) -> Vec<(&'static str, u64, u64, u64, Option<u64>)> {
             good,
             unselected(None),
             ("operand 10", 16, 0x80, 2, Some(14)),
-            ("to 82", 1, 0x82, 2, Some(15)),
-            ("operand 10, to 82", 16, 0x82, 2, Some(14)),
+            ("to 81", 1, 0x81, 2, Some(15)),
+            ("operand 10, to 81", 16, 0x81, 2, Some(14)),
         ],
         SELECT => vec![good, unselected(None), ("number 0", 0, 0x80, 2, Some(14)), ("number 4", 4, 0x80, 0, None), ("number b", 11, 0x80, 0, Some(14))],
         SET_PERMISSION => vec![good, unselected(Some(14)), ("bit 2, which region 2 lacks", 4, 0x80, 2, Some(14))],
@@ -1827,6 +1830,7 @@ pub fn directed() -> Vec<Directed> {
     list.code_in_runs();
     list.which_rule();
     list.ten_regions();
+    list.half_words();
     // A call that two subjects share stands once, under the first.
     let mut seen = std::collections::HashSet::new();
     list.all.retain(|row| seen.insert(row.call.unnamed()));
@@ -1834,17 +1838,18 @@ pub fn directed() -> Vec<Directed> {
 }
 
 /// Random calls: those of the base, then those with RV64M words, then those of
-/// Job 5, then those of Job 6, then those of Job 7. Of the first two some are
-/// refused by Job 5.
+/// Job 5, then those of Job 6, then those of Job 7, then those of Job 8. Of the
+/// first two some are refused by Job 5.
 pub fn random() -> Vec<Call> {
-    let (mut base, mut rv64m, mut code, mut rules, mut supply) =
-        (Supply::of_base(20), Supply::of_rv64m(21), Supply::of_writable_code(22), Supply::of_rules(23), Supply::new(24));
+    let (mut base, mut rv64m, mut code) = (Supply::of_base(20), Supply::of_rv64m(21), Supply::of_writable_code(22));
+    let (mut rules, mut ten, mut supply) = (Supply::of_rules(23), Supply::of_ten(24), Supply::new(25));
     let first = (0..RANDOM).map(|n| random_call(&mut base, n));
     let second = (0..RANDOM_M).map(|n| random_m_call(&mut rv64m, n));
     let third = (0..RANDOM_CODE).map(|n| random_code_call(&mut code, n));
     let fourth = (0..RANDOM_RULES).map(|n| random_rule_call(&mut rules, n));
-    let fifth = (0..RANDOM_TEN).map(|n| random_ten_call(&mut supply, n));
-    let all = first.chain(second).chain(third).chain(fourth).chain(fifth).enumerate();
+    let fifth = (0..RANDOM_TEN).map(|n| random_ten_call(&mut ten, n));
+    let sixth = (0..RANDOM_HALF).map(|n| random_half_call(&mut supply, n));
+    let all = first.chain(second).chain(third).chain(fourth).chain(fifth).chain(sixth).enumerate();
     all.map(|(n, (request, machine, lent))| random_named(n, request, machine, &lent)).collect()
 }
 
@@ -1947,6 +1952,29 @@ fn random_ten_call(supply: &mut Supply, n: usize) -> (Request, Machine, Vec<u8>)
     }
 }
 
+/// Aimed fetches, steps of half-words and of long words at 2 past a multiple of
+/// 4, and runs of both that cross the mode.
+fn random_half_call(supply: &mut Supply, n: usize) -> (Request, Machine, Vec<u8>) {
+    match n % 6 {
+        0 => {
+            let (machine, memory) = supply.crossing_world(7);
+            (Request::Run(supply.below(60)), machine, memory)
+        }
+        1 | 2 => {
+            let all = fetches::aims();
+            let (machine, memory) = supply.aimed_fetch(all[n * 137 % all.len()]);
+            let (at, mut bytes) = (machine.pc as usize, vec![0; memory.len()]);
+            let end = (at + 4).min(memory.len());
+            bytes[at.min(end)..end].copy_from_slice(&memory[at.min(end)..end]);
+            (if n % 2 == 0 { Request::Step } else { Request::Run(1) }, machine, bytes)
+        }
+        _ => {
+            let (machine, memory) = supply.single_step(256);
+            (Request::Step, machine, memory)
+        }
+    }
+}
+
 /// The bytes of a call at its word and about its access; the others 0, for want
 /// of room.
 fn about_the_access(call: &Call) -> Vec<u8> {
@@ -2001,9 +2029,10 @@ pub fn stored() -> (String, String) {
     (data, printed)
 }
 
-/// How many of the stored calls are random: of the base, with RV64M words, of Job 5, of Job 6, of Job 7.
+/// How many of the stored calls are random: of the base, with RV64M words, of Job 5, of Job 6, of Job 7, of Job 8.
 const RANDOM: usize = 160;
 const RANDOM_M: usize = 80;
 const RANDOM_CODE: usize = 80;
 const RANDOM_RULES: usize = 40;
 const RANDOM_TEN: usize = 60;
+const RANDOM_HALF: usize = 60;

@@ -2,6 +2,8 @@
 
 use std::collections::BTreeMap;
 
+use crate::fetches;
+use crate::half_words::{begins_long_word, row};
 use crate::hfi_rules;
 use crate::instruction::{decode, encode, name, HfiKind, Instruction, LOAD_TABLE, M_WORDS, STORE_TABLE};
 use crate::m_words::{self, M_CLASSES, PAIRS};
@@ -10,7 +12,7 @@ use crate::numbers::{bit, power};
 use crate::overlap::locked_code_is_writable;
 use crate::reach::{executable, writable};
 use crate::region::{keeps_rule, Place};
-use crate::step::{data_access, load_size, step_asked, store_size};
+use crate::step::{data_access, load_size, meaning, step_asked, store_size, HALF, LONG};
 use crate::supply::{sheet_of, written_out, Supply, AIMS};
 use crate::ten_regions;
 use crate::writable_code::{self, WAYS};
@@ -134,6 +136,8 @@ pub struct Counts {
     pub rules: hfi_rules::Met,
     /// Accesses aimed at two regions of a kind, and h-words by region and registers (`ten_regions::Aim`).
     pub ten_regions: ten_regions::Met,
+    /// Aimed fetches, jumps and half-words, by kind (`fetches`).
+    pub fetches: fetches::Met,
     /// What happened in the runs that cross the mode, by kind.
     pub crossings: BTreeMap<&'static str, u64>,
     pub resume_stops: BTreeMap<u64, u64>,
@@ -180,6 +184,7 @@ impl Counts {
         all(&mut self.code_stops, other.code_stops);
         all(&mut self.code_classes, other.code_classes);
         all(&mut self.ten_regions, other.ten_regions);
+        all(&mut self.fetches, other.fetches);
         all(&mut self.crossings, other.crossings);
         all(&mut self.resume_stops, other.resume_stops);
         all(&mut self.sheet_lines, other.sheet_lines);
@@ -379,15 +384,26 @@ fn show(machine: &Machine) -> String {
     )
 }
 
-fn word_at(memory: &[u8], pc: u64) -> Option<u32> {
-    let at = usize::try_from(pc).ok()?;
-    let bytes = memory.get(at..at.checked_add(4)?)?;
-    Some(u32::from_le_bytes(bytes.try_into().unwrap()))
+/// The bytes at pc that are in memory, four at most, as a number; and how many a
+/// word there has.
+fn word_at(memory: &[u8], pc: u64) -> Option<(u32, u64)> {
+    let from = memory.get(usize::try_from(pc).ok()?..)?;
+    let bytes: [u8; 4] = std::array::from_fn(|n| from.get(n).copied().unwrap_or(0));
+    let word = u32::from_le_bytes(bytes);
+    let length = if begins_long_word(word as u16) { LONG } else { HALF };
+    (from.len() as u64 >= length).then_some((word, length))
 }
 
-/// Counts a word that was fetched by its instruction, its stop and its classes.
-fn count_word(before: &Machine, instruction: &Instruction, stop: u64, counts: &mut Counts) {
-    let entry = counts.instructions.entry(name(instruction)).or_default();
+/// Counts a word that was fetched by its instruction, or by its row if it is a
+/// half-word, its stop and its classes.
+fn count_word(before: &Machine, (word, length): (u32, u64), stop: u64, counts: &mut Counts) {
+    let Some(instruction) = meaning(word, length) else { return };
+    let instruction = &instruction;
+    let title = match row(word as u16).filter(|_| length == HALF) {
+        Some(row) => row.0.to_string(),
+        None => name(instruction),
+    };
+    let entry = counts.instructions.entry(title).or_default();
     if stop == 0 {
         entry.0 += 1;
     } else {
@@ -415,15 +431,15 @@ pub fn compare_step(
     let (mut m, mut bytes) = (*machine, memory.clone());
     let a = left.step(machine, memory).expect("the measure steps");
     *counts.step_stops.entry(a.0).or_default() += 1;
-    if let (Some(instruction), true) = (word.and_then(decode), ![1, 3, 4, 10, 11, 12].contains(&a.0)) {
-        count_word(&before, &instruction, a.0, counts);
+    if let (Some(word), true) = (word, ![1, 3, 4, 10, 11, 12].contains(&a.0)) {
+        count_word(&before, word, a.0, counts);
     }
     if let Some(b) = right.step(&mut m, &mut bytes) {
         counts.compared += 1;
         if a != b || *machine != m || *memory != bytes {
             counts.difference(format!(
                 "step, word {:08x?}, length {}\n  before {}\n  {} {a:?} {}\n  {} {b:?} {}\n  first byte apart {:?}",
-                word,
+                word.map(|word| word.0),
                 memory.len(),
                 show(&before),
                 left.title(),
@@ -764,7 +780,7 @@ fn follow(machine: &Machine, memory: &[u8], budget: u64, counts: &mut Counts) ->
         seen.since += 1;
         if before == 0 && m.mode == 1 {
             seen.entered += 1;
-            let jump = matches!(word.and_then(decode), Some(Instruction::Hfi { kind: HfiKind::EnterJump, .. }));
+            let jump = matches!(word.and_then(|word| meaning(word.0, word.1)), Some(Instruction::Hfi { kind: HfiKind::EnterJump, .. }));
             *counts.crossings.entry(if jump { "enters with jump" } else { "enters" }).or_default() += 1;
         }
         if before == 1 && m.mode == 0 {
@@ -908,6 +924,7 @@ pub fn rounds(left: &dyn Engine, right: &dyn Engine, seed: u64, number: u64, cou
         writable_code::compare(left, right, &mut supply, counts);
         hfi_rules::compare(left, right, &mut supply, round as usize, counts);
         ten_regions::compare(left, right, &mut supply, counts);
+        fetches::compare(left, right, &mut supply, round as usize, counts);
         for _ in 0..4 {
             steady_run(left, right, &mut supply, counts);
             crossing_run(left, right, &mut supply, counts);
@@ -1047,10 +1064,12 @@ pub fn long_memories(left: &dyn Engine, right: &dyn Engine, seed: u64, counts: &
             let mut machine = supply.machine(length);
             compare_run(left, right, &machine, &memory, 10, counts);
             machine.mode = 0;
-            for pc in [0, length / 4 * 4 - 4, length / 4 * 4] {
+            for pc in [0, length / 4 * 4 - 4, length / 4 * 4 - 2, length / 4 * 4] {
                 let word = supply.word();
                 if let Some(place) = memory.get_mut(pc..pc + 4) {
                     place.copy_from_slice(&word.to_le_bytes());
+                } else if let Some(place) = memory.get_mut(pc..pc + 2) {
+                    place.copy_from_slice(&supply.half_word().to_le_bytes());
                 }
                 machine.pc = pc as u64;
                 compare_run(left, right, &machine, &memory, 10, counts);
@@ -1137,6 +1156,10 @@ fn print_classes(counts: &Counts) {
     println!("accesses aimed at two regions of a kind, and h-words by the region chosen:");
     for (shape, count) in ten_regions::by_shape(&counts.ten_regions) {
         println!("  {shape}: {count}");
+    }
+    println!("aimed fetches and jumps, and half-words in and out of HFI mode:");
+    for (class, count) in &counts.fetches {
+        println!("  {class}: {count}");
     }
     println!("words of question 8, as steps, in runs, on sheets, by what they get (0: none of 14, 23, 24, 25):");
     for (number, met) in hfi_rules::by_number(&counts.rules) {

@@ -36,7 +36,7 @@ pub enum Flaw {
     Operand,
     /// Nothing is selected.
     Selection,
-    /// The target is no multiple of 4.
+    /// The target is no multiple of 2.
     Target,
     /// Both of an enter with jump.
     OperandAndTarget,
@@ -226,7 +226,7 @@ impl Supply {
 
     fn rule_target(&mut self, aim: Aim) -> u64 {
         let odd = [Flaw::Target, Flaw::OperandAndTarget].contains(&aim.flaw);
-        self.below(LENGTH as u64 / 4) * 4 + if odd { 1 + self.below(3) } else { 0 }
+        self.below(LENGTH as u64 / 4) * 4 + if odd { 1 + 2 * self.below(2) } else { 0 }
     }
 
     /// Any machine in that place, well formed, with code in all of memory.

@@ -2,6 +2,7 @@
 //! `oracle llvm FILE`, `oracle dart FILE`: the published vectors.
 //! `oracle vectors FILE`: the fixed-column value cases.
 //! `oracle words FILE`: words and whether they are legal.
+//! `oracle halves`: each half-word with the long word that has its instruction, or `-` if it is illegal.
 //! `oracle sheets FOLDER`: every sheet of a folder with its answer, by name.
 //! `oracle calls FOLDER`: writes the calls and their answers to FOLDER/data/calls-1, FOLDER/data/calls-2 and
 //! FOLDER/stdout.
@@ -22,6 +23,12 @@ fn main() {
         "dart" => finish(oracle::vectors::check_dart(&read(&file()))),
         "vectors" => finish(oracle::vectors::check_columns(&read(&file()))),
         "words" => finish(oracle::vectors::check_words(&read(&file()))),
+        "halves" => {
+            for half in (0..=u16::MAX).filter(|half| !oracle::half_words::begins_long_word(*half)) {
+                let long = oracle::expand(half).map(|instruction| oracle::encode(&instruction).expect("in range"));
+                println!("{half:04x} {}", long.map_or("-".to_string(), |word| format!("{word:08x}")));
+            }
+        }
         "sheets" => {
             let mut names: Vec<String> = std::fs::read_dir(file())
                 .expect("folder")
@@ -45,7 +52,7 @@ fn main() {
             println!("{} calls, {} bytes, {} bytes of answers", data.lines().count() / 5, data.len(), printed.len());
         }
         _ => {
-            eprintln!("use: oracle sheet | llvm FILE | dart FILE | vectors FILE | words FILE | sheets FOLDER | calls FOLDER");
+            eprintln!("use: oracle sheet | llvm FILE | dart FILE | vectors FILE | words FILE | halves | sheets FOLDER | calls FOLDER");
             std::process::exit(2);
         }
     }

@@ -6,7 +6,7 @@ use crate::region::{refusal, Access, Op, Place};
 
 /// Does an ordinary load or store, or a fetch, reach the byte? Register values
 /// and pc are free, so an access of one byte reaches any address; a fetch at
-/// the multiple of 4 below reaches it too.
+/// the multiple of 2 below reaches it too (document 02, Job 8).
 fn implicit_reach(machine: &Machine, op: Op, address: u64) -> bool {
     let access = Access { op, place: Place::Implicit { address }, size: 1 };
     refusal(machine, &access, 0).is_none()

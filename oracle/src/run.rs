@@ -47,7 +47,8 @@ pub fn run(machine: &mut Machine, memory: &mut [u8], budget: u64) -> (u64, u64, 
     }
 }
 
-/// Puts a value in x10 and adds 4 to pc. Answers 0, or 3 with nothing changed.
+/// Puts a value in x10 and adds 4 to pc, an ECALL being a long word. Answers 0,
+/// or 3 with nothing changed.
 pub fn resume(machine: &mut Machine, value: u64) -> u64 {
     if !well_formed(machine) {
         return 3;

@@ -1,5 +1,6 @@
 //! One step: the questions of document 01 in their order, then the effect.
 
+use crate::half_words::{begins_long_word, expand};
 use crate::instruction::{
     decode, BranchKind, HfiKind, ImmediateKind, Instruction, LoadKind, RegisterKind, ShiftKind, StoreKind,
     SystemKind, UpperKind,
@@ -14,8 +15,9 @@ use crate::region::{address, first_absent, first_refused, Access, Op, Place};
 
 pub const MEMORY_LIMIT: usize = 16_777_216;
 
-/// Length of an instruction word.
-const LENGTH: u64 = 4;
+/// Lengths of an instruction word (document 02, Job 8).
+pub const HALF: u64 = 2;
+pub const LONG: u64 = 4;
 
 /// A step as a call: questions 1, 3 and Job 5's, then the step itself. Answers
 /// the stop and the address given with it.
@@ -37,23 +39,17 @@ pub fn step(machine: &mut Machine, memory: &mut [u8]) -> (u64, u64) {
 
 /// Questions 4 to 13, with Job 6's before 8 and Job 5's after it, and the effect.
 pub fn step_asked(machine: &mut Machine, memory: &mut [u8]) -> (u64, u64) {
-    // 4. Is pc a multiple of 4?
-    if machine.pc % 4 != 0 {
+    // 4. Is pc a multiple of 2?
+    if machine.pc % HALF != 0 {
         return (10, 0);
     }
-    // 5. In HFI mode, are all four bytes executable?
-    let fetch = Access { op: Op::Fetch, place: Place::Implicit { address: machine.pc }, size: LENGTH };
-    if let Some((region, byte)) = first_refused(machine, &fetch) {
-        machine.fault = Fault { occurred: 1, region, op: fetch.op.number(), address: byte };
-        return (11, 0);
-    }
-    // 6. Are they in memory?
-    if let Some(byte) = first_absent(machine, &fetch, memory.len()) {
-        return (12, byte);
-    }
+    // 5 and 6, of two bytes or of two and two more.
+    let (word, length) = match fetch(machine, memory) {
+        Ok(fetched) => fetched,
+        Err(stop) => return stop,
+    };
     // 7. Is the word legal?
-    let word = read(machine, &fetch, memory) as u32;
-    let instruction = match decode(word) {
+    let instruction = match meaning(word, length) {
         Some(instruction) => instruction,
         None => return (13, 0),
     };
@@ -66,10 +62,9 @@ pub fn step_asked(machine: &mut Machine, memory: &mut [u8]) -> (u64, u64) {
     if enters_locked(machine, &instruction) && code_is_writable(machine) {
         return (22, 0);
     }
-    // 9. Is the target of a taken branch, a jump or an enter with jump a
-    // multiple of 4?
-    if let Some(target) = jump_target(machine, &instruction) {
-        if target % 4 != 0 {
+    // 9. Is the target of an enter with jump a multiple of 2?
+    if let Instruction::Hfi { kind: HfiKind::EnterJump, rs2, .. } = instruction {
+        if machine.get(rs2) % HALF != 0 {
             return (15, 0);
         }
     }
@@ -92,8 +87,42 @@ pub fn step_asked(machine: &mut Machine, memory: &mut [u8]) -> (u64, u64) {
     if instruction == (Instruction::System { kind: SystemKind::Ebreak }) {
         return (19, 0);
     }
-    perform(machine, memory, &instruction);
+    perform(machine, memory, &instruction, length);
     (0, 0)
+}
+
+/// Two bytes from `pc + from` on: 5, in HFI mode, are both executable? 6, are
+/// they in memory?
+fn fetch_half(machine: &mut Machine, memory: &[u8], from: u64) -> Result<u16, (u64, u64)> {
+    let half = Access { op: Op::Fetch, place: Place::Implicit { address: add(machine.pc, from) }, size: HALF };
+    if let Some((region, byte)) = first_refused(machine, &half) {
+        machine.fault = Fault { occurred: 1, region, op: half.op.number(), address: byte };
+        return Err((11, 0));
+    }
+    if let Some(byte) = first_absent(machine, &half, memory.len()) {
+        return Err((12, byte));
+    }
+    Ok(read(machine, &half, memory) as u16)
+}
+
+/// The word at pc and its length, or the stop and its address. The second half
+/// is asked about only if the first has ones for its low two bits.
+pub fn fetch(machine: &mut Machine, memory: &[u8]) -> Result<(u32, u64), (u64, u64)> {
+    let first = fetch_half(machine, memory, 0)?;
+    if !begins_long_word(first) {
+        return Ok((first as u32, HALF));
+    }
+    let second = fetch_half(machine, memory, HALF)?;
+    Ok((second as u32 * 65_536 + first as u32, LONG))
+}
+
+/// The instruction that a fetched word stands for.
+pub fn meaning(word: u32, length: u64) -> Option<Instruction> {
+    if length == HALF {
+        expand(word as u16)
+    } else {
+        decode(word)
+    }
 }
 
 /// Either enter form whose operand has the lock bit.
@@ -395,10 +424,11 @@ pub fn register_value(kind: RegisterKind, a: u64, b: u64) -> u64 {
     }
 }
 
-/// The effect of an instruction that passed every question.
-fn perform(machine: &mut Machine, memory: &mut [u8], instruction: &Instruction) {
+/// The effect of an instruction that passed every question; its word's length
+/// counts in the next pc and in links.
+fn perform(machine: &mut Machine, memory: &mut [u8], instruction: &Instruction, length: u64) {
     let pc = machine.pc;
-    let next = add(pc, LENGTH);
+    let next = add(pc, length);
     let target = jump_target(machine, instruction);
     let data = data_access(machine, instruction);
 

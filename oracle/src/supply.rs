@@ -1,7 +1,8 @@
 //! Random machines, memories, words and sheets, with a bias to the edges.
 
+use crate::half_words::{begins_long_word, expand, shortened};
 use crate::instruction::{
-    decode, encode, BranchKind, HfiKind, ImmediateKind, Instruction, LoadKind, RegisterKind, ShiftKind, SystemKind, UpperKind, BASE_ROWS, BRANCH_TABLE,
+    decode, encode, BranchKind, HfiKind, ImmediateKind, Instruction, LoadKind, RegisterKind, ShiftKind, StoreKind, SystemKind, UpperKind, BASE_ROWS, BRANCH_TABLE,
     HFI_TABLE, IMMEDIATE_TABLE, LOAD_TABLE, REGISTER_TABLE, SHIFT_TABLE, STORE_TABLE,
 };
 use crate::machine::{numbers_of_kind, region_kind, Fault, Machine, Region, RegionKind, EXPLICIT, IMPLICIT_DATA, REGIONS, WRITE};
@@ -74,6 +75,11 @@ pub const AIMS: [Aim; 18] = [
 /// The memory of aimed h-words: longer than an immediate reaches, twice.
 pub const AIMED_LENGTH: usize = 12_288;
 
+/// What half-words can do to one register, and with another.
+const SHORT_SHIFTS: [ShiftKind; 3] = [ShiftKind::Slli, ShiftKind::Srli, ShiftKind::Srai];
+const SHORT_OPERATIONS: [RegisterKind; 6] =
+    [RegisterKind::Sub, RegisterKind::Xor, RegisterKind::Or, RegisterKind::And, RegisterKind::Subw, RegisterKind::Addw];
+
 /// Registers that a run leaves alone: two offsets inside region 1 and an edge.
 const OFFSETS: [u64; 3] = [4, 12, 13];
 
@@ -94,32 +100,39 @@ pub struct Supply {
     strays: bool,
     /// Does it draw all ten regions, and h-words that choose among them?
     ten: bool,
+    /// Does it draw half-words, and long words at 2 past a multiple of 4?
+    halves: bool,
 }
 
 impl Supply {
     pub fn new(seed: u64) -> Supply {
-        Supply { state: seed, rows: REGISTER_TABLE.len(), parts: true, strays: true, ten: true }
+        Supply { state: seed, rows: REGISTER_TABLE.len(), parts: true, strays: true, ten: true, halves: true }
     }
 
     /// As before Job 2, so that what was stored then stays as it was.
     pub fn of_base(seed: u64) -> Supply {
-        Supply { state: seed, rows: BASE_ROWS, parts: false, strays: false, ten: false }
+        Supply { state: seed, rows: BASE_ROWS, parts: false, strays: false, ten: false, halves: false }
     }
 
     /// As before Job 5, likewise.
     pub fn of_rv64m(seed: u64) -> Supply {
-        Supply { state: seed, rows: REGISTER_TABLE.len(), parts: false, strays: false, ten: false }
+        Supply { state: seed, rows: REGISTER_TABLE.len(), parts: false, strays: false, ten: false, halves: false }
     }
 
     /// As before Job 6, likewise.
     pub fn of_writable_code(seed: u64) -> Supply {
-        Supply { state: seed, rows: REGISTER_TABLE.len(), parts: true, strays: false, ten: false }
+        Supply { state: seed, rows: REGISTER_TABLE.len(), parts: true, strays: false, ten: false, halves: false }
     }
 
     /// As before Job 7, likewise; an h-word then names x0 to x15 by the low
     /// four bits of what was drawn, and chooses region 1.
     pub fn of_rules(seed: u64) -> Supply {
-        Supply { ten: false, ..Supply::new(seed) }
+        Supply { ten: false, halves: false, ..Supply::new(seed) }
+    }
+
+    /// As before Job 8, likewise.
+    pub fn of_ten(seed: u64) -> Supply {
+        Supply { halves: false, ..Supply::new(seed) }
     }
 
     pub fn next(&mut self) -> u64 {
@@ -246,6 +259,108 @@ impl Supply {
                 let keep = |has: bool, register: u64| if has { register } else { 0 };
                 Instruction::Hfi { kind, rd: keep(has_rd, rd), rs1: keep(has_rs1, rs1), rs2: keep(has_rs2, rs2) }
             }
+        }
+    }
+
+    /// A half-word: mostly legal, sometimes any with low bits that are not both
+    /// ones.
+    pub fn half_word(&mut self) -> u16 {
+        loop {
+            let half = self.next() as u16;
+            if expand(half).is_some() || !begins_long_word(half) && self.once_in(8) {
+                return half;
+            }
+        }
+    }
+
+    /// An instruction with a half-word that keeps a run going, as
+    /// `steady_instruction` does. It stands at this place of code.
+    fn steady_short(&mut self, at: usize) -> Instruction {
+        let (rd, other) = (self.pick(&[9, 10, 11, 14, 15]), 8 + self.below(8));
+        let value = self.below(64) as i64 - 32;
+        let immediate = |kind, rd, rs1, value| Instruction::Immediate { kind, rd, rs1, value };
+        match self.below(26) {
+            0 | 1 => immediate(ImmediateKind::Addi, rd, rd, value),
+            2 => immediate(self.pick(&[ImmediateKind::Addiw, ImmediateKind::Andi]), rd, rd, value),
+            3 => immediate(ImmediateKind::Addi, rd, 0, value),
+            4 => immediate(ImmediateKind::Addi, rd, 2, 4 + 4 * self.below(255) as i64),
+            5 => Instruction::Upper { kind: UpperKind::Lui, rd, field: self.pick(&[1, 2, 31, 0xfffe0, 0xfffff]) },
+            6 | 7 => Instruction::Shift { kind: self.pick(&SHORT_SHIFTS), rd, rs1: rd, amount: self.below(64) },
+            8..=10 => Instruction::Register { kind: self.pick(&SHORT_OPERATIONS), rd, rs1: rd, rs2: other },
+            11 => Instruction::Register { kind: RegisterKind::Add, rd, rs1: 0, rs2: 1 + self.below(31) },
+            12 => Instruction::Register { kind: RegisterKind::Add, rd, rs1: rd, rs2: 1 + self.below(31) },
+            n @ 13..=20 => self.steady_short_access(n % 4, rd, other),
+            21..=23 => self.steady_short_jump(at, other),
+            24 if self.once_in(24) => Instruction::System { kind: SystemKind::Ebreak },
+            24 if self.once_in(8) => immediate(ImmediateKind::Addi, 2, 2, self.pick(&[-16, 16, 32])),
+            _ => immediate(ImmediateKind::Addi, rd, rd, 1),
+        }
+    }
+
+    /// A load or a store through x8 or x2, pointers into ordinary data.
+    fn steady_short_access(&mut self, n: u64, rd: u64, other: u64) -> Instruction {
+        let (rs1, near) = (self.pick(&[8, 2]), self.below(8) as i64);
+        match n {
+            0 => Instruction::Load { kind: LoadKind::Word, rd, rs1, offset: 4 * near },
+            1 => Instruction::Load { kind: LoadKind::Double, rd, rs1, offset: 8 * near },
+            2 => Instruction::Store { kind: StoreKind::Word, rs1, rs2: other, offset: 4 * near },
+            _ => Instruction::Store { kind: StoreKind::Double, rs1, rs2: other, offset: 8 * near },
+        }
+    }
+
+    /// A jump or a branch, mostly to a multiple of 4 near this place.
+    fn steady_short_jump(&mut self, at: usize, other: u64) -> Instruction {
+        let stray = if self.once_in(12) { 2 } else { 0 };
+        let offset = self.below(12) as i64 * 4 - 16 - (at % 4) as i64 + stray;
+        match self.below(8) {
+            0 => Instruction::Jal { rd: 0, offset },
+            1 => Instruction::Jalr { rd: 0, rs1: 3, offset: 0 },
+            2 if self.once_in(8) => Instruction::Jalr { rd: 1, rs1: 3, offset: 0 },
+            n => Instruction::Branch { kind: [BranchKind::Beq, BranchKind::Bne][n as usize % 2], rs1: other, rs2: 0, offset },
+        }
+    }
+
+    /// A half-word that keeps a run going.
+    fn steady_half(&mut self, at: usize) -> u16 {
+        let instruction = self.steady_short(at);
+        let halves = shortened(&instruction);
+        assert!(!halves.is_empty(), "{instruction:?}");
+        self.pick(halves)
+    }
+
+    /// Two half-words in place of the long one at this place.
+    fn put_halves(&mut self, memory: &mut [u8], at: usize) {
+        for place in [at, at + 2] {
+            let half = if self.once_in(60) { self.half_word() } else { self.steady_half(place) };
+            memory[place..place + 2].copy_from_slice(&half.to_le_bytes());
+        }
+    }
+
+    /// The long words of places `first` to `last`, each 4 bytes, moved down by
+    /// 2: a half-word before them, one after them, and the first is lost.
+    fn shift_words(&mut self, memory: &mut [u8], first: usize, last: usize) {
+        memory.copy_within(first + 4..last + 4, first + 2);
+        for at in [first, last + 2] {
+            // No jump: it would go by its place.
+            let instruction = Instruction::Immediate { kind: ImmediateKind::Addi, rd: 9, rs1: 9, value: self.below(64) as i64 - 32 };
+            let half = self.pick(shortened(&instruction));
+            memory[at..at + 2].copy_from_slice(&half.to_le_bytes());
+        }
+    }
+
+    /// Half-words among the long words of the first `half` bytes: in pairs, and
+    /// about stretches of long words that then stand at 2 past a multiple of 4.
+    fn blend(&mut self, memory: &mut [u8], half: usize) {
+        let often = self.pick(&[2, 3, 8]);
+        let mut at = 0;
+        while at + 4 <= half {
+            if self.once_in(often) {
+                self.put_halves(memory, at);
+            } else if self.once_in(12) && at + 24 <= half {
+                self.shift_words(memory, at, at + 16);
+                at += 16;
+            }
+            at += 4;
         }
     }
 
@@ -589,6 +704,9 @@ impl Supply {
             self.part_above(&mut machine, half as u64);
         }
         self.point_into(&mut machine, half as u64, (base, inner));
+        if self.halves && !self.once_in(3) {
+            self.blend(&mut memory, half);
+        }
         (machine, memory)
     }
 
@@ -675,6 +793,9 @@ impl Supply {
             let at = 4 * place as usize;
             memory[at..at + 4].copy_from_slice(&word.to_le_bytes());
         }
+        if self.halves {
+            (0..blocks as usize).for_each(|block| self.shorten_block(&mut memory, 64 * block));
+        }
         for n in 20..23 {
             machine.x[n] = if self.once_in(40) { self.edge() } else { self.below(16) };
             machine.x[n + 3] = self.below(blocks) * 64 + 28;
@@ -685,6 +806,22 @@ impl Supply {
         machine.mode = self.once_in(5) as u64;
         machine.pc = self.below(blocks) * 64 + 28 * machine.mode;
         (machine, memory)
+    }
+
+    /// Half-words in a block of `crossing_world`: for work, and about the word
+    /// that enters or the one that leaves, which then stand at 2 past a multiple
+    /// of 4.
+    fn shorten_block(&mut self, memory: &mut [u8], block: usize) {
+        for place in [0, 1, 2, 3, 7, 8, 9, 10, 11] {
+            if self.once_in(4) {
+                self.put_halves(memory, block + 4 * place);
+            }
+        }
+        for first in [4, 12] {
+            if self.once_in(2) {
+                self.shift_words(memory, block + 4 * first, block + 4 * first + 8);
+            }
+        }
     }
 
     fn plain_work(&mut self) -> Instruction {
@@ -792,10 +929,23 @@ impl Supply {
             machine.x[6] = self.below(64) * 4 + if self.once_in(2) { self.below(4) } else { 0 };
             machine.options &= self.pick(&[14, 14, 14, 15]);
         }
+        if self.halves && self.once_in(3) {
+            self.step_by_2(&mut machine, memory.len());
+        }
         self.part_if_locked(&mut machine);
         let at = machine.pc as usize;
         memory[at..at + 4].copy_from_slice(&word.to_le_bytes());
+        if self.halves && self.once_in(4) {
+            memory[at..at + 2].copy_from_slice(&self.half_word().to_le_bytes());
+        }
         machine
+    }
+
+    /// A pc 2 past a multiple of 4, where a long word there has room.
+    fn step_by_2(&mut self, machine: &mut Machine, length: usize) {
+        if machine.pc % 4 == 0 && machine.pc + 6 <= length as u64 {
+            machine.pc += 2;
+        }
     }
 
     /// Takes most machines that 4 would refuse to others: unlocked ones, or
@@ -1070,17 +1220,18 @@ impl Supply {
     /// A pc: mostly in a code region, if that is in memory.
     fn place_of_code(&mut self, machine: &Machine, length: usize) -> u64 {
         let region = machine.regions[self.number_of(RegionKind::ImplicitCode) - 1];
+        let low = if self.halves && self.once_in(2) { 1 } else { 3 };
         match self.below(16) {
             0 => self.edge(),
-            1 => self.edge() & !3,
+            1 => self.edge() & !low,
             2 => (length as u64).wrapping_sub(self.below(12)),
             3 => region.base.wrapping_add(self.below(64) * 4),
             _ => {
                 let inside = if length == 0 { 0 } else { self.below(length as u64) };
                 if machine.mode == 1 && region.bound != 0 && region.base < length as u64 {
-                    region.base.wrapping_add(inside & !region.bound) & !3
+                    region.base.wrapping_add(inside & !region.bound) & !low
                 } else {
-                    inside & !3
+                    inside & !low
                 }
             }
         }
@@ -1154,12 +1305,21 @@ impl Supply {
         }
     }
 
-    /// Memory with words at every multiple of 4 that fits, other bytes random.
+    /// Memory with words at every multiple of 4 that fits, other bytes random;
+    /// or with half-words and long ones one after the other.
     pub fn memory(&mut self, length: usize) -> Vec<u8> {
         let mut bytes: Vec<u8> = (0..length).map(|_| self.next() as u8).collect();
-        for at in (0..length / 4).map(|n| 4 * n) {
+        let often = self.halves && self.once_in(2);
+        let mut at = 0;
+        while at + 4 <= length {
+            if often && self.once_in(2) {
+                bytes[at..at + 2].copy_from_slice(&self.half_word().to_le_bytes());
+                at += 2;
+                continue;
+            }
             let word = self.word();
             bytes[at..at + 4].copy_from_slice(&word.to_le_bytes());
+            at += 4;
         }
         bytes
     }
@@ -1223,6 +1383,9 @@ impl Supply {
         if !self.once_in(16) {
             machine.regions[2] = Region { base: 0, bound: ALL << 12, permission: 4 };
             machine.pc = if steady { 0 } else { self.below(span as u64 / 8) * 4 };
+            if self.halves && !steady && self.once_in(2) {
+                machine.pc += 2;
+            }
         }
         if steady {
             // Registers start at 0: the first words set the pointers.
@@ -1288,6 +1451,10 @@ impl Supply {
                 encode(&Instruction::Immediate { kind: ImmediateKind::Addi, rd, rs1: 0, value }).expect("in range")
             } else if steady && line == 4 {
                 encode(&Instruction::Upper { kind: UpperKind::Lui, rd: OFFSETS[0], field: 1 }).expect("in range")
+            } else if self.halves && self.once_in(4) {
+                let mut pair = [0; 4];
+                self.put_halves(&mut pair, 0);
+                u32::from_le_bytes(pair)
             } else if steady && !self.once_in(60) {
                 let mut instruction = self.steady_instruction();
                 if let Instruction::HLoad { rs1, region, .. } | Instruction::HStore { rs1, region, .. } = &mut instruction {

@@ -1,5 +1,6 @@
 //! Checks against stored vectors: the published ones and our value cases.
 
+use crate::half_words::expand;
 use crate::instruction::{decode, encode, BranchKind, Instruction, LoadKind, StoreKind, SystemKind};
 use crate::machine::Machine;
 use crate::run::run;
@@ -115,22 +116,48 @@ fn spells(word: u32, text: &str) -> bool {
     decode(word).is_some_and(|instruction| encode(&instruction) == Some(word) && assembly(&instruction) == text)
 }
 
-/// Is a half-word illegal, whatever stands above it?
-fn half_illegal(half: u32) -> bool {
-    [0u32, 0xffff, 0x0013, half].iter().all(|upper| decode(half + upper * 65536).is_none())
+/// The text of the instruction that a half-word's text stands for; none for `c.unimp`.
+fn long_text(text: &str) -> Option<String> {
+    let (name, rest) = text.strip_prefix("c.")?.split_once(' ').unwrap_or((&text[2..], ""));
+    let first = rest.split(',').next().unwrap_or_default();
+    Some(match name {
+        "unimp" => return None,
+        "nop" => "addi zero, zero, 0".to_string(),
+        "ebreak" => name.to_string(),
+        "addi16sp" => format!("addi sp, {rest}"),
+        "addi4spn" => format!("addi {rest}"),
+        "lui" | "lw" | "ld" | "sw" | "sd" => format!("{name} {rest}"),
+        "lwsp" | "ldsp" | "swsp" | "sdsp" => format!("{} {rest}", &name[..2]),
+        "li" => format!("addi {}", rest.replace(", ", ", zero, ")),
+        "mv" => format!("add {}", rest.replace(", ", ", zero, ")),
+        "beqz" | "bnez" => format!("{} {}", &name[..3], rest.replace(", ", ", zero, ")),
+        "j" => format!("jal zero, {rest}"),
+        "jr" => format!("jalr zero, 0({rest})"),
+        "jalr" => format!("jalr ra, 0({rest})"),
+        _ => format!("{name} {first}, {rest}"),
+    })
+}
+
+/// Does a half-word stand for what its text says? It is no long word, whatever
+/// stands above it.
+fn half_spells(half: u32, text: &str) -> bool {
+    let short = [0u32, 0xffff, 0x0013, half].iter().all(|upper| decode(half + upper * 65536).is_none());
+    short && expand(half as u16).map(|instruction| assembly(&instruction)) == long_text(text)
 }
 
 /// LLVM rows: file, assembly text, bytes. RV64I and RV64M rows decode to that
-/// text and encode back; CSR words, FENCE.I and half-words are illegal.
+/// text and encode back, half-words expand to what theirs stands for; CSR words
+/// and FENCE.I are illegal.
 pub fn check_llvm(text: &str) -> Report {
     let mut report = Report::default();
-    let (mut legal, mut illegal) = (0, 0);
+    let (mut legal, mut illegal, mut halves) = (0, 0, 0);
     for row in text.lines() {
         let fields: Vec<&str> = row.split('\t').collect();
         let bytes = byte_list(fields[2]);
         if bytes.len() == 2 {
-            report.note(half_illegal(bytes[0] as u32 + bytes[1] as u32 * 256), format!("a half-word passes: {row}"));
-            illegal += 1;
+            let half = bytes[0] as u32 + bytes[1] as u32 * 256;
+            report.note(half_spells(half, fields[1]), format!("{row}: {:?}", expand(half as u16)));
+            halves += 1;
             continue;
         }
         let word = u32::from_le_bytes([bytes[0], bytes[1], bytes[2], bytes[3]]);
@@ -142,18 +169,19 @@ pub fn check_llvm(text: &str) -> Report {
             legal += 1;
         }
     }
-    report.lines.push(format!("{legal} rows legal, {illegal} rows illegal"));
+    report.lines.push(format!("{legal} long words legal, {illegal} illegal, {halves} half-words"));
     report
 }
 
-/// llvm.columns: word, number (00 or 13), text, origin; 48 bytes a line.
+/// llvm.columns: word, the codec's number (00 or 13), text, origin; 48 bytes a
+/// line. A half-word is 13 there (reading A66).
 pub fn check_llvm_columns(text: &str) -> Report {
     let mut report = Report::default();
     for line in text.lines() {
         let word = hex(&line[0..8]) as u32;
         let good = match &line[9..11] {
             "00" => spells(word, line[12..36].trim_end()),
-            _ if word < 65536 => half_illegal(word),
+            _ if word < 65536 => half_spells(word, line[12..36].trim_end()),
             _ => decode(word).is_none(),
         };
         report.note(good, format!("{line}: {:?}", decode(word)));
@@ -197,34 +225,40 @@ impl Dart {
     }
 }
 
-/// Dart rows. Those that need more than RV64I and RV64M stop with 13 (or 15).
+/// Dart rows by the extension that they need: those of Zcb stop with 13, all
+/// others have the result told.
 pub fn check_dart(text: &str) -> Report {
     let mut report = Report::default();
-    let (mut plain, mut beyond, mut halves) = (0, 0, 0);
+    let (mut plain, mut beyond) = (0, 0);
     for row in text.lines() {
         let fields: Vec<&str> = row.split('\t').collect();
         let (pc, after) = (hex(fields[3]), hex(fields[6]));
         let case = Dart { code: byte_list(fields[2]), pc, after, before: assignments(fields[4]) };
         let (stop, machine) = case.end(&mut run);
-        if fields[1] == "I" || fields[1] == "M" {
-            let values = assignments(fields[7]).iter().all(|(register, value)| machine.x[*register] == *value);
-            let good = stop == 18 && machine.pc == after && values;
-            report.note(good, format!("{row}: stop {stop} pc {:x} x10 {:x}", machine.pc, machine.x[10]));
-            plain += 1;
-        } else {
-            // Some take a branch to a half-word before they reach one: 15.
-            let to_half_word = stop == 15 && machine.pc == pc + 12 && fields[0].contains("BranchOverflow");
-            report.note(stop == 13 || to_half_word, format!("{row}: stop {stop} pc {:x}", machine.pc));
-            beyond += 1;
-            halves += to_half_word as u32;
-        }
+        let values = assignments(fields[7]).iter().all(|(register, value)| machine.x[*register] == *value);
+        let good = match dart_stop(fields[1]) {
+            18 => stop == 18 && machine.pc == after && values,
+            told => stop == told,
+        };
+        report.note(good, format!("{row}: stop {stop} pc {:x} x10 {:x}", machine.pc, machine.x[10]));
+        *if dart_stop(fields[1]) == 18 { &mut plain } else { &mut beyond } += 1;
     }
-    report.lines.push(format!("{plain} rows of RV64I and RV64M, {beyond} rows beyond, {halves} of them stopped with 15"));
+    report.lines.push(format!("{plain} rows of RV64I, RV64M and RV64C, {beyond} rows beyond"));
     report
 }
 
+/// How a row that needs this extension ends.
+fn dart_stop(extension: &str) -> u64 {
+    if extension == "Zcb" {
+        13
+    } else {
+        18
+    }
+}
+
 /// dart-rv64i.columns, dart-rv64m.columns and dart-beyond.columns, 289 bytes a
-/// line (`crates/values/data/README.md`): the stop, and for 18 the result.
+/// line (`crates/values/data/README.md`): the stop by the extension that the row
+/// needs, and for 18 the result.
 pub fn check_dart_columns(text: &str, run: &mut Run) -> Report {
     let mut report = Report::default();
     for line in text.lines() {
@@ -237,7 +271,7 @@ pub fn check_dart_columns(text: &str, run: &mut Run) -> Report {
             before: vec![(1, 0x18_0000), (2, 0x1f_0000), (10, sixteen(80)), (11, sixteen(96)), (12, sixteen(112))],
         };
         let (stop, machine) = case.end(run);
-        let told: u64 = line[68..70].parse().expect("a number");
+        let told = dart_stop(line[64..68].trim_end());
         let good = stop == told && (stop != 18 || machine.pc == case.after && machine.x[10] == sixteen(128));
         report.note(good, format!("{}: stop {stop} pc {:x} x10 {:x}", line[0..64].trim_end(), machine.pc, machine.x[10]));
     }

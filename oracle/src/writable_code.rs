@@ -334,7 +334,7 @@ pub const WAYS: [(&str, u64); 14] = [
     ("run of 0", 4),
     ("enter", 22),
     ("enter with jump", 22),
-    ("enter with jump to no multiple of 4", 22),
+    ("enter with jump to no multiple of 2", 22),
     ("step unlocked", 0),
     ("run outside", 0),
     ("resume", 0),

@@ -1,5 +1,5 @@
 //! The answers of the outside model (`shared/expected`), where they are at
-//! hand: sheets and calls of Jobs 1 to 7.
+//! hand: sheets and calls of Jobs 1 to 8.
 
 use std::path::Path;
 
@@ -21,7 +21,7 @@ fn line(bytes: &[u8], at: &mut usize) -> String {
 /// `@ NUMBER KIND BYTES-IN BYTES-OUT`, the bytes in, the bytes out.
 #[test]
 fn sheets() {
-    let Some(bytes) = expected("job-7.txt") else { return };
+    let Some(bytes) = expected("job-8.txt") else { return };
     let (mut at, mut seen) = (0, 0);
     while at < bytes.len() {
         let head = line(&bytes, &mut at);
@@ -31,7 +31,7 @@ fn sheets() {
         at += lengths[0] + lengths[1];
         seen += 1;
     }
-    assert!(seen >= 524);
+    assert!(seen >= 499);
 }
 
 fn numbers(text: &str) -> Vec<u64> {
@@ -62,7 +62,7 @@ fn uncounted((stop, address): (u64, u64)) -> (u64, u64, u64) {
 /// placed, the answer, the machine afterwards, the bytes changed.
 #[test]
 fn calls() {
-    let Some(bytes) = expected("calls-7.txt") else { return };
+    let Some(bytes) = expected("calls-8.txt") else { return };
     let (mut at, mut seen) = (0, 0);
     while at < bytes.len() {
         let head = line(&bytes, &mut at);
@@ -89,5 +89,5 @@ fn calls() {
         assert!(m == left && memory == after, "{head}");
         seen += 1;
     }
-    assert!(seen >= 548);
+    assert!(seen >= 527);
 }

@@ -37,7 +37,7 @@ fn number(machine: &Machine, funct7: u32, operand: u64, target: u64) -> u64 {
     if bad {
         return 14;
     }
-    if funct7 == 1 && target % 4 != 0 {
+    if funct7 == 1 && target % 2 != 0 {
         return 15;
     }
     0
@@ -250,7 +250,7 @@ fn other_splits_are_noticed() {
         |stop, _, i| if is(i, &[HfiKind::Reset]) && stop == 25 { 14 } else { stop },
         |stop, m, _| if stop == 14 && m.mode == 1 { 25 } else { stop },
         // 15 before 23
-        |stop, m, i| if stop == 23 && jump_target(m, i).is_some_and(|target| target % 4 != 0) { 15 } else { stop },
+        |stop, m, i| if stop == 23 && jump_target(m, i).is_some_and(|target| target % 2 != 0) { 15 } else { stop },
     ];
     for (n, fault) in faults.into_iter().enumerate() {
         assert!(noticed(fault) > 0, "fault {n}");

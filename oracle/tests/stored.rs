@@ -20,7 +20,7 @@ fn sheets() {
         printed.extend(format!("{name}\n").into_bytes());
         printed.extend(oracle::respond(&input));
     }
-    assert!(index.lines().count() >= 1157);
+    assert!(index.lines().count() >= 1207);
     let printed = String::from_utf8(printed).unwrap();
     assert_eq!(printed, text("crates/sheets/stdout"));
     // Of the numbers of question 8, no sheet comes to 24.
@@ -70,7 +70,7 @@ fn index() {
         assert_eq!(lines[at + 1], first, "{name}");
         seen += 1;
     }
-    assert!(seen >= 957);
+    assert!(seen >= 1007);
 }
 
 /// The stored calls are those that the oracle writes, and it answers the
@@ -82,8 +82,8 @@ fn calls() {
     assert_eq!(first, text("crates/calls/data/calls-1"));
     assert_eq!(second, text("crates/calls/data/calls-2"));
     assert_eq!(printed, text("crates/calls/stdout"));
-    assert!(oracle::calls::directed().len() >= 2347);
-    assert!(oracle::calls::random().len() >= 420);
+    assert!(oracle::calls::directed().len() >= 2623);
+    assert!(oracle::calls::random().len() >= 480);
     // Each number of question 8 often, as a step and in a run.
     let mut met = std::collections::BTreeMap::new();
     let calls: Vec<&str> = data.lines().skip(1).step_by(5).collect();

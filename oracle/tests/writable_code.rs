@@ -244,7 +244,7 @@ fn twenty_two_in_its_order() {
         stops(Machine { mode: 1, options: 14, ..machine }, &at(enter), 23, 0);
         stops(Machine { mode: 1, options: 15, ..machine }, &at(enter), 4, 0);
         // 10, 12 and 13 come before
-        stops(Machine { pc: 0x1002, ..machine }, &at(enter), 10, 0);
+        stops(Machine { pc: 0x1001, ..machine }, &at(enter), 10, 0);
         stops(Machine { pc: 0x2000, ..machine }, &at(enter), 12, 0x2000);
         stops(machine, &at(enter | 1 << 7), 13, 0);
     }
@@ -570,7 +570,7 @@ fn changed_regions_are_noticed() {
         let changes: [Box<dyn Fn(&mut Machine)>; 2] = [Box::new(grant), Box::new(mend)];
         for (n, change) in changes.into_iter().enumerate() {
             let (mut counts, engine) = (Counts::default(), Changing(change));
-            (0..4).for_each(|seed| compare(&Oracle, &engine, &mut Supply::new(7 + seed), &mut counts));
+            (0..8).for_each(|seed| compare(&Oracle, &engine, &mut Supply::new(7 + seed), &mut counts));
             assert!(counts.differing > 0, "region {number}, change {n}");
         }
     }

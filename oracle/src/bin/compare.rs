@@ -8,6 +8,7 @@ use oracle::compare::{
     compare_step, empty_budgets_unmet, fields_unmet, h_words_unmet, long_memories, long_sheets_unmet, print_counts, rounds, Counts, Engine,
     Oracle, EMPTY_TURNS, H_ROUNDS,
 };
+use oracle::fetches::every_half_word;
 use oracle::sheet::{print_result, read_sheet, sheet_memory};
 use oracle::Machine;
 
@@ -66,10 +67,11 @@ fn main() {
             }
         });
         long_memories(&Oracle, under_test.as_ref(), seed, &mut counts);
+        every_half_word(&Oracle, under_test.as_ref(), seed, &mut counts);
         if many / threads >= H_ROUNDS {
             let words = [h_words_unmet(&counts), oracle::m_words::unmet(&counts.m_words)].concat();
             let rules = [oracle::writable_code::unmet(&counts.code_classes, &counts.code_numbers), oracle::hfi_rules::unmet(&counts.rules)].concat();
-            let regions = oracle::ten_regions::unmet(&counts.ten_regions);
+            let regions = [oracle::ten_regions::unmet(&counts.ten_regions), oracle::fetches::unmet(&counts.fetches)].concat();
             let unmet = [words, rules, regions, fields_unmet(&counts), long_sheets_unmet(&counts)].concat();
             unmet.into_iter().for_each(|text| counts.difference(text));
         }

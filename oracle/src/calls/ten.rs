@@ -441,7 +441,7 @@ impl List {
         for code in CODE {
             for data in CHOICES.into_iter().chain(DATA) {
                 let regions = [(3, Region::default()), (code, region(0, mask(8), 4)), (data, sized(data, 0x80, 0x10, 2))];
-                let world = |word: u32| only(word, &regions).with(|m| (m.options, m.x[5], m.x[6]) = (1, 1, 0x82));
+                let world = |word: u32| only(word, &regions).with(|m| (m.options, m.x[5], m.x[6]) = (1, 1, 0x81));
                 self.run(&format!("locked, region {data} inside code {code}"), world(NOP), 0, (4, 0), unchanged);
                 let word = if data % 2 == 0 { hfi(ENTER) } else { hfi(ENTER_JUMP) };
                 let name = format!("enter locked, region {data} inside code {code}");
