@@ -123,7 +123,7 @@ fn llvm() {
 
 #[test]
 fn dart() {
-    for (name, least) in [("dart-rv64i", 362), ("dart-rv64m", 104), ("dart-beyond", 176)] {
+    for (name, least) in [("dart-rv64i", 362), ("dart-rv64m", 104), ("dart-rv64c", 166), ("dart-beyond", 10)] {
         good(oracle::vectors::check_dart_columns(&authored(name), &mut oracle::run), least);
     }
 }
