@@ -91,7 +91,7 @@ fn calls() {
     assert_eq!(first, text("crates/calls/data/calls-1"));
     assert_eq!(second, text("crates/calls/data/calls-2"));
     assert_eq!(printed, text("crates/calls/stdout"));
-    assert!(oracle::calls::directed().len() >= 2785);
+    assert!(oracle::calls::directed().len() >= 2786);
     assert!(oracle::calls::random().len() >= 480);
     // Each number of question 8 often, as a step and in a run.
     let mut met = std::collections::BTreeMap::new();

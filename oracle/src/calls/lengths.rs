@@ -185,6 +185,9 @@ impl List {
 
     /// Words of opcode 5b and h-words at 42: they are long words.
     fn rules_at_two(&mut self) {
+        // 15 before Job 8
+        let even = outside(hfi(ENTER_JUMP)).with(|m| (m.x[5], m.x[6]) = (5, 0x82));
+        self.step("enter with jump to 82, a multiple of 2", even, 0, |m| (m.mode, m.options, m.pc, m.fault.occurred) = (1, 5, 0x82, 0));
         let at = |base: World, word: u32| base.put(0x42, word).with(|m| (m.pc, m.x[5]) = (0x42, 2));
         self.step("select at 42", at(outside(C_NOP), hfi(SELECT)), 0, |m| (m.selector, m.pc) = (2, 0x46));
         let chosen = |word: u32| at(outside(C_NOP), word).with(|m| m.selector = 3);
