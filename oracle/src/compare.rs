@@ -919,12 +919,7 @@ pub fn rounds(left: &dyn Engine, right: &dyn Engine, seed: u64, number: u64, cou
         for _ in 0..8 {
             any_machine(left, right, &mut supply, &memory, counts);
         }
-        h_words(left, right, &mut supply, round as usize, counts);
-        m_word_pairs(left, right, &mut supply, round as usize, counts);
-        writable_code::compare(left, right, &mut supply, counts);
-        hfi_rules::compare(left, right, &mut supply, round as usize, counts);
-        ten_regions::compare(left, right, &mut supply, counts);
-        fetches::compare(left, right, &mut supply, round as usize, counts);
+        aimed(left, right, &mut supply, round as usize, counts);
         for _ in 0..4 {
             steady_run(left, right, &mut supply, counts);
             crossing_run(left, right, &mut supply, counts);
@@ -947,6 +942,16 @@ pub fn rounds(left: &dyn Engine, right: &dyn Engine, seed: u64, number: u64, cou
         }
         empty_budget(left, right, &mut supply, round % EMPTY_EVERY, counts);
     }
+}
+
+/// What is aimed at an edge in each round.
+fn aimed(left: &dyn Engine, right: &dyn Engine, supply: &mut Supply, round: usize, counts: &mut Counts) {
+    h_words(left, right, supply, round, counts);
+    m_word_pairs(left, right, supply, round, counts);
+    writable_code::compare(left, right, supply, counts);
+    hfi_rules::compare(left, right, supply, round, counts);
+    ten_regions::compare(left, right, supply, counts);
+    fetches::compare(left, right, supply, round, counts);
 }
 
 /// Long sheets take longer than a round, so one round in so many has them.

@@ -34,20 +34,21 @@ fn sheets() {
     }
 }
 
-/// The five programs of bench/ end as its table says, with three regions in use and with ten.
+/// The five programs of bench/ end as its table says, with three regions in use, with ten, and with half-words, where the
+/// last word stands elsewhere.
 #[test]
 fn bench_programs() {
-    for (name, first, x10) in [
-        ("crc-32", "18,3e20e,8c,0,0,0,0,0,0", "10,7985cbae"),
-        ("sieve", "18,3ddd4,6c,0,0,0,0,0,0", "10,8d6"),
-        ("matrix", "18,70471,dc,0,0,0,0,0,0", "10,b6f65514b410d546"),
-        ("copy", "20,61a1c,1238,1,1234,0,0,0,0", "10,2da925fcaacf0d49"),
-        ("matrix-mul", "18,1249d,c4,0,0,0,0,0,0", "10,b6f65514b410d546"),
+    for (name, steps, last, short_last, x10) in [
+        ("crc-32", "18,3e20e", "8c,0,0", "6a,0,0", "10,7985cbae"),
+        ("sieve", "18,3ddd4", "6c,0,0", "50,0,0", "10,8d6"),
+        ("matrix", "18,70471", "dc,0,0", "a8,0,0", "10,b6f65514b410d546"),
+        ("copy", "20,61a1c", "1238,1,1234", "122e,1,122a", "10,2da925fcaacf0d49"),
+        ("matrix-mul", "18,1249d", "c4,0,0", "92,0,0", "10,b6f65514b410d546"),
     ] {
-        for regions in ["", "-ten"] {
-            let printed = oracle::respond(text(&format!("bench/programs/{name}{regions}.sheet")).as_bytes());
+        for (kind, last) in [("", last), ("-ten", last), ("-c", short_last)] {
+            let printed = oracle::respond(text(&format!("bench/programs/{name}{kind}.sheet")).as_bytes());
             let printed = String::from_utf8(printed).unwrap();
-            assert_eq!(printed.lines().next(), Some(first));
+            assert_eq!(printed.lines().next(), Some(format!("{steps},{last},0,0,0,0").as_str()));
             assert!(printed.lines().any(|line| line == x10));
         }
     }

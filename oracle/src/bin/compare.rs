@@ -1,4 +1,5 @@
-//! compare ENGINE SEED ROUNDS [THREADS]: an engine against the oracle.
+//! compare ENGINE SEED ROUNDS [THREADS [first]]: an engine against the oracle; with `first` no further part once one has
+//! found a difference.
 //! compare words [THREADS]: the proved library's codec against the oracle's, over all 2^32 words.
 //!
 //! ENGINE is `oracle` (against itself), `plain` (the C interpreter of bench/, with `--features plain`) or `proved` (the
@@ -52,7 +53,11 @@ fn main() {
     } else {
         let (seed, many, threads) = (number(2, 1), number(3, 200), number(4, 1));
         let under_test = engine(title);
+        let first = arguments.get(5).is_some_and(|word| word == "first");
         stored(under_test.as_ref(), &mut counts);
+        found(first, &counts);
+        every_half_word(&Oracle, under_test.as_ref(), seed, &mut counts);
+        found(first, &counts);
         let each = |thread: u64| {
             let mut counts = Counts::default();
             let under_test = engine(title);
@@ -67,23 +72,36 @@ fn main() {
             }
         });
         long_memories(&Oracle, under_test.as_ref(), seed, &mut counts);
-        every_half_word(&Oracle, under_test.as_ref(), seed, &mut counts);
-        if many / threads >= H_ROUNDS {
-            let words = [h_words_unmet(&counts), oracle::m_words::unmet(&counts.m_words)].concat();
-            let rules = [oracle::writable_code::unmet(&counts.code_classes, &counts.code_numbers), oracle::hfi_rules::unmet(&counts.rules)].concat();
-            let regions = [oracle::ten_regions::unmet(&counts.ten_regions), oracle::fetches::unmet(&counts.fetches)].concat();
-            let unmet = [words, rules, regions, fields_unmet(&counts), long_sheets_unmet(&counts)].concat();
-            unmet.into_iter().for_each(|text| counts.difference(text));
-        }
-        if many / threads >= EMPTY_TURNS {
-            empty_budgets_unmet(&counts).into_iter().for_each(|text| counts.difference(text));
-        }
+        unmet(&counts, many / threads).into_iter().for_each(|text| counts.difference(text));
         print_counts(&counts);
     }
     for difference in counts.differences.iter().take(if title == "words" { 20 } else { 0 }) {
         println!("DIFFERENCE {difference}");
     }
     if !counts.differences.is_empty() {
+        std::process::exit(1);
+    }
+}
+
+/// What should have been met in so many rounds and was not.
+fn unmet(counts: &Counts, rounds: u64) -> Vec<String> {
+    let mut unmet = Vec::new();
+    if rounds >= H_ROUNDS {
+        unmet.extend([h_words_unmet(counts), oracle::m_words::unmet(&counts.m_words)].concat());
+        unmet.extend(oracle::writable_code::unmet(&counts.code_classes, &counts.code_numbers));
+        unmet.extend([oracle::hfi_rules::unmet(&counts.rules), oracle::ten_regions::unmet(&counts.ten_regions)].concat());
+        unmet.extend([oracle::fetches::unmet(&counts.fetches), fields_unmet(counts), long_sheets_unmet(counts)].concat());
+    }
+    if rounds >= EMPTY_TURNS {
+        unmet.extend(empty_budgets_unmet(counts));
+    }
+    unmet
+}
+
+/// Ends with 1 if one difference is enough and there is one.
+fn found(first: bool, counts: &Counts) {
+    if first && !counts.differences.is_empty() {
+        print_counts(counts);
         std::process::exit(1);
     }
 }
