@@ -12,6 +12,8 @@ import os
 import subprocess
 import sys
 
+from half_formats import *
+
 HERE = os.path.dirname(os.path.abspath(__file__))
 SHEETS = os.path.join(HERE, "..", "..", "crates", "sheets", "data")
 
@@ -480,7 +482,7 @@ R23 = "02, Job 6: 23, enter in HFI mode"
 R25 = "02, Job 6: 25, a region or handler instruction that HFI mode forbids"
 sheet("enter-inside", program(hfi(0, 0, 0)), "23,0,0,0,0,0,0,0,0", "enter in HFI mode", R23)
 sheet("enter-inside-unlocked", program(hfi(0, 0, 0), options=0), "23,0,0,0,0,0,0,0,0", "the same, unlocked", R23)
-sheet("enter-jump-inside", program(addi(5, 0, 2), hfi(1, 0, 0, 5)), "23,1,4,0,0,0,0,0,0", "enter with jump to 2: 23 before 15", R23)
+sheet("enter-jump-inside", program(addi(5, 0, 2), hfi(1, 0, 0, 5)), "23,1,4,0,0,0,0,0,0", "enter with jump to 2, which 15 refused before Job 8", R23)
 LK = R25 + ", with 01: funct7 3 to 9, 11 or 12 in HFI mode when locked"
 for name, f7, rd, rs1 in [
     ("locked-select", SELECT, 0, 5), ("locked-set-base", SETBASE, 0, 5), ("locked-get-base", GETBASE, 6, 0),
@@ -1154,12 +1156,12 @@ for options in (0, 4, 8, 12):
     goes_on("writable-code-options-%x" % options, "options %x: not locked, nothing is asked" % options, LOCK, options=options, handler=0x100,
             r2=(0, mask(12), 3))
 # order
-four("four-before-ten", "pc 2: 4 before 10", ASKED, pc=2, r2=(0, mask(12), 3))
+four("four-before-ten", "pc 3: 4 before 10", ASKED, pc=3, r2=(0, mask(12), 3))
 four("four-before-eleven", "pc past code: 4 before 11", ASKED, pc=0x2000, r2=(0, mask(12), 3))
 four("four-before-twelve", "pc past memory: 4 before 12", ASKED, pc=0x10000, r2=(0, mask(12), 3), r3=(0, mask(17), 4))
 four("four-before-thirteen", "an illegal word: 4 before 13", ASKED, words=(0,), r2=(0, mask(12), 3))
 four("four-before-fourteen", "enter in HFI mode: 4 before 23, which was 14", ASKED, words=(hfi(0),), r2=(0, mask(12), 3))
-four("four-before-fifteen", "a jump to 2: 4 before 15", ASKED, words=(J(0, 2),), r2=(0, mask(12), 3))
+four("four-before-fifteen", "a jump to 2, which 15 refused before Job 8", ASKED, words=(J(0, 2),), r2=(0, mask(12), 3))
 four("four-before-sixteen", "a refused load: 4 before 16", ASKED, words=(load(LB, 10, 0, -1),), r2=(0, mask(12), 3))
 four("four-before-eighteen", "ECALL: 4 before 18", ASKED, words=(ECALL,), r2=(0, mask(12), 3))
 four("four-before-twenty", "exit: 4 before 20", ASKED, words=(EXIT,), r2=(0, mask(12), 3))
@@ -1260,10 +1262,10 @@ for lock, place in [(0, "unlocked"), (1, "locked")]:
     for target in (1, 3):
         ruled("enter-jump-%s-to-%d" % (place, target), [addi(6, 0, target), hfi(1, 0, 0, 6)], "23,1,4,0,0,0,0,0,0",
               "%s, to %d: 23 before 15" % (place, target), JUST, {6: target}, options=lock)
-    ruled("enter-jump-%s-worst" % place, [addi(5, 0, 16), addi(6, 0, 2), hfi(1, 0, 5, 6)], "23,2,8,0,0,0,0,0,0", place + ", operand 10 and to 2: 23 before 14 and 15",
+    ruled("enter-jump-%s-worst" % place, [addi(5, 0, 16), addi(6, 0, 2), hfi(1, 0, 5, 6)], "23,2,8,0,0,0,0,0,0", place + ", operand 10 and to 2: 23 before 14",
           BAD, {5: 16, 6: 2}, options=lock)
-ruled("enter-jump-unlocked-to-2", [addi(6, 0, 2), hfi(1, 0, 0, 6)], "23,1,4,0,0,0,0,0,0", "unlocked, to 2: 23 before 15", JUST, {6: 2}, options=0)
-ruled("enter-jump-writable-code", [addi(5, 0, 1), addi(6, 0, 2), hfi(1, 0, 5, 6)], "23,2,8,0,0,0,0,0,0", "unlocked, code is writable, operand 1, to 2: 23 before 22 and 15",
+ruled("enter-jump-unlocked-to-2", [addi(6, 0, 2), hfi(1, 0, 0, 6)], "23,1,4,0,0,0,0,0,0", "unlocked, to 2", JUST, {6: 2}, options=0)
+ruled("enter-jump-writable-code", [addi(5, 0, 1), addi(6, 0, 2), hfi(1, 0, 5, 6)], "23,2,8,0,0,0,0,0,0", "unlocked, code is writable, operand 1, to 2: 23 before 22",
       JUST, {5: 1, 6: 2}, options=0, r2=(0, mask(12), 3))
 ruled("enter-writable-code-operand-11", [addi(5, 0, 17), hfi(0, 0, 5)], "23,1,4,0,0,0,0,0,0", "unlocked, code is writable, operand 11: 23 before 14 and 22", BAD,
       {5: 17}, options=0, r1=(0, 0x100, 3))
@@ -1575,22 +1577,26 @@ ten_go_on("code-10-without-execute-written", "region 10 without execute may be w
 
 
 # ---------------------------------------------------------------- Job 8
-section("Half-size words")
+section("Half-words (document 02, Job 8)")
 STANDS = "02, Job 8: Each stands for one RV64I instruction, with 2 in place of 4 in the next pc and in link values."
 ILLEGAL = "02, Job 8: its floating-point loads and stores are illegal, as are reserved words"
 C_NOP, C_EBREAK = 0x0001, 0x9002
 
 
-def stream(*items):
-    """Words of half-words (below 10000, low two bits not both ones) and long words one after the other."""
-    blob = b"".join(i.to_bytes(4 if i & 3 == 3 else 2, "little") for i in items)
-    blob += bytes(-len(blob) % 4)
-    return [int.from_bytes(blob[i:i + 4], "little") for i in range(0, len(blob), 4)]
+def laid(items, at=0):
+    """Words and half-words one after the other from any multiple of 2, as word lines."""
+    bytes_of = b"".join(w.to_bytes(4 if w & 3 == 3 else 2, "little") for w in items)
+    low = at & ~3
+    bytes_of = bytes(at - low) + bytes_of
+    bytes_of += bytes(-len(bytes_of) % 4)
+    return "".join("%x,%08x\n" % (low + k, int.from_bytes(bytes_of[k:k + 4], "little")) for k in range(0, len(bytes_of), 4))
 
 
-def half(name, items, first, shows, sentence, x, **how):
-    sheet(name, program(*stream(*items), **how), first, shows, sentence)
-    registers[name] = x
+def half(name, items, first, shows, sentence, values=None, at=0, more="", **how):
+    """A sheet whose items stand from `at` on, with all its registers; a line of 34 fields if a region above 3 is given."""
+    registers[name] = {n: v & ONES for n, v in (values or {}).items()}
+    line = wide_setup(**how) if any("r%d" % n in how for n in range(4, 11)) else setup(**how)
+    sheet(name, line + laid(items, at) + more, first, shows, sentence)
 
 
 # The half-words below are those that GNU as makes of the names beside them.
@@ -1646,6 +1652,195 @@ sheet("long-over-end-of-memory", program(0x00130001, pc=0xfffc, at=0xfffc, r3=(0
 sheet("long-over-end-refused-first", program(0x00130001, pc=0xfffc, at=0xfffc, r3=(0, mask(16), 4)), "11,1,fffe,0,0,1,0,3,10000",
       "its second half is refused and absent: 11", FETCH)
 
+INTEGER = "02, Job 8: Add the integer words of RV64C from the unprivileged specification"
+TWO = "02, Job 8: with 2 in place of 4 in the next pc and in link values"
+EVEN = "02, Job 8: pc need only be a multiple of 2."
+TAKES = "02, Job 8: A fetch takes two bytes, asks 11 and 12 of them"
+TWO_MORE = "02, Job 8: and takes two more only if the low two bits are both ones, then asking 11 and 12 of those"
+HINTS = "02, Job 8: Each stands for one RV64I instruction (Reading A61: HINTs are legal.)"
+A29 = "exit pc is this pc (Reading A29: whole, bit 1 too)"
+A62 = "7. Is the word legal? No: **13**. (Reading A62: asked after all four bytes are fetched, also for longer formats.)"
+A65 = "34: ... addresses multiples of 4 (Reading A65: Job 8 leaves words and their addresses as they were.)"
+NO_15 = "02, Job 8: jumps and branches never get it"
+
+# each group
+half("half-addi4spn", [lui(2, 1), c_addi4spn(8, 4), c_addi4spn(15, 1020), c_addi4spn(9, 512), ECALL], "18,4,a,0,0,0,0,0,0", "C.ADDI4SPN by 4, 1,020 and 512", INTEGER,
+     {2: 0x1000, 8: 0x1004, 15: 0x13fc, 9: 0x1200})
+half("half-load-store", [c_lui(8, 1), c_li(9, -2), c_sd(9, 8, 0), c_sw(9, 8, 8), c_ld(10, 8, 0), c_lw(11, 8, 8), c_ld(12, 8, 8), c_sd(9, 8, 248), c_ld(13, 8, 248),
+     c_sw(9, 8, 124), c_ld(14, 8, 120), ECALL], "18,b,16,0,0,0,0,0,0", "C.SD C.SW C.LD C.LW, first and last offsets", INTEGER,
+     {8: 0x1000, 9: -2, 10: -2, 11: -2, 12: 0xfffffffe, 13: -2, 14: 0xfffffffe00000000}, r2=DATA)
+half("half-load-each-bit", [c_lui(8, 1)] + [c_lw(9 + k, 8, n) for k, n in enumerate((4, 8, 16, 32, 64))] + [c_ld(14, 8, 128), ECALL], "18,7,e,0,0,0,0,0,0",
+     "each bit of an offset", INTEGER, {8: 0x1000, 9: 4, 10: 8, 11: 0x10, 12: 0x20, 13: 0x40, 14: 0x80}, r2=DATA,
+     more="".join("%x,%x\n" % (0x1000 + n, n) for n in (4, 8, 16, 32, 64, 128)))
+half("half-stack", [lui(2, 1), c_li(5, -3), c_sdsp(5, 504), c_ldsp(31, 504), c_swsp(5, 252), c_lwsp(30, 252), c_ldsp(29, 248), c_addi16sp(496), c_ldsp(28, 8), c_addi16sp(-512),
+     ECALL], "18,a,16,0,0,0,0,0,0", "C.SDSP C.LDSP C.SWSP C.LWSP C.ADDI16SP, last offsets, and x28 to x31", INTEGER,
+     {2: 0xff0, 5: -3, 28: -3, 29: 0xfffffffd00000000, 30: -3, 31: -3}, r2=DATA)
+half("half-stack-each-bit", [lui(2, 1)] + [c_ldsp(5 + k, n) for k, n in enumerate((8, 16, 32, 64, 128, 256))] + [c_lwsp(11, 4), ECALL], "18,8,12,0,0,0,0,0,0",
+     "each bit of an offset", INTEGER, {2: 0x1000, 5: 8, 6: 0x10, 7: 0x20, 8: 0x40, 9: 0x80, 10: 0x100, 11: 4}, r2=DATA,
+     more="".join("%x,%x\n" % (0x1000 + n, n) for n in (4, 8, 16, 32, 64, 128, 256)))
+half("half-addi16sp-each-bit", [n for k in (16, 32, 64, 128, 256, -512) for n in (c_li(5, 0), c_mv(2, 5 if k == 16 else 2), c_addi16sp(k))] + [ECALL], "18,12,24,0,0,0,0,0,0",
+     "each bit of C.ADDI16SP: the sum is -16", INTEGER, {2: -16})
+half("half-immediates", [c_li(5, 31), c_li(6, -32), c_addi(5, -32), c_addi(6, 31), lui(7, 0x80000), c_addiw(7, -1), c_mv(8, 7), c_addiw(8, 1), c_addiw(9, 0), c_lui(10, 31), c_lui(11, -32),
+     c_li(12, -1), c_andi(12, -32), c_li(13, 31), c_andi(13, 10), ECALL], "18,f,20,0,0,0,0,0,0", "C.LI C.ADDI C.ADDIW C.LUI C.ANDI at their ends", INTEGER,
+     {5: -1, 6: -1, 7: 0x7fffffff, 8: 0xffffffff80000000, 10: 0x1f000, 11: 0xfffffffffffe0000, 12: -32, 13: 10})
+half("half-shifts-by-0", [c_li(8, -16), c_mv(9, 8), c_srli(9, 60), c_mv(10, 8), c_srai(10, 3), c_mv(11, 8), c_slli(11, 59), c_slli(31, 1), c_slli(8, 0), c_srli(8, 0), c_srai(8, 0), ECALL],
+     "18,b,16,0,0,0,0,0,0", "C.SRLI C.SRAI C.SLLI, by 0 too", INTEGER, {8: -16, 9: 0xf, 10: -2, 11: 1 << 63})
+half("half-shifts-by-63", [c_li(8, -1), c_srli(8, 63), c_li(9, -1), c_slli(9, 63), c_mv(10, 9), c_srai(10, 63), c_mv(15, 9), c_srli(15, 32), ECALL], "18,8,10,0,0,0,0,0,0",
+     "amounts of 63 and 32: bit 5 of the amount", INTEGER, {8: 1, 9: 1 << 63, 10: -1, 15: 0x80000000})
+half("half-between-registers", [c_li(8, -7), c_li(9, 3), c_mv(10, 8), c_sub(10, 9), c_mv(11, 8), c_xor(11, 9), c_mv(12, 8), c_or(12, 9), c_mv(13, 8), c_and(13, 9), c_mv(14, 8),
+     c_addw(14, 9), c_mv(15, 8), c_subw(15, 9), c_add(5, 8), c_add(5, 9), ECALL], "18,10,20,0,0,0,0,0,0", "C.SUB C.XOR C.OR C.AND C.ADDW C.SUBW C.ADD of -7 and 3", INTEGER,
+     {5: -4, 8: -7, 9: 3, 10: -10, 11: -6, 12: -5, 13: 1, 14: -4, 15: -10})
+half("half-word-forms", [lui(8, 0x80000), c_li(9, 1), c_mv(10, 8), c_subw(10, 9), c_mv(11, 10), c_addw(11, 9), ECALL], "18,6,e,0,0,0,0,0,0", "C.SUBW and C.ADDW over the end of 32 bits",
+     INTEGER, {8: 0xffffffff80000000, 9: 1, 10: 0x7fffffff, 11: 0xffffffff80000000})
+half("half-same-register", [c_li(8, 5), c_add(8, 8), c_sub(8, 8), c_li(9, 5), c_xor(9, 9), c_li(10, 5), c_and(10, 10), c_or(10, 10), c_addw(10, 10), ECALL], "18,9,12,0,0,0,0,0,0",
+     "both operands are one register", INTEGER, {10: 10})
+half("half-hints-of-each-kind", [c_nop(), c_nop(31), c_nop(-32), c_addi(5, 0), c_li(0, 7), c_lui(0, 1), c_lui(0, -1), c_mv(0, 8), c_add(0, 8), c_slli(0, 0), c_slli(0, 63), c_slli(5, 0), c_srli(8, 0),
+     c_srai(8, 0), ECALL], "18,e,1c,0,0,0,0,0,0", "each kind of HINT does nothing", HINTS)
+half("half-hints-with-values", [c_li(8, 9), c_mv(0, 8), c_add(0, 8), c_li(0, 31), c_addi(0, 31), c_add(9, 8), ECALL], "18,6,c,0,0,0,0,0,0", "x0 stays 0", HINTS, {8: 9, 9: 9})
+half("half-all-registers", [c_li(n, n) for n in range(1, 32)] + [ECALL], "18,1f,3e,0,0,0,0,0,0", "C.LI to x1 to x31", INTEGER, {n: n for n in range(1, 32)})
+half("half-moves-of-all", [c_li(31, 1)] + [c_mv(n, n + 1) for n in range(30, 0, -1)] + [c_add(n, n - 1) for n in range(2, 32)] + [ECALL], "18,3d,7a,0,0,0,0,0,0",
+     "C.MV down and C.ADD up through x1 to x31", INTEGER, {n: n for n in range(1, 32)})
+
+# jumps, branches, links
+half("half-jumps", [c_j(8), c_li(11, 1), c_j(6), c_ebreak(), c_j(-6), ECALL], "18,4,a,0,0,0,0,0,0", "C.J forward, back, forward", INTEGER, {11: 1})
+half("half-jump-far", [c_j(2046)], "11,2,fffffffffffffffe,0,0,1,0,3,fffffffffffffffe", "2,046 on, then 2,048 back: to 2^64 - 2", INTEGER, more=laid([c_j(-2048)], 0x7fe))
+half("half-jump-each-bit", [c_j(2), c_j(4)], "18,a,7fe,0,0,0,0,0,0", "each bit of C.J's offset: 2 on, 4 on, up to 1,024 on", INTEGER,
+     more="".join(laid([c_j(n)], n - 2) for n in (8, 16, 32, 64, 128, 256, 512, 1024)) + laid([ECALL], 0x7fe))
+half("half-branches-both-ways", [c_beqz(8, 4), c_ebreak(), c_li(8, 1), c_beqz(8, 4), c_bnez(8, 4), c_ebreak(), c_li(8, 0), c_bnez(8, -2), ECALL], "18,6,10,0,0,0,0,0,0",
+     "C.BEQZ and C.BNEZ, taken and not", INTEGER)
+half("half-branch-far", [c_beqz(15, 254)], "11,2,fffffffffffffffe,0,0,1,0,3,fffffffffffffffe", "C.BEQZ 254 on, then 256 back: to 2^64 - 2", INTEGER, more=laid([c_beqz(9, -256)], 0xfe))
+half("half-branch-far-not-zero", [c_li(15, 1), c_bnez(15, 252)], "11,3,fffffffffffffffe,0,0,1,0,3,fffffffffffffffe", "C.BNEZ 252 on, then 256 back", INTEGER, {15: 1},
+     more=laid([c_bnez(15, -256)], 0xfe))
+half("half-branch-each-bit", [c_beqz(8, 2), c_beqz(9, 4)], "18,7,fe,0,0,0,0,0,0", "each bit of a branch's offset: 2 on, 4 on, up to 128 on", INTEGER,
+     more="".join(laid([c_beqz(n.bit_length() + 6, n)], n - 2) for n in (8, 16, 32, 64, 128)) + laid([ECALL], 0xfe))
+half("half-branch-whole-register", [c_li(8, 1), c_slli(8, 32), c_beqz(8, 4), c_bnez(8, 4), c_ebreak(), ECALL], "18,4,a,0,0,0,0,0,0", "2^32 is not zero", STANDS, {8: 1 << 32})
+half("half-loop", [c_li(8, 5), c_addi(9, 2), c_addi(8, -1), c_bnez(8, -4), ECALL], "18,10,8,0,0,0,0,0,0", "a loop of five rounds", INTEGER, {9: 10})
+half("half-links", [c_nop(), J(1, 6), c_ebreak(), c_mv(5, 1), U(0x17, 6, 0), c_addi(6, 10), c_jalr(6), c_ebreak(), c_mv(7, 1), addi(6, 6, 14), jalr(8, 6, 0), c_ebreak(), c_ebreak(), ECALL],
+     "18,9,22,0,0,0,0,0,0", "JAL at 2 links 6, C.JALR at 10 links 12, JALR at 1a links 1e", TWO, {1: 0x12, 5: 6, 6: 0x22, 7: 0x12, 8: 0x1e})
+half("half-jalr-of-x1", [c_li(1, 8), c_jalr(1), c_ebreak(), c_ebreak(), ECALL], "18,2,8,0,0,0,0,0,0", "C.JALR by x1: the target is of the old value", TWO, {1: 4})
+half("half-jr-odd", [c_li(5, 7), c_jr(5), c_ebreak(), ECALL], "18,2,6,0,0,0,0,0,0", "C.JR to 7 goes to 6", STANDS, {5: 7})
+half("half-jalr-odd", [c_li(5, 9), c_jalr(5), c_ebreak(), c_ebreak(), ECALL], "18,2,8,0,0,0,0,0,0", "C.JALR to 9 goes to 8", STANDS, {1: 4, 5: 9})
+half("half-jr-does-not-link", [c_li(1, 6), c_jr(1), c_ebreak(), ECALL], "18,2,6,0,0,0,0,0,0", "C.JR by x1 leaves x1", STANDS, {1: 6})
+half("half-j-does-not-link", [c_j(4), c_ebreak(), ECALL], "18,1,4,0,0,0,0,0,0", "C.J writes no register", STANDS)
+half("half-long-jalr-odd", [addi(5, 0, 11), jalr(1, 5, 0), c_ebreak(), ECALL], "18,2,a,0,0,0,0,0,0", "JALR to b goes to a", NO_15, {1: 8, 5: 11})
+half("half-long-branch", [B(0, 0, 0, 6), c_ebreak(), c_li(10, 3), ECALL], "18,2,8,0,0,0,0,0,0", "BEQ to 6", NO_15, {10: 3})
+half("half-long-branch-back", [c_j(8), c_li(10, 3), ECALL, B(0, 0, 0, -6)], "18,3,4,0,0,0,0,0,0", "BEQ at 8 back to 2", NO_15, {10: 3})
+half("half-long-jal-back", [c_j(6), ECALL, J(5, -4)], "18,2,2,0,0,0,0,0,0", "JAL at 6 back to 2", NO_15, {5: 10})
+half("half-call-and-return", [J(1, 10), ECALL, c_nop(), c_li(10, 9), c_jr(1)], "18,3,4,0,0,0,0,0,0", "a call to a, and back to 4", TWO, {1: 4, 10: 9})
+half("half-call-from-2", [c_nop(), J(1, 10), ECALL, c_nop(), c_li(10, 9), c_jr(1)], "18,4,6,0,0,0,0,0,0", "a call from 2 to c, and back to 6", TWO, {1: 6, 10: 9})
+
+# long words at 2 modulo 4
+half("half-pc-2", [addi(10, 0, 5), ECALL], "18,1,6,0,0,0,0,0,0", "a sheet that starts at 2", EVEN, {10: 5}, at=2, pc=2)
+half("half-pc-6-half-word", [c_li(10, 5), ECALL], "18,1,8,0,0,0,0,0,0", "a sheet that starts at 6", EVEN, {10: 5}, at=6, pc=6)
+half("half-auipc-at-2", [c_nop(), U(0x17, 5, 1), ECALL], "18,2,6,0,0,0,0,0,0", "AUIPC at 2", EVEN, {5: 0x1002})
+half("half-multiply-at-6", [c_li(5, 6), c_li(6, 7), c_nop(), m("mul", 10, 5, 6), ECALL], "18,4,a,0,0,0,0,0,0", "MUL at 6", EVEN, {5: 6, 6: 7, 10: 42})
+half("half-h-words-at-2", [c_li(10, 5), hstore(SB, 10, 0, 3), hload(LBU, 11, 0, 3), EXIT], "20,4,e,1,a,0,0,0,0", "hsb at 2, hlbu at 6, exit at a", EVEN, {10: 5, 11: 5}, r1=SMALL)
+half("half-h-load-refused-at-2", [c_nop(), hload(LD, 10, 0, 0x39)], "16,1,2,0,0,1,1,1,2040", "hld at 2 past its region", EVEN, r1=SMALL)
+half("half-enter-at-2", [c_nop(), hfi(0)], "23,1,2,0,0,0,0,0,0", "enter at 2", EVEN)
+half("half-select-at-2-locked", [c_nop(), hfi(SELECT, 0, 0)], "25,1,2,0,0,0,0,0,0", "a locked select at 2", EVEN)
+half("half-get-base-at-2", [c_nop(), hfi(GETBASE, 5)], "14,1,2,0,0,0,0,0,0", "get base at 2, unlocked, nothing selected", EVEN, options=0)
+half("half-into-a-long-word", [J(0, 6), 0x45150013, ECALL], "18,2,8,0,0,0,0,0,0", "a jump to the upper half of a long word: C.LI", EVEN, {10: 5})
+half("half-past-that-long-word", [c_nop(), c_nop(), 0x45150013, ECALL], "18,3,8,0,0,0,0,0,0", "the same long word in its course: a HINT", EVEN)
+
+# the fetch
+half("half-second-half-refused", [c_nop(), NOP], "11,1,2,0,0,1,0,3,4", "a long word at 2, its second half past code", TWO_MORE, r3=(0, mask(2), 4))
+half("half-second-half-refused-by-10", [c_nop(), NOP], "11,1,2,0,0,1,a,3,4", "its second half in a region without execute", TWO_MORE, r3=(0, mask(2), 4), r10=(4, mask(2), 0))
+half("half-fourth-byte-refused", [c_nop(), NOP], "11,1,2,0,0,1,3,3,5", "its fourth byte hidden by region 3", TWO_MORE, r3=(5, mask(0), 0), r10=(0, mask(4), 4))
+half("half-second-half-by-10", [c_nop(), addi(10, 0, 5), c_ebreak()], "19,2,6,0,0,0,0,0,0", "its second half in region 10", TWO_MORE, {10: 5}, r3=(0, mask(2), 4), r10=(4, mask(2), 4))
+half("half-first-half-refused", [c_nop(), NOP], "11,1,2,0,0,1,0,3,2", "a long word at 2, past code", TAKES, r3=(0, mask(1), 4))
+half("half-second-byte-refused", [c_nop(), c_nop()], "11,1,2,0,0,1,0,3,3", "the second byte of a half-word", TAKES, r3=(0, mask(1), 4), r10=(2, mask(0), 4))
+half("half-last-two-executable", [c_nop(), c_nop(), c_nop()], "11,2,4,0,0,1,0,3,4", "half-words up to the end of code", TAKES, r3=(0, mask(2), 4))
+half("half-region-of-two-bytes", [c_nop()], "11,1,4,0,0,1,0,3,4", "a code region of two bytes at 2 runs a half-word", TAKES, at=2, pc=2, r3=(2, mask(1), 4))
+half("half-regions-of-one-byte", [c_nop()], "11,1,4,0,0,1,0,3,4", "two code regions of one byte each run one", TAKES, at=2, pc=2, r3=(2, mask(0), 4), r10=(3, mask(0), 4))
+half("half-region-of-one-odd-byte", [c_nop()], "11,0,2,0,0,1,0,3,2", "a code region of one byte at 3: the byte before is refused", TAKES, at=2, pc=2, r3=(3, mask(0), 4))
+half("half-region-of-one-even-byte", [c_nop()], "11,0,2,0,0,1,0,3,3", "at 2: the byte after is refused", TAKES, at=2, pc=2, r3=(2, mask(0), 4))
+half("half-needs-no-more", [c_ebreak()], "19,0,2,0,0,0,0,0,0", "two bytes more are not asked for", TWO_MORE, at=2, pc=2, r3=(2, mask(1), 4))
+MEMORY_AND_MORE = (0, mask(17), 4)
+half("half-last-two-present", [c_nop()], "12,1,10000,0,0,0,0,0,0", "a half-word in memory's last two bytes", TAKES, at=0xfffe, pc=0xfffe, r3=MEMORY_AND_MORE)
+half("half-second-half-absent", [], "12,0,fffe,0,0,0,0,0,0", "a long word whose second half is past memory", TWO_MORE, more="fffc,00130000\n", pc=0xfffe, r3=MEMORY_AND_MORE)
+half("half-second-half-both", [], "11,0,fffe,0,0,1,0,3,10000", "refused and absent: 11", TWO_MORE, more="fffc,00130000\n", pc=0xfffe, r3=(0, mask(16), 4))
+half("half-absent-before-refused", [], "12,0,10000,0,0,0,0,0,0", "two absent bytes are granted, the next two are not: 12, which was 11",
+     TAKES + " (Reading A60: absent first bytes before a refused second half.)", pc=0x10000, r3=(0x10000, mask(1), 4))
+half("half-absent-at-2", [], "12,0,10002,0,0,0,0,0,0", "pc 10002", TAKES, pc=0x10002, r3=(0x10000, mask(16), 4))
+half("half-refused-before-absent", [], "11,0,10002,0,0,1,0,3,10002", "refused and absent: 11", TAKES, pc=0x10002, r3=(0x10000, mask(1), 4))
+half("half-absent-at-the-top", [], "12,0,fffffffffffe,0,0,0,0,0,0", "the last two bytes below 2^48", TAKES, pc=0xfffffffffffe, r3=(0, mask(48), 4))
+half("half-past-the-top", [], "11,0,1000000000000,0,0,1,0,3,1000000000000", "2^48", TAKES, pc=1 << 48, r3=(0, mask(48), 4))
+half("half-at-2-to-64-less-2", [], "11,0,fffffffffffffffe,0,0,1,0,3,fffffffffffffffe", "pc 2^64 - 2", TAKES, pc=ONES - 1)
+for name, pc, how, shows in [("ffff", 0xffff, dict(r3=MEMORY_AND_MORE), "memory's last byte: 10 before 12"), ("10001", 0x10001, dict(r3=MEMORY_AND_MORE), "10 before 12"),
+                             ("2001", 0x2001, {}, "10 before 11"), ("7", 7, dict(r3=NONE), "no code region: 10 before 11")]:
+    half("half-odd-pc-" + name, [c_nop()], "10,0,%x,0,0,0,0,0,0" % pc, shows, Q4, pc=pc, **how)
+
+# illegal half-words
+for name, word, shows in [
+    ("zero", 0x0000, "0"), ("addi4spn-0-x15", 0x001c, "C.ADDI4SPN to x15 with immediate 0"), ("quadrant-0-4-last", 0x9ffc, "the last of quadrant 0 with funct3 4"),
+    ("addiw-x0-1", 0x2005, "C.ADDIW to x0 with immediate 1"), ("lui-0-x1", 0x6081, "C.LUI to x1 with immediate 0, which Zcmop uses"),
+    ("lui-0-x31", 0x6f81, "C.LUI to x31 with immediate 0"), ("beside-subw-last", 0x9ffd, "the last free one beside C.SUBW, where Zcb is"), ("fldsp-x8", 0x2422, "C.FLDSP of f8"),
+    ("lwsp-x0-4", 0x4012, "C.LWSP to x0 with an offset"), ("fsdsp-last", 0xbffe, "the last C.FSDSP"),
+]:
+    half("half-illegal-" + name, [c_nop(), word, ECALL], "13,1,2,0,0,0,0,0,0", shows, ILLEGAL)
+half("half-illegal-at-0", [0x8002, ECALL], "13,0,0,0,0,0,0,0,0", "C.JR of x0 as the first word", ILLEGAL)
+half("half-illegal-alone", [0x8002], "13,0,2,0,0,0,0,0,0", "in a code region of two bytes", ILLEGAL, at=2, pc=2, r3=(2, mask(1), 4))
+
+# longer formats
+for name, word, shows in [("1f", 0x0000001f, "48 bits"), ("5f", 0x1234565f, "48 bits"), ("3f", 0x0000003f, "64 bits"), ("bf", 0xffffffbf, "64 bits"), ("7f", 0x0000007f, "80 bits or more"),
+                          ("ff", 0x000000ff, "80 bits or more")]:
+    half("half-longer-" + name, [c_nop(), word, ECALL], "13,1,2,0,0,0,0,0,0", "low byte %s: a format of %s" % (name, shows), A62)
+half("half-longer-refused", [c_nop(), 0x1f], "11,1,2,0,0,1,0,3,4", "its second half is refused: 11 before 13", A62, r3=(0, mask(2), 4))
+half("half-longer-absent", [], "12,0,fffe,0,0,0,0,0,0", "its second half is absent: 12 before 13", A62, more="fffc,001f0000\n", pc=0xfffe, r3=MEMORY_AND_MORE)
+half("half-longer-no-more", [c_nop(), 0x1f], "13,1,2,0,0,0,0,0,0", "its fifth byte is refused: it is not asked for", A62, r3=(0, mask(2), 4), r10=(4, mask(1), 4))
+half("half-illegal-long-at-2", [c_nop(), ONES >> 32], "13,1,2,0,0,0,0,0,0", "a word of ones at 2", Q7)
+half("half-illegal-long-refused", [c_nop(), ONES >> 32], "11,1,2,0,0,1,0,3,4", "the same, its second half refused", A62, r3=(0, mask(2), 4))
+
+# 18, 19, 20
+half("half-ebreak-first", [c_ebreak()], "19,0,0,0,0,0,0,0,0", "C.EBREAK", "13. Is it anything but EBREAK? No: **19**.")
+half("half-ebreak-at-2", [c_li(10, 7), c_ebreak()], "19,1,2,0,0,0,0,0,0", "C.EBREAK at 2, all options set", "13. Is it anything but EBREAK? No: **19**.", {10: 7}, options=15)
+half("half-long-ebreak-at-2", [c_nop(), EBREAK], "19,1,2,0,0,0,0,0,0", "EBREAK at 2", "13. Is it anything but EBREAK? No: **19**.")
+half("half-ecall-at-2", [c_nop(), ECALL], "18,1,2,0,0,0,0,0,0", "ECALL at 2", "12. Is it anything but an ECALL that is not redirected? No: **18**.")
+half("half-handler-2", [c_nop()], "3,0,0,0,0,0,0,0,0", "a handler of 2 is not well formed", "Well formed means: ... handler bits 0, 1, 62, 63 clear (Reading A63: as before.)", handler=2)
+
+# data
+half("half-load-outside-data", [c_lw(9, 8, 0)], "16,0,0,0,0,1,0,1,0", "C.LW outside data", Q10)
+half("half-store-outside-data", [c_sd(9, 8, 8)], "16,0,0,0,0,1,0,2,8", "C.SD outside data", Q10)
+half("half-load-past-data", [lui(8, 2), c_ld(9, 8, 0)], "16,1,4,0,0,1,0,1,2000", "C.LD past the last byte", Q10, {8: 0x2000}, r2=DATA)
+half("half-store-over-the-end", [lui(2, 2), addi(2, 2, -4), c_sdsp(5, 0)], "16,2,8,0,0,1,0,2,2000", "C.SDSP over the last byte", Q10, {2: 0x1ffc}, r2=DATA)
+half("half-store-no-write", [lui(8, 1), c_sw(8, 8, 4)], "16,1,4,0,0,1,2,2,1004", "C.SW where region 2 lacks write", Q10, {8: 0x1000}, r2=(0x1000, mask(12), 1))
+half("half-load-absent", [lui(2, 0x10), c_lwsp(10, 0)], "17,1,4,0,0,0,0,0,0", "C.LWSP past memory", Q11, {2: 0x10000}, r2=(0x10000, mask(16), 3))
+half("half-load-not-explicit", [c_lui(8, 2), c_lw(9, 8, 0)], "16,1,2,0,0,1,0,1,2000", "region 1 is not asked", "an ordinary load or store region 2", {8: 0x2000}, r1=SMALL)
+half("half-misaligned", [c_lui(8, 1), c_addi(8, 1), c_li(9, -2), c_sd(9, 8, 0), c_ld(10, 8, 0), c_lw(11, 8, 4), ECALL], "18,6,c,0,0,0,0,0,0", "C.SD, C.LD and C.LW at odd addresses",
+     "Misaligned data is allowed.", {8: 0x1001, 9: -2, 10: -2, 11: -1}, r2=DATA)
+
+# steps
+half("half-loop-of-one", [c_j(0)], "21,1f,0,0,0,0,0,0,0", "C.J to itself, 31 steps", INTEGER, budget=31)
+half("half-loop-of-one-at-2", [c_j(0)], "21,5,2,0,0,0,0,0,0", "the same at 2", EVEN, at=2, pc=2, budget=5)
+half("half-empty-budget", [c_j(0)], "21,c350,0,0,0,0,0,0,0", "50,000 steps", INTEGER)
+half("half-budget-used-up", [c_nop(), c_nop(), c_nop()], "21,2,4,0,0,0,0,0,0", "a step each", INTEGER, budget=2)
+
+# locked guests and Job 5
+half("half-other-bytes-a", [c_nop()] * 8 + [c_nop()] * 2, "11,8,10,0,0,1,0,3,10", "half-words up to the end of code; others after it", "02, Job 8: takes two more only if", r3=(0, mask(4), 4))
+half("half-other-bytes-b", [c_nop()] * 8 + [ONES >> 32], "11,8,10,0,0,1,0,3,10", "the same with other bytes after code", "02, Job 8: takes two more only if", r3=(0, mask(4), 4))
+half("half-other-second-half-a", [c_nop()] * 7 + [0x00000013], "11,7,e,0,0,1,0,3,10", "a long word over the end of code", TWO_MORE, r3=(0, mask(4), 4))
+half("half-other-second-half-b", [c_nop()] * 7 + [0xffff0013], "11,7,e,0,0,1,0,3,10", "the same with another second half", TWO_MORE, r3=(0, mask(4), 4))
+half("half-changes-itself", [lui(5, 4), addi(5, 5, 0x529), store(SH, 5, 0, 14), c_nop(), c_ebreak(), ECALL], "18,5,10,0,0,0,0,0,0",
+     "a stored half-word, C.LI of 10, is run (unlocked)", EVEN, {5: 0x4529, 10: 10}, options=0, r2=(0, mask(12), 3))
+half("half-changes-half-a-word", [addi(5, 0, 0x70), store(SH, 5, 0, 14), c_nop(), c_nop(), addi(10, 0, 0), ECALL], "18,5,10,0,0,0,0,0,0", "the upper half of a long word is stored (unlocked)",
+     TWO_MORE, {5: 0x70, 10: 7}, options=0, r2=(0, mask(12), 3))
+half("half-changes-half-at-2", [addi(5, 0, 0x70), store(SH, 5, 0, 12), c_nop(), addi(10, 0, 0), ECALL], "18,4,e,0,0,0,0,0,0", "the same of one at a", TWO_MORE, {5: 0x70, 10: 7},
+     options=0, r2=(0, mask(12), 3))
+half("half-changes-locked", [c_nop(), c_sw(8, 8, 0)], "4,0,0,0,0,0,0,0,0", "locked, code is writable", ASKED, r2=(0, mask(12), 3))
+half("half-store-into-code-locked", [c_nop(), c_sw(8, 8, 0)], "16,1,2,0,0,1,0,2,0", "locked, C.SW into code", AS_FOUND, r2=DATA)
+A30_HALF = EXACT + " (Reading A30: a fetch at the even pc below reaches an odd byte.)"
+half("half-four-one-odd-byte", [c_nop()], "4,0,0,0,0,0,0,0,0", "code of one byte at 2001, which region 2 writes", A30_HALF, r2=(0x2000, mask(4), 2), r3=(0x2001, mask(0), 4))
+half("half-four-one-even-byte", [c_nop()], "4,0,0,0,0,0,0,0,0", "code of one byte at 2002, which region 1 writes", A30_HALF, r1=(0x2002, 1, 2), r3=(0x2002, mask(0), 4))
+half("half-four-two-bytes", [c_nop()], "4,0,0,0,0,0,0,0,0", "code of two bytes at 2002, of which region 1 writes the second", A30_HALF, r1=(0x2003, 1, 2), r3=(0x2002, mask(1), 4))
+half("half-four-two-bytes-first", [c_nop()], "4,0,0,0,0,0,0,0,0", "the first", A30_HALF, r1=(0x2002, 1, 2), r3=(0x2002, mask(1), 4))
+half("half-beside-two-bytes", [c_nop()], "11,1,2004,0,0,1,0,3,2004", "region 1 begins where code of two bytes ends", EXACT, at=0x2002, pc=0x2002, r1=(0x2004, 4, 3), r3=(0x2002, mask(1), 4))
+half("half-before-two-bytes", [c_nop()], "11,1,2004,0,0,1,0,3,2004", "region 2 ends where it begins", EXACT, at=0x2002, pc=0x2002, r2=(0x2000, mask(1), 3), r3=(0x2002, mask(1), 4))
+
+# the sheet
+sheet("half-address-2", SETUP + "2,1\n", "sheet,34,2", "a word line at 2", A65)
+sheet("half-two-in-a-word", SETUP + "0,00010001\n4,9002\n", "19,2,4,0,0,0,0,0,0", "two half-words in one word, and a word of 16 bits", A65)
+registers["half-two-in-a-word"] = {}
+
 
 def write():
     names = [r[0] for r in rows]
@@ -1690,9 +1885,10 @@ def check(path):
 
 
 def store(oracle):
-    """data/index, 32 bytes a row: the sheets here by name, then the random programs; stdout in that order."""
+    """data/index, 32 bytes a row: the sheets here by name, then the random programs and the compiled ones; stdout in that order."""
     named = sorted(r[0] for r in rows)
     random = sorted(n for n in os.listdir(SHEETS) if len(n) == 4 and n[0] == "p" and n[1:].isdigit())
+    random += sorted(n for n in os.listdir(SHEETS) if n.startswith("compiled-"))
     others = set(os.listdir(SHEETS)) - set(named) - set(random) - {"index", "unreadable"}
     assert not others, others
     printed = b""

@@ -17,6 +17,7 @@ use crate::ten_regions;
 use crate::writable_code::{aimed_call, aims, hiding_aims, WAYS};
 
 mod half;
+mod lengths;
 mod ten;
 
 /// The bytes that a call has room for; the first `length` of them are lent.
@@ -1831,6 +1832,7 @@ pub fn directed() -> Vec<Directed> {
     list.which_rule();
     list.ten_regions();
     list.half_words();
+    list.lengths();
     // A call that two subjects share stands once, under the first.
     let mut seen = std::collections::HashSet::new();
     list.all.retain(|row| seen.insert(row.call.unnamed()));

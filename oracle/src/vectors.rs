@@ -256,7 +256,7 @@ fn dart_stop(extension: &str) -> u64 {
     }
 }
 
-/// dart-rv64i.columns, dart-rv64m.columns and dart-beyond.columns, 289 bytes a
+/// dart-rv64i.columns and its fellows, dart-beyond.columns too, 289 bytes a
 /// line (`crates/values/data/README.md`): the stop by the extension that the row
 /// needs, and for 18 the result.
 pub fn check_dart_columns(text: &str, run: &mut Run) -> Report {

@@ -10,7 +10,7 @@ fn text(path: &str) -> String {
     String::from_utf8(std::fs::read(root().join(path)).expect(path)).expect("text")
 }
 
-/// Sheets worked out by hand, and random programs whose registers and steps are QEMU's.
+/// Sheets worked out by hand, and random and compiled programs whose registers and steps are QEMU's.
 #[test]
 fn sheets() {
     let index = text("crates/sheets/data/index");
@@ -20,7 +20,7 @@ fn sheets() {
         printed.extend(format!("{name}\n").into_bytes());
         printed.extend(oracle::respond(&input));
     }
-    assert!(index.lines().count() >= 1207);
+    assert!(index.lines().count() >= 1419);
     let printed = String::from_utf8(printed).unwrap();
     assert_eq!(printed, text("crates/sheets/stdout"));
     // Of the numbers of question 8, no sheet comes to 24.
@@ -71,7 +71,16 @@ fn index() {
         assert_eq!(lines[at + 1], first, "{name}");
         seen += 1;
     }
-    assert!(seen >= 1007);
+    assert!(seen >= 1137);
+}
+
+/// GNU binutils' list of the legal half-words with their long words.
+#[test]
+fn half_words() {
+    let long = |half: u16| oracle::expand(half).map(|instruction| oracle::encode(&instruction).expect("in range"));
+    let printed: String = (0..=u16::MAX).filter_map(|half| long(half).map(|word| format!("{half:04x} {word:08x}\n"))).collect();
+    assert!(printed == text("crates/half_words/stdout"));
+    assert_eq!(printed.lines().count(), 38_551);
 }
 
 /// The stored calls are those that the oracle writes, and it answers the
@@ -83,7 +92,7 @@ fn calls() {
     assert_eq!(first, text("crates/calls/data/calls-1"));
     assert_eq!(second, text("crates/calls/data/calls-2"));
     assert_eq!(printed, text("crates/calls/stdout"));
-    assert!(oracle::calls::directed().len() >= 2623);
+    assert!(oracle::calls::directed().len() >= 2786);
     assert!(oracle::calls::random().len() >= 480);
     // Each number of question 8 often, as a step and in a run.
     let mut met = std::collections::BTreeMap::new();
@@ -124,7 +133,7 @@ fn llvm() {
 
 #[test]
 fn dart() {
-    for (name, least) in [("dart-rv64i", 362), ("dart-rv64m", 104), ("dart-beyond", 176)] {
+    for (name, least) in [("dart-rv64i", 362), ("dart-rv64m", 104), ("dart-rv64c", 166), ("dart-beyond", 10)] {
         good(oracle::vectors::check_dart_columns(&authored(name), &mut oracle::run), least);
     }
 }

@@ -64,7 +64,7 @@ def store(name, lines):
 
 def main():
     stdout = ""
-    cases = [("values", 256, value_case)] + [("dart-" + part, 289, dart_case) for part in ("rv64i", "rv64m", "beyond")]
+    cases = [("values", 256, value_case)] + [("dart-" + part, 289, dart_case) for part in ("rv64i", "rv64m", "rv64c", "beyond")]
     for name, width, case in cases:
         pairs = [case(line) for line in records(name + ".columns", width)]
         store(name, [pair[0] for pair in pairs])

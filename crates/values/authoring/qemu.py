@@ -1,10 +1,10 @@
 #!/usr/bin/env python3
-"""qemu.py: asks QEMU 7.2, as RV64IM, for the results of RV64M's instructions, and writes the columns that hold them anew:
+"""qemu.py: asks QEMU 7.2, as RV64IM or RV64IMC, for the results of RV64M's instructions, and writes the columns that hold them anew:
 
 - rv64m-results.columns, all of it, from the words of rv64m.columns and the values of operands.columns;
 - values.columns, what follows the doubleword before, in each case that has a word of RV64M.
 
-The results of dart-rv64m.columns are the Dart SDK's and are only compared; those of rv64m-results.columns are compared with
+The results of dart-rv64m.columns and dart-rv64c.columns are the Dart SDK's and are only compared; those of rv64m-results.columns are compared with
 Python's whole numbers too. It needs qemu-riscv64 and riscv64-linux-gnu-as and -ld; make.py is run afterwards.
 """
 import os
@@ -13,33 +13,38 @@ import subprocess
 import tempfile
 
 HERE = os.path.dirname(os.path.abspath(__file__))
-WITHOUT = "c a f d zba zbb zbc zbs Zicsr Zifencei".split()
-QEMU = ["qemu-riscv64", "-cpu", ",".join(["rv64", "m=true"] + [name + "=false" for name in WITHOUT])]
+WITHOUT = "a f d zba zbb zbc zbs Zicsr Zifencei".split()
 BEFORE, AFTER = (5, 6, 7, 10, 11, 12), (5, 6, 7, 10)
 
 
+def qemu(half_words):
+    return ["qemu-riscv64", "-cpu", ",".join(["rv64", "m=true", "c=" + half_words] + [name + "=false" for name in WITHOUT])]
+
+
 def program(cases):
-    """Every case one after the other: its registers, with the place after its words in x1, its words, its results."""
+    """Every case one after the other: its registers, with the place after its words in x1 and Dart's stack in x2, its words,
+    its results."""
     text = [".option norelax", ".globl _start", "_start:"]
     for k, (_, words) in enumerate(cases):
         text += ["la x31, before + %d" % (48 * k)] + ["ld x%d, %d(x31)" % (r, 8 * i) for i, r in enumerate(BEFORE)]
-        text += ["la x1, after%d" % k] + [".word %#x" % word for word in words] + ["after%d:" % k]
+        text += ["li x2, 0x1f0000", "la x1, after%d" % k] + [".word %#x" % word for word in words] + ["after%d:" % k]
         text += ["la x31, results + %d" % (32 * k)] + ["sd x%d, %d(x31)" % (r, 8 * i) for i, r in enumerate(AFTER)]
     text += ["li a0, 1", "la a1, results", "li a2, %d" % (32 * len(cases)), "li a7, 64", "ecall  # write"]
     text += ["li a0, 0", "li a7, 93", "ecall  # exit", ".data", "before:"]
     text += [".dword " + ", ".join("%#x" % value for value in registers) for registers, _ in cases]
-    return "\n".join(text + [".bss", "results: .zero %d" % (32 * len(cases)), ""])
+    text += [".bss", "results: .zero %d" % (32 * len(cases)), '.section .stack, "aw", @nobits', ".zero 0x20000"]
+    return "\n".join(text + [""])
 
 
-def ask(cases):
+def ask(cases, half_words="false"):
     """x5, x6, x7 and x10 after each case, which is six registers before and words."""
     with tempfile.TemporaryDirectory() as folder:
         source, thing, image = (os.path.join(folder, name) for name in ("a.s", "a.o", "a"))
         with open(source, "w") as file:
             file.write(program(cases))
         subprocess.run(["riscv64-linux-gnu-as", "-march=rv64im", source, "-o", thing], check=True)
-        subprocess.run(["riscv64-linux-gnu-ld", "--no-relax", thing, "-o", image], check=True)
-        printed = subprocess.run(QEMU + [image], stdout=subprocess.PIPE, check=True).stdout
+        subprocess.run(["riscv64-linux-gnu-ld", "--no-relax", "--section-start=.stack=0x1e0000", thing, "-o", image], check=True)
+        printed = subprocess.run(qemu(half_words) + [image], stdout=subprocess.PIPE, check=True).stdout
     return list(struct.iter_unpack("<4Q", printed))
 
 
@@ -100,13 +105,14 @@ def ask_values():
     write("values", made)
 
 
-def compare_dart():
-    rows = lines("dart-rv64m")
+def compare_dart(name, half_words):
+    rows = lines(name)
     cases = [([0, 0, 0] + numbers(line, 80, 16, 3), numbers(line, 144, 8, 18)) for line in rows]
-    for line, after in zip(rows, ask(cases)):
-        assert after[3] == numbers(line, 128, 16, 1)[0], line
+    for line, after in zip(rows, ask(cases, half_words)):
+        assert after[3] == numbers(line, 128, 16, 1)[0], (line, "%x" % after[3])
 
 
 ask_table()
 ask_values()
-compare_dart()
+compare_dart("dart-rv64m", "false")
+compare_dart("dart-rv64c", "true")

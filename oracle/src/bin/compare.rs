@@ -265,6 +265,7 @@ fn stored_values(engine: &dyn Engine, text: &dyn Fn(&str) -> String, counts: &mu
         ("values", check_columns_with(&file("values"), run)),
         ("dart-rv64i", check_dart_columns(&file("dart-rv64i"), run)),
         ("dart-rv64m", check_dart_columns(&file("dart-rv64m"), run)),
+        ("dart-rv64c", check_dart_columns(&file("dart-rv64c"), run)),
         ("dart-beyond", check_dart_columns(&file("dart-beyond"), run)),
         ("rv64m-results", check_table(&file("operands"), &file("rv64m"), &file("rv64m-results"), run)),
     ];
