@@ -2,7 +2,7 @@
 // here: the stored output has what GNU binutils says of them. README.md tells how it was made.
 use columns::print;
 use columns::print_hexadecimal;
-use compressed::expand;
+use expand::expand;
 use encode::encode;
 use instructions::instruction::Decoded;
 use instructions::instruction::Encoded;
