@@ -2,8 +2,8 @@
 // here: the stored output has what GNU binutils says of them. README.md tells how it was made.
 use columns::print;
 use columns::print_hexadecimal;
-use expand::expand;
 use encode::encode;
+use expand::expand;
 use instructions::instruction::Decoded;
 use instructions::instruction::Encoded;
 
