@@ -95,8 +95,8 @@ struct koubospar_machine {
 
 /* The bytes of stack that a call takes, what it is called with included: measured by painting, over every stop and every
  * kind of word, and rounded up. `c/try` measures them again and fails where a call takes more. Measured were 3,784 for a
- * step, 3,240 for a run, 16 for a resumption, 69,288 for a sheet, 384 and 416 for decoding and encoding, 608 for the
- * probe and 976 for a place. No call's stack grows with the memory, the budget or the sheet. */
+ * step, 3,240 for a run, 16 for a resumption, 69,288 for a sheet, 384 and 416 for decoding and encoding, 320 for
+ * expanding, 608 for the probe and 976 for a place. No call's stack grows with the memory, the budget or the sheet. */
 #define KOUBOSPAR_STACK_STEP 4096
 #define KOUBOSPAR_STACK_RUN 3584
 #define KOUBOSPAR_STACK_RESUME 256
