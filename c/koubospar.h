@@ -1,7 +1,7 @@
-/* libkoubospar.a and libkoubospar_codec.a: an RV64IM machine with HFI, for a controller.
+/* libkoubospar.a and libkoubospar_codec.a: an RV64IMC machine (of C the integer words) with HFI, for a controller.
  *
  * `rt staticlib koubospar` and `rt staticlib koubospar_codec` build them in target/staticlib/; nothing of them is
- * compiled unless it is proved. The second has koubospar_decode and koubospar_encode, the first all else. Numbers and
+ * compiled unless it is proved. The second has koubospar_decode, koubospar_expand and koubospar_encode, the first all else. Numbers and
  * values are those of the scope paper, "document 01", with what "document 02" has changed. Every function takes every
  * value of every field; what it refuses, it answers with a number. What nothing checks is C's own: a machine is a
  * valid, aligned and initialized record, `memory` is valid for `length` bytes, the two do not overlap, and nobody else

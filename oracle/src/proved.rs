@@ -54,6 +54,7 @@ const _: () = assert!(std::mem::size_of::<Machine>() == 584);
 #[link(name = "koubospar_codec", kind = "static")]
 extern "C" {
     fn koubospar_decode(word: u32) -> Decoded;
+    fn koubospar_expand(half: u16) -> Decoded;
     fn koubospar_encode(instruction: Flat) -> Encoded;
 }
 
@@ -68,6 +69,12 @@ extern "C" {
 /// The number and the instruction of a word.
 pub fn decoded(word: u32) -> (u64, Flat) {
     let d = unsafe { koubospar_decode(word) };
+    (d.number, d.instruction)
+}
+
+/// The number and the instruction of a half-word.
+pub fn expanded(half: u16) -> (u64, Flat) {
+    let d = unsafe { koubospar_expand(half) };
     (d.number, d.instruction)
 }
 

@@ -112,10 +112,32 @@ fn words(_: u64, _: &mut Counts) {
     std::process::exit(2);
 }
 
+/// Every half-word: legal here exactly if legal there, the same instruction, and one that has a long word; the illegal ones
+/// with zeros.
+#[cfg(feature = "proved")]
+fn half_words(counts: &mut Counts) {
+    use oracle::proved::{encoded, expanded, flat, Flat};
+    let mut legal = 0;
+    for half in 0..=u16::MAX {
+        let expected = oracle::half_words::expand(half).map_or((13, Flat::default()), |i| (0, flat(&i)));
+        let got = expanded(half);
+        let mut good = got == expected;
+        if expected.0 == 0 {
+            legal += 1;
+            good &= encoded(got.1).0 == 0;
+        }
+        if !good {
+            counts.difference(format!("half-word {half:04x}: oracle {expected:?}, library {got:?}"));
+        }
+    }
+    println!("half-words: all 65,536, {legal} legal, {} differences", counts.differences.len());
+}
+
 /// Every word: legal here exactly if legal there, the same instruction, and encoded to the word again; the illegal ones
 /// with zeros. Then instructions with fields outside their ranges, and records that are no instruction.
 #[cfg(feature = "proved")]
 fn words(threads: u64, counts: &mut Counts) {
+    half_words(counts);
     use oracle::proved::{decoded, encoded, flat, Flat};
     let part = |thread: u64| {
         let (mut legal, mut differences) = (0u64, Vec::new());
