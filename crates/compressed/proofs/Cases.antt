@@ -2,7 +2,7 @@
 -- code that agree on a wrong place of a bit would be proved of each other; these rows refuse both.
 -- The numbers were made by riscv64-linux-gnu-as and read by riscv64-linux-gnu-objdump (GNU Binutils 2.40), not by this
 -- crate, from the text beside them: the half-word with -march=rv64ic (rv64idc for the floating-point ones), the long word
--- with -march=rv64i. Over the rows of a line each bit of its immediate, and of a register, has values that no other bit has.
+-- with -march=rv64i. Over the rows of a line and its edges no two bits of its immediate and registers have the same values.
 -- Assumes nothing.
 use mathlib.Core.Path.{_≡_, refl}
 use mathlib.Core.List.{List, [], _∷_, map}
@@ -125,6 +125,78 @@ rows =
     ∷ (0xeaa6, 0x14913823)  -- c.sdsp x9, 336(x2): sd x9, 336(x2)
     ∷ (0xf356, 0x1b513023)  -- c.sdsp x21, 416(x2): sd x21, 416(x2)
     ∷ []
+
+-- of each line, an immediate of ones with low registers, and one of zeros, or of its highest or lowest bit alone, with high ones
+abbrev pub edges : List (ℕ × ℕ)
+edges =
+    (0x1fe0, 0x3fc10413)  -- c.addi4spn x8, x2, 1020: addi x8, x2, 1020
+    ∷ (0x005c, 0x00410793)  -- c.addi4spn x15, x2, 4: addi x15, x2, 4
+    ∷ (0x5c60, 0x07c42403)  -- c.lw x8, 124(x8): lw x8, 124(x8)
+    ∷ (0x439c, 0x0007a783)  -- c.lw x15, 0(x15): lw x15, 0(x15)
+    ∷ (0x7c60, 0x0f843403)  -- c.ld x8, 248(x8): ld x8, 248(x8)
+    ∷ (0x639c, 0x0007b783)  -- c.ld x15, 0(x15): ld x15, 0(x15)
+    ∷ (0xdc60, 0x06842e23)  -- c.sw x8, 124(x8): sw x8, 124(x8)
+    ∷ (0xc39c, 0x00f7a023)  -- c.sw x15, 0(x15): sw x15, 0(x15)
+    ∷ (0xfc60, 0x0e843c23)  -- c.sd x8, 248(x8): sd x8, 248(x8)
+    ∷ (0xe39c, 0x00f7b023)  -- c.sd x15, 0(x15): sd x15, 0(x15)
+    ∷ (0x107d, 0xfff00013)  -- c.nop -1: addi x0, x0, -1
+    ∷ (0x10fd, 0xfff08093)  -- c.addi x1, -1: addi x1, x1, -1
+    ∷ (0x1f81, 0xfe0f8f93)  -- c.addi x31, -32: addi x31, x31, -32
+    ∷ (0x30fd, 0xfff0809b)  -- c.addiw x1, -1: addiw x1, x1, -1
+    ∷ (0x2f81, 0x000f8f9b)  -- c.addiw x31, 0: addiw x31, x31, 0
+    ∷ (0x50fd, 0xfff00093)  -- c.li x1, -1: addi x1, x0, -1
+    ∷ (0x4f81, 0x00000f93)  -- c.li x31, 0: addi x31, x0, 0
+    ∷ (0x617d, 0x1f010113)  -- c.addi16sp x2, 496: addi x2, x2, 496
+    ∷ (0x7101, 0xe0010113)  -- c.addi16sp x2, -512: addi x2, x2, -512
+    ∷ (0x60fd, 0x0001f0b7)  -- c.lui x1, 0x1f: lui x1, 0x1f
+    ∷ (0x7f81, 0xfffe0fb7)  -- c.lui x31, 0xfffe0: lui x31, 0xfffe0
+    ∷ (0x907d, 0x03f45413)  -- c.srli x8, 63: srli x8, x8, 63
+    ∷ (0x9381, 0x0207d793)  -- c.srli x15, 32: srli x15, x15, 32
+    ∷ (0x947d, 0x43f45413)  -- c.srai x8, 63: srai x8, x8, 63
+    ∷ (0x9781, 0x4207d793)  -- c.srai x15, 32: srai x15, x15, 32
+    ∷ (0x987d, 0xfff47413)  -- c.andi x8, -1: andi x8, x8, -1
+    ∷ (0x8b81, 0x0007f793)  -- c.andi x15, 0: andi x15, x15, 0
+    ∷ (0x8c1d, 0x40f40433)  -- c.sub x8, x15: sub x8, x8, x15
+    ∷ (0x8f81, 0x408787b3)  -- c.sub x15, x8: sub x15, x15, x8
+    ∷ (0x8c3d, 0x00f44433)  -- c.xor x8, x15: xor x8, x8, x15
+    ∷ (0x8fa1, 0x0087c7b3)  -- c.xor x15, x8: xor x15, x15, x8
+    ∷ (0x8c5d, 0x00f46433)  -- c.or x8, x15: or x8, x8, x15
+    ∷ (0x8fc1, 0x0087e7b3)  -- c.or x15, x8: or x15, x15, x8
+    ∷ (0x8c7d, 0x00f47433)  -- c.and x8, x15: and x8, x8, x15
+    ∷ (0x8fe1, 0x0087f7b3)  -- c.and x15, x8: and x15, x15, x8
+    ∷ (0x9c1d, 0x40f4043b)  -- c.subw x8, x15: subw x8, x8, x15
+    ∷ (0x9f81, 0x408787bb)  -- c.subw x15, x8: subw x15, x15, x8
+    ∷ (0x9c3d, 0x00f4043b)  -- c.addw x8, x15: addw x8, x8, x15
+    ∷ (0x9fa1, 0x008787bb)  -- c.addw x15, x8: addw x15, x15, x8
+    ∷ (0xa001, 0x0000006f)  -- c.j .+0: jal x0, .+0
+    ∷ (0xbffd, 0xfffff06f)  -- c.j .-2: jal x0, .-2
+    ∷ (0xdc7d, 0xfe040fe3)  -- c.beqz x8, .-2: beq x8, x0, .-2
+    ∷ (0xc381, 0x00078063)  -- c.beqz x15, .+0: beq x15, x0, .+0
+    ∷ (0xfc7d, 0xfe041fe3)  -- c.bnez x8, .-2: bne x8, x0, .-2
+    ∷ (0xe381, 0x00079063)  -- c.bnez x15, .+0: bne x15, x0, .+0
+    ∷ (0x10fe, 0x03f09093)  -- c.slli x1, 63: slli x1, x1, 63
+    ∷ (0x1f82, 0x020f9f93)  -- c.slli x31, 32: slli x31, x31, 32
+    ∷ (0x50fe, 0x0fc12083)  -- c.lwsp x1, 252(x2): lw x1, 252(x2)
+    ∷ (0x4f82, 0x00012f83)  -- c.lwsp x31, 0(x2): lw x31, 0(x2)
+    ∷ (0x70fe, 0x1f813083)  -- c.ldsp x1, 504(x2): ld x1, 504(x2)
+    ∷ (0x6f82, 0x00013f83)  -- c.ldsp x31, 0(x2): ld x31, 0(x2)
+    ∷ (0x8082, 0x00008067)  -- c.jr x1: jalr x0, 0(x1)
+    ∷ (0x8f82, 0x000f8067)  -- c.jr x31: jalr x0, 0(x31)
+    ∷ (0x80fe, 0x01f000b3)  -- c.mv x1, x31: add x1, x0, x31
+    ∷ (0x8f86, 0x00100fb3)  -- c.mv x31, x1: add x31, x0, x1
+    ∷ (0x9082, 0x000080e7)  -- c.jalr x1: jalr x1, 0(x1)
+    ∷ (0x9f82, 0x000f80e7)  -- c.jalr x31: jalr x1, 0(x31)
+    ∷ (0x90fe, 0x01f080b3)  -- c.add x1, x31: add x1, x1, x31
+    ∷ (0x9f86, 0x001f8fb3)  -- c.add x31, x1: add x31, x31, x1
+    ∷ (0xdf82, 0x0e012e23)  -- c.swsp x0, 252(x2): sw x0, 252(x2)
+    ∷ (0xc07e, 0x01f12023)  -- c.swsp x31, 0(x2): sw x31, 0(x2)
+    ∷ (0xff82, 0x1e013c23)  -- c.sdsp x0, 504(x2): sd x0, 504(x2)
+    ∷ (0xe07e, 0x01f13023)  -- c.sdsp x31, 0(x2): sd x31, 0(x2)
+    ∷ []
+
+pub edges-held : map (λ (r : ℕ × ℕ). long (expandHalf (r .0))) edges ≡ map (λ (r : ℕ × ℕ). Word (r .1)) edges
+unfolding expandHalf encodeWord sext
+edges-held = refl
 
 pub long-words : map (λ (r : ℕ × ℕ). long (expandHalf (r .0))) rows ≡ map (λ (r : ℕ × ℕ). Word (r .1)) rows
 unfolding expandHalf encodeWord sext

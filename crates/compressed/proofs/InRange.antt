@@ -17,6 +17,8 @@ use Rattle.instructions.specs.Fields.{wordOf}
 use Rattle.instructions.specs.declared.instruction.Instruction.{Instruction}
 use Rattle.instructions.specs.declared.instruction.Decoded.the-variants.{Legal}
 use Rattle.instructions.specs.declared.instruction.Encoded.the-variants.{Word}
+use Rattle.instructions.specs.Decode.{decodeWord}
+use Rattle.instructions.proofs.RoundTrip.{decode-of-encode}
 use Rattle.instructions.proofs.Tests.{and-of, two-of}
 use Rattle.compressed.specs.Immediates.{rd, rs2, short, Scattered, piecesAt, pieces, zeroExtended, signExtended, addi4spn, wordOffset, doubleOffset, sixBits, addi16sp, upper, jumpOffset, branchOffset, wordFromStack, doubleFromStack, wordToStack, doubleToStack}
 use Rattle.compressed.specs.Table.{Line, takes, table}
@@ -208,3 +210,7 @@ expanded-range h i e = ranged table lines-ranged h i e
 pub expanded-word : (h : ℕ) (i : Instruction) → expandHalf h ≡ Legal i → encodeWord i ≡ Word (wordOf (encodeFields i))
 unfolding encodeWord
 expanded-word h i e = rw (expanded-range h i e) refl
+
+-- which decodes to it
+pub expanded-decodes : (h : ℕ) (i : Instruction) → expandHalf h ≡ Legal i → decodeWord (wordOf (encodeFields i)) ≡ Legal i
+expanded-decodes h i e = decode-of-encode i _ (expanded-word h i e)

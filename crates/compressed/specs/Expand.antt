@@ -1,5 +1,7 @@
 -- The instruction that a half-word stands for. "Each stands for one RV64I instruction"; "its floating-point loads and stores are illegal, as
 -- are reserved words" (02, Job 8).
+-- "Half-words and their instructions correspond through the long form: equal expansions need not be equal words, so the decode and encode rule keeps to long words,
+-- and each legal half-word has exactly one expansion." (02, Job 8)
 -- Decoded is declared in instructions/src/instruction.rt. Assumes nothing.
 use mathlib.Core.Bool.{Bool, cond}
 use mathlib.Core.List.{List, [], _∷_}

@@ -19,11 +19,11 @@ rs2 h = field h 2 5
 abbrev pub short : ℕ → ℕ → ℕ
 short h k = 2 ^ 3 + field h k 3
 
--- rs1' in bits 9 to 7, which is also the rd' of what has one source more
+-- rs1' in bits 9 to 7, which is also the rd' of what works on it
 abbrev pub rs1Short : ℕ → ℕ
 rs1Short h = short h 7
 
--- rs2', or the rd' of a load, in bits 4 to 2
+-- rs2', or the rd' of a load or of C.ADDI4SPN, in bits 4 to 2
 abbrev pub rs2Short : ℕ → ℕ
 rs2Short h = short h 2
 

@@ -70,7 +70,7 @@ immediateIsZero = bit12Is 0 ∷ bits 2 5 0 ∷ []
 abbrev pub betweenRegisters : ℕ → ℕ → List Bits
 betweenRegisters b n = bits 10 2 0b11 ∷ bit12Is b ∷ bits 5 2 n ∷ []
 
--- "its floating-point loads and stores are illegal, as are reserved words" (02, Job 8): they have no line. HINTs are legal
+-- "its floating-point loads and stores are illegal, as are reserved words" (02, Job 8): they have no line, or a line leaves them out. HINTs are legal
 abbrev pub table : List Line
 table =
     -- quadrant 0

@@ -1,4 +1,4 @@
--- The instruction of a word. Document 01: "All of RV64I; 32-bit words", the h-prefixed words and the table of opcode 5b;
+-- The instruction of a long word; half-words are in compressed/specs. Document 01: "All of RV64I; 32-bit words", the h-prefixed words and the table of opcode 5b;
 -- document 02, Job 2: of RV64M "the eight 64-bit operations and the five word ones". Every other word is illegal.
 -- Fields is declared in src/fields.rt, the kinds in src/kind.rt, Instruction and Decoded in src/instruction.rt.
 -- Assumes nothing.

@@ -174,6 +174,7 @@ entering =
     -- "the target of an enter with jump, which must be a multiple of 2" (02, Job 8)
     ∷ steps (outside 6 ++ operands 9 0x102) enterJump 0 ((pc, 0x102) ∷ (mode, 1) ∷ (options, 9) ∷ (occurred, 0) ∷ [])
     ∷ steps (outside 6 ++ operands 9 0x103) enterJump 15 []
+    ∷ steps (outside 6 ++ operands 9 0x101) enterJump 15 []
     -- "an options operand above 15", before the target
     ∷ forbidden 14 (outside 6 ++ operands 16 0) enter
     ∷ forbidden 14 (outside 6 ++ operands (2 ^ 32) 0) enter

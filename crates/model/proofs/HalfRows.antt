@@ -19,7 +19,7 @@ use Rattle.model.specs.Access.{scan, firstRefused, firstAbsent, verdict}
 use Rattle.model.specs.Step.{load, store, perform, executeInstruction, executeWord, fetching, executeFetched, step, stepCall}
 use Rattle.model.specs.Run.{runBy, runCall}
 use Rattle.model.proofs.Rows.{Row, found, stated, x, pc, mode, reason, epc, base, bound, occurred, faultRegion, op, faulting, with}
-use Rattle.model.proofs.Rows.Question.{decoding, running}
+use Rattle.model.proofs.Rows.Question.{decoding, stepping, running}
 use Rattle.model.proofs.Rows.Answer.{decoded, gave}
 use Rattle.model.proofs.Clauses.{outside, inside, stepsOver}
 
@@ -75,6 +75,10 @@ fetching-halves =
     ∷ stepsOver (inside 0) (0x93 ∷ 0x03 ∷ 0x70 ∷ []) 12 3 []
     -- so 12 of the first comes before 11 of the second
     ∷ at 14 (inside 0) fourteen 12 14 []
+    ∷ stepsOver (inside 0 ++ ((pc, 14) ∷ [])) (halves fourteen ++ (0x93 ∷ [])) 12 15 []
+    -- a fetch at the last two addresses does not come to its second byte
+    ∷ stepsOver (outside 0 ++ ((pc, 2 ^ 64 - 2) ∷ [])) (halves (cli ∷ [])) 12 (2 ^ 64 - 2) []
+    ∷ refused (2 ^ 64 - 2) (inside 0) (cli ∷ []) (2 ^ 64 - 2)
     -- 13 of a long word after that, longer formats' too
     ∷ at 0 (outside 0) (0x001f ∷ []) 12 2 []
     ∷ at 0 (outside 0) (0x001f ∷ 0 ∷ []) 13 0 []
@@ -88,6 +92,22 @@ standing =
     ∷ completes 0 (inside 0 ++ ((x 5, 7) ∷ [])) (0x80e7 ∷ 0x0002 ∷ []) ((pc, 6) ∷ (x 1, 4) ∷ [])
     ∷ completes 2 (inside 0) (cnop ∷ 0x00ef ∷ 0x0040 ∷ []) ((pc, 6) ∷ (x 1, 6) ∷ [])
     ∷ completes 0 (inside 0 ++ ((x 5, 7) ∷ (x 1, 9) ∷ [])) (0x8282 ∷ []) ((pc, 6) ∷ [])
+    -- the target is of the old value: c.jalr x1; jalr x5, 0(x5)
+    ∷ completes 0 (inside 0 ++ ((x 1, 9) ∷ [])) (0x9082 ∷ []) ((pc, 8) ∷ (x 1, 2) ∷ [])
+    ∷ completes 0 (inside 0 ++ ((x 5, 7) ∷ [])) (0x82e7 ∷ 0x0002 ∷ []) ((pc, 6) ∷ (x 5, 4) ∷ [])
+    -- the next pc, a row for each group: c.lui x7, 7; c.slli x7, 3; c.addiw x7, -1; c.mv x7, x5; c.addw x8, x9; c.lw x8, 0(x9); c.sw x8, 0(x9)
+    ∷ completes 0 (inside 0) (0x639d ∷ []) ((pc, 2) ∷ (x 7, 0x7000) ∷ [])
+    ∷ completes 0 (inside 0 ++ ((x 7, 1) ∷ [])) (0x038e ∷ []) ((pc, 2) ∷ (x 7, 8) ∷ [])
+    ∷ completes 0 (inside 0) (0x33fd ∷ []) ((pc, 2) ∷ (x 7, 2 ^ 64 - 1) ∷ [])
+    ∷ completes 0 (inside 0 ++ ((x 5, 9) ∷ [])) (0x8396 ∷ []) ((pc, 2) ∷ (x 7, 9) ∷ [])
+    ∷ completes 0 (inside 0 ++ ((x 8, 0x7fffffff) ∷ (x 9, 1) ∷ [])) (0x9c25 ∷ []) ((pc, 2) ∷ (x 8, 2 ^ 64 - 2 ^ 31) ∷ [])
+    ∷ completes 0 (outside 0) (0x4080 ∷ 0 ∷ []) ((pc, 2) ∷ (x 8, 0x4080) ∷ [])
+    ∷ (stepping (with (outside 0 ++ ((x 8, 7) ∷ (x 9, 2) ∷ []))) (halves (0xc080 ∷ cnop ∷ cnop ∷ [])), gave 0 0 0 (with (outside 0 ++ ((x 8, 7) ∷ (x 9, 2) ∷ (pc, 2) ∷ []))) (halves (0xc080 ∷ 7 ∷ 0 ∷ [])))
+    -- "pc need only be a multiple of 2", and counts whole: auipc x5, 0 at 2, beq x0, x0, .+6 and c.beqz x8, .-2 there; c.j .-2 at 0
+    ∷ completes 2 (inside 0) (cnop ∷ 0x0297 ∷ 0 ∷ []) ((pc, 6) ∷ (x 5, 2) ∷ [])
+    ∷ completes 2 (inside 0) (cnop ∷ 0x0363 ∷ 0 ∷ []) ((pc, 8) ∷ [])
+    ∷ completes 2 (inside 0) (cnop ∷ 0xdc7d ∷ []) ((pc, 0) ∷ [])
+    ∷ completes 0 (inside 0) (0xbffd ∷ []) ((pc, 2 ^ 64 - 2) ∷ [])
     -- "jumps and branches never get" 15: c.j .+2, c.beqz x8, .+6, which is taken, and c.bnez, which is not
     ∷ completes 0 (inside 0) (0xa009 ∷ []) ((pc, 2) ∷ [])
     ∷ completes 0 (inside 0) (0xc019 ∷ []) ((pc, 6) ∷ [])

@@ -97,7 +97,7 @@ isAddress stop at = eqb stop 12 || (eqb stop 17 || eqb at 0)
 abbrev pub proper : (ℕ → Bool) → ℕ → ℕ → Bool
 proper S stop at = S stop && isAddress stop at
 
--- the numbers of questions 9 to 13 that may stop an instruction: a jump's target, the bytes of an access, ECALL, EBREAK; and no others
+-- the numbers of questions 9 to 13 that may stop an instruction: the target of an enter with jump, the bytes of an access, ECALL, EBREAK; and no others
 abbrev pub laterStops : Instruction → List ℕ
 laterStops (Upper k rd imm) = []
 laterStops (Jal rd offset) = []

@@ -1,4 +1,4 @@
--- Questions put to the definitions, and their answers: the rows of the tables in Cases.antt and Clauses.antt.
+-- Questions put to the definitions, and their answers: the rows of the tables beside it.
 -- Assumes nothing.
 use mathlib.Core.Bool.{Bool}
 use mathlib.Core.List.{List, [], _∷_}

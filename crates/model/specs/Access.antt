@@ -111,7 +111,7 @@ firstRefused mode a = scan (λ i. cond (eqb mode 0) true (a .grants i)) 0 (a .co
 unfoldable pub firstAbsent : ℕ → ℕ → ℕ → ℕ
 firstAbsent length first count = scan (λ i. ltb (byteOf first i) length) 0 count
 
--- "Is every data byte granted?", and then "Are they in memory?"; of a fetch "are all four bytes executable?" first, two of them at a time (02, Job 8)
+-- "Is every data byte granted?", and then "Are they in memory?"; of a fetch "are all .. bytes executable?" first, of two bytes at a time (02, Job 8)
 unfoldable pub verdict : ℕ → ℕ → Access → Verdict
 verdict mode length a =
     let i = firstRefused mode a in

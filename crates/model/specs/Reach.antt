@@ -23,6 +23,7 @@ pub record Passes (a : Access) (b : ℕ) : Type 0 where
   pub there : b ≡ byteOf (a .first) index
   pub passes : a .grants index ≡ true
 
+-- half-words make no other accesses: each stands for the instruction of a long word (compressed/proofs/InRange.antt)
 pub data Readable (rs : List Region) (b : ℕ) : Type 0 where
   byLoad : (w : ℕ) (x : List ℕ) (k : LoadKind) (rd rs1 imm : ℕ) → decodeWord w ≡ Legal (Load k rd rs1 imm)
       → Passes (loadAccess rs x k rs1 imm) b → Readable rs b

@@ -53,6 +53,7 @@ redirected m = machine (m .x) (m .hfi .handler) (exited (m .hfi) 2 (m .pc))
 unfoldable pub perform : Machine → List ℕ → ℕ → Instruction → Outcome
 perform m mem next (Upper Lui rd imm) = completed (assigned m next rd imm) mem
 perform m mem next (Upper Auipc rd imm) = completed (assigned m next rd (sum (m .pc) imm)) mem
+-- "jumps and branches never get" 15 (02, Job 8)
 perform m mem next (Jal rd offset) = completed (assigned m (sum (m .pc) offset) rd next) mem
 perform m mem next (Jalr rd rs1 imm) = completed (assigned m (jalrTarget (reg (m .x) rs1) imm) rd next) mem
 perform m mem next (Branch k rs1 rs2 offset) = completed (withPc m (cond (taken k (reg (m .x) rs1) (reg (m .x) rs2)) (sum (m .pc) offset) next)) mem
@@ -114,7 +115,7 @@ stepCall m mem =
     cond (ltb longest (length mem)) (stopped 1 m mem)
     (cond (wellFormed m) (cond (exposesCode (m .hfi)) (stopped 4 m mem) (step m mem)) (stopped 3 m mem))
 
--- "Resuming .. puts a given value in x10 and adds 4 to pc; it asks question 3 only."
+-- "Resuming .. puts a given value in x10 and adds 4 to pc; it asks question 3 only." 4 with Job 8 too: an ECALL is a long word
 unfoldable pub resumeCall : Machine → ℕ → Stepped
 resumeCall m v =
     cond (wellFormed m) (record { stop = 0; address = 0; machine = machine (setReg (m .x) 10 v) (sum (m .pc) 4) (m .hfi) })
