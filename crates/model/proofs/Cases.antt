@@ -23,6 +23,7 @@ use Rattle.model.specs.Access.{scan, firstRefused, firstAbsent, verdict}
 use Rattle.model.specs.Step.{store, perform, executeInstruction, executeWord, fetching, executeFetched, step, stepCall}
 use Rattle.compressed.specs.Expand.{expandHalf}
 use Rattle.model.specs.Run.{runBy, runCall}
+use Rattle.model.proofs.Alike.{held}
 use Rattle.model.proofs.Rows.{Row, found, stated, x, pc, mode, base, bound, permission, handler, occurred, faultRegion, op, faulting, puts, regionOf, with, bytes}
 use Rattle.model.proofs.Rows.Question.{decoding, matching, ruling, stepping, running}
 use Rattle.model.proofs.Rows.Answer.{decoded, told, gave}
@@ -97,4 +98,4 @@ rows =
 
 pub cases : found rows ≡ stated rows
 unfolding rows trailingZeros sext decodeWord expandHalf matches explicitRule firstMatch implicitGrants explicitGrants explicitCovers writableCode exposesCode scan firstRefused firstAbsent verdict value written allowed settle stateFits wellFormed hfiStop hfiPerform store perform executeInstruction executeWord fetching executeFetched step stepCall runBy runCall
-cases = refl
+cases = held rows refl

@@ -23,6 +23,7 @@ use Rattle.model.specs.Step.{load, store, perform, executeInstruction, e
 use Rattle.compressed.specs.Expand.{expandHalf}
 use Rattle.model.specs.Run.{ended, runBy, runCall}
 use Rattle.model.specs.declared.Machine.{Machine}
+use Rattle.model.proofs.Alike.{held}
 use Rattle.model.proofs.Rows.{Row, found, stated, x, pc, mode, reason, epc, options, handler, selector, base, bound, permission, occurred, faultRegion, op, faulting, puts, regionOf, with, bytes}
 use Rattle.model.proofs.Rows.Question.{matching, ruling, judging, stepping, running, resuming}
 use Rattle.model.proofs.Rows.Answer.{told, gave}
@@ -583,7 +584,7 @@ rows = entering ++ leaving ++ locking ++ numbering ++ keeping ++ running-on ++ a
 
 pub clauses : found rows ≡ stated rows
 unfolding entering leaving locking numbering keeping running-on asking operating offsets absent going-on forming trailingZeros sext lowHalf highHalf quotient remainder decodeWord expandHalf matches explicitRule firstMatch implicitGrants explicitGrants explicitCovers writableCode exposesCode scan firstRefused firstAbsent verdict value written allowed aligned settle stateFits wellFormed hfiStop hfiPerform load store perform executeInstruction executeWord fetching executeFetched step stepCall resumeCall runBy runCall
-clauses = refl
+clauses = held rows refl
 
 -- ---- resuming, of every machine: "it asks question 3 only"
 

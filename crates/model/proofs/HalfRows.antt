@@ -18,6 +18,7 @@ use Rattle.model.specs.WritableCode.{explicitCovers, writableCode, expos
 use Rattle.model.specs.Access.{scan, firstRefused, firstAbsent, verdict}
 use Rattle.model.specs.Step.{load, store, perform, executeInstruction, executeWord, fetching, executeFetched, step, stepCall}
 use Rattle.model.specs.Run.{runBy, runCall}
+use Rattle.model.proofs.Alike.{held}
 use Rattle.model.proofs.Rows.{Row, found, stated, x, pc, mode, reason, epc, base, bound, occurred, faultRegion, op, faulting, with}
 use Rattle.model.proofs.Rows.Question.{decoding, stepping, running}
 use Rattle.model.proofs.Rows.Answer.{decoded, gave}
@@ -136,4 +137,4 @@ rows = fetching-halves ++ standing
 
 pub rows-hold : found rows ≡ stated rows
 unfolding fetching-halves standing trailingZeros sext decodeWord expandHalf matches explicitRule firstMatch implicitGrants explicitCovers writableCode exposesCode scan firstRefused firstAbsent verdict value written allowed settle stateFits wellFormed hfiStop hfiPerform load store perform executeInstruction executeWord fetching executeFetched step stepCall runBy runCall
-rows-hold = refl
+rows-hold = held rows refl

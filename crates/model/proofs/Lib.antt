@@ -4,6 +4,7 @@ pub mod Bytes
 pub mod Offset
 pub mod Intervals
 pub mod Rows
+pub mod Alike
 pub mod Cases
 pub mod Clauses
 pub mod WritableRows

@@ -24,6 +24,7 @@ use Rattle.model.specs.Access.{scan, firstRefused, firstAbsent, verdict}
 use Rattle.model.specs.Step.{load, store, perform, executeInstruction, executeWord, fetching, executeFetched, step, stepCall, resumeCall}
 use Rattle.compressed.specs.Expand.{expandHalf}
 use Rattle.model.specs.Run.{runBy, runCall}
+use Rattle.model.proofs.Alike.{held}
 use Rattle.model.proofs.Rows.{Row, found, stated, x, pc, mode, reason, epc, options, handler, selector, base, bound, permission, occurred, faultRegion, op, faulting, puts, with, bytes}
 use Rattle.model.proofs.Rows.Question.{decoding, exposing, judging, running}
 use Rattle.model.proofs.Rows.Answer.{decoded, told, gave}
@@ -565,4 +566,4 @@ rows = kinds ++ deciding ++ judging-singly ++ choosing ++ chosen ++ exposing-row
 
 pub rows-hold : found rows ≡ stated rows
 unfolding kinds deciding judging-singly choosing chosen exposing-rows running-on trailingZeros sext decodeWord expandHalf matches explicitRule firstMatch implicitGrants explicitGrants explicitCovers writableCode exposesCode scan firstRefused firstAbsent verdict value written allowed aligned settle stateFits wellFormed hfiStop hfiPerform load store perform executeInstruction executeWord fetching executeFetched step stepCall resumeCall runBy runCall
-rows-hold = refl
+rows-hold = held rows refl

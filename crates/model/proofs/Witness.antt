@@ -30,6 +30,7 @@ use Rattle.model.specs.declared.Region.{Region}
 use Rattle.model.specs.declared.Machine.{Machine}
 use Rattle.model.proofs.Intervals.{zero-matches-none, matches-inside}
 use Rattle.model.proofs.Reach.{InData, InExplicit, InImplicit, readable-form, form-readable, writable-form, form-writable, executable-form, granted-by}
+use Rattle.model.proofs.Alike.{held}
 use Rattle.model.proofs.Rows.{Row, Answer, found, stated, x, pc, mode, reason, epc, options, base, bound, permission, puts, regionOf, with, bytes}
 use Rattle.model.proofs.Rows.Question.{running}
 use Rattle.model.proofs.Rows.Answer.{gave}
@@ -110,7 +111,7 @@ rows = (running guest one 9, answer one) ∷ (running guest two 9, answer two) �
 
 pub runs-done : found rows ≡ stated rows
 unfolding trailingZeros sext decodeWord expandHalf matches explicitRule firstMatch implicitGrants explicitGrants explicitCovers writableCode exposesCode scan firstRefused firstAbsent verdict value written allowed settle stateFits wellFormed hfiStop hfiPerform load store perform executeInstruction executeWord fetching executeFetched step runBy runCall
-runs-done = refl
+runs-done = held rows refl
 
 -- ---- what h-words reach, of a region of 2^24 bytes from 10000 on and no other: with the permission all of it, and nothing else
 

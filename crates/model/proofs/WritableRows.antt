@@ -19,6 +19,7 @@ use Rattle.model.specs.Step.{load, store, perform, executeInstruction, e
 use Rattle.compressed.specs.Expand.{expandHalf}
 use Rattle.model.specs.Run.{runBy, runCall}
 use Rattle.model.specs.declared.Region.{Region}
+use Rattle.model.proofs.Alike.{held}
 use Rattle.model.proofs.Rows.{Row, found, stated, x, pc, mode, options, selector, base, bound, permission, occurred, regionOf, bytes}
 use Rattle.model.proofs.Rows.Question.{exposing}
 use Rattle.model.proofs.Rows.Answer.{told}
@@ -157,4 +158,4 @@ rows = exact ++ asking
 
 pub rows-hold : found rows ≡ stated rows
 unfolding exact asking trailingZeros sext decodeWord expandHalf matches explicitRule firstMatch implicitGrants explicitGrants explicitCovers writableCode exposesCode scan firstRefused firstAbsent verdict value written allowed aligned settle stateFits wellFormed hfiStop hfiPerform load store perform executeInstruction executeWord fetching executeFetched step stepCall resumeCall runBy runCall
-rows-hold = refl
+rows-hold = held rows refl
