@@ -108,7 +108,7 @@ struct koubospar_machine {
 #define KOUBOSPAR_STACK_PLACE 1152
 
 /* A step call is a run of one step: of a locked machine it costs 1,340 to 2,500 instructions more than a step inside a run, which
- * costs 174 to 303 on the programs of bench/ (bench/README.md). Make runs, and steps only where one must look in between. */
+ * costs some 180 to 310 on the programs of bench/ (bench/README.md). Make runs, and steps only where one must look in between. */
 
 /* ---- the calls on a machine ----------------------------------------------------------------------------------- */
 
