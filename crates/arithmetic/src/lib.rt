@@ -1,4 +1,6 @@
 // What the operations make of values: the leaves of every instruction that only computes.
+#![tactic(auto)]
+
 ghost use Rattle.std.specs.Prelude.{◌≡◌, ◌*◌, ◌^◌, ◌<◌};
 ghost use Rattle.instructions.specs.declared.kind.RegisterKind.TheVariants.{Add};
 ghost use Rattle.model.specs.Access.{load_width};

@@ -1,4 +1,6 @@
 // Makes the calls that data/calls-1 and data/calls-2 describe, and prints what each left. README.md has the form of both.
+#![tactic(auto)]
+
 ghost use Rattle.std.specs.Prelude.{◌≡◌, ◌<◌, ◌≤◌, length};
 
 use columns::{print, print_decimal, read_file};

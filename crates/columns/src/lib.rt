@@ -1,5 +1,7 @@
 // Stored records in fixed columns, for the programs that run published vectors. A record is one line of a file, as long as
 // every other line of it, and each of its fields stands at a fixed position of the line, padded with spaces.
+#![tactic(auto)]
+
 ghost use Rattle.std.specs.Prelude.{◌≡◌, take, drop};
 ghost use Rattle.io.specs.Counts.{IsPrefixLen};
 ghost use Rattle.text.specs.Scan.{firstThat, is};

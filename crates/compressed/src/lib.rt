@@ -1,1 +1,2 @@
 // Half-words: what they are (specs/), and the theorems about that; `expand` has the code.
+#![tactic(auto)]

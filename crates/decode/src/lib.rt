@@ -1,4 +1,6 @@
 // Decoding: by opcode to a group, and in the group by its function fields to a kind.
+#![tactic(auto)]
+
 ghost use Rattle.std.specs.Prelude.{◌≡◌};
 ghost use Rattle.instructions.specs.Fields.{fields_of};
 ghost use Rattle.instructions.specs.InWord.{InWord};

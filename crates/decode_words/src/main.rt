@@ -1,5 +1,7 @@
 // Decodes each stored word, encodes what it decoded to, and prints both answers. Nothing is compared here: the stored output
 // has what LLVM, document 01 and QEMU say of the words. data/README.md has the columns.
+#![tactic(auto)]
+
 ghost use Rattle.std.specs.Prelude.{◌≡◌};
 ghost use Rattle.instructions.specs.Answers.{decodeNumber};
 

@@ -1,4 +1,6 @@
 // Encoding: the fields of the word, by the instruction's format, and whether each value is one that its field can express.
+#![tactic(auto)]
+
 ghost use Rattle.std.specs.Prelude.{◌≡◌, true, ◌<◌};
 ghost use Rattle.instructions.specs.Encode.{encodeFields, two, multiple as isMultiple, in_range, encodeWord};
 

@@ -1,5 +1,7 @@
 // The instructions by their groups, and a dispatcher that only calls. An instruction that only computes is a value of
 // `arithmetic`, written back.
+#![tactic(auto)]
+
 ghost use Rattle.std.specs.Prelude.{◌≡◌, ℕ, ◌<◌, true, List};
 ghost use Rattle.words.specs.Word.{fitsSigned};
 ghost use Rattle.instructions.specs.Encode.{in_range};

@@ -1,4 +1,6 @@
 // Half-words: the integer words of RV64C, each of which stands for one instruction. By quadrant and funct3 to a line of the listing.
+#![tactic(auto)]
+
 ghost use Rattle.std.specs.Prelude.{◌≡◌, ◌<◌, ◌^◌};
 ghost use Rattle.words.specs.Word.{field};
 ghost use Rattle.compressed.specs.Immediates.{short as short_of};

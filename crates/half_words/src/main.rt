@@ -1,5 +1,7 @@
 // Goes over all half-words and prints, of each legal one, the long word of the instruction that it stands for. Nothing is compared
 // here: the stored output has what GNU binutils says of them. README.md tells how it was made.
+#![tactic(auto)]
+
 use columns::{print, print_hexadecimal};
 use encode::encode;
 use expand::expand;

@@ -8,7 +8,7 @@ ghost use Rattle.hart.specs.Effect.{effectWith};
 use crate::state::Control;
 use model::Fault;
 
-#[derive(Drop)]
+#[derive(Clone, Copy)]
 pub struct Effect {
     pub stop: u64,
     pub address: u64,

@@ -8,7 +8,7 @@ use crate::regions::{REGION_NUMBERS, regions_of};
 use model::{Fault, HfiState};
 
 // The HFI state but for its regions. What is said of a state that it makes holds whatever the regions are.
-#[derive(Drop)]
+#[derive(Clone, Copy)]
 pub struct Control {
     pub mode: u64,
     pub reason: u64,

@@ -1,2 +1,4 @@
 // Question 8, and the words of opcode 5b.
+#![tactic(auto)]
+
 pub mod word;

@@ -1,4 +1,6 @@
 // Reading a descriptor to its end, for the programs over sheets and stored data.
+#![tactic(auto)]
+
 ghost use Rattle.std.specs.Prelude.{◌≡◌, take};
 ghost use Rattle.input.specs.Held.{Held};
 
@@ -8,7 +10,7 @@ use text::scan::front;
 pub const ROOM: usize = 65537;
 
 // How many bytes were read up to the end, or until the room was full; or a read failed, and nothing is known of the rest.
-#[derive(Drop)]
+#[derive(Clone, Copy)]
 pub enum Input {
     Whole(usize),
     Failed,

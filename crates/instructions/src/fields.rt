@@ -1,5 +1,5 @@
 // A word cut into the six fields of the R-type format, which every other format divides or joins.
-#[derive(Drop)]
+#[derive(Clone, Copy)]
 pub struct Fields {
     pub opcode: u64,
     pub rd: u64,

@@ -7,7 +7,7 @@ use crate::kind::{
     ShiftWordKind, StoreKind, SystemKind, UpperKind,
 };
 
-#[derive(Drop)]
+#[derive(Clone, Copy)]
 pub enum Instruction {
     Upper(UpperKind, u64, u64), // rd, immediate
     Jal(u64, u64), // rd, offset
@@ -28,13 +28,13 @@ pub enum Instruction {
     Hfi(HfiKind, u64, u64, u64), // rd, rs1, rs2; those that the row does not name are 0
 }
 
-#[derive(Drop)]
+#[derive(Clone, Copy)]
 pub enum Decoded {
     Legal(Instruction),
     Illegal,
 }
 
-#[derive(Drop)]
+#[derive(Clone, Copy)]
 pub enum Encoded {
     Word(u32),
     OutOfRange,

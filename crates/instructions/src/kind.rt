@@ -1,11 +1,11 @@
 // The kinds of each group of instructions.
-#[derive(Drop)]
+#[derive(Clone, Copy)]
 pub enum UpperKind {
     Lui,
     Auipc,
 }
 
-#[derive(Drop)]
+#[derive(Clone, Copy)]
 pub enum BranchKind {
     Beq,
     Bne,
@@ -16,7 +16,7 @@ pub enum BranchKind {
 }
 
 // An h-prefixed load has the kinds of an ordinary one.
-#[derive(Drop)]
+#[derive(Clone, Copy)]
 pub enum LoadKind {
     Lb,
     Lh,
@@ -28,7 +28,7 @@ pub enum LoadKind {
 }
 
 // An h-prefixed store has the kinds of an ordinary one.
-#[derive(Drop)]
+#[derive(Clone, Copy)]
 pub enum StoreKind {
     Sb,
     Sh,
@@ -36,7 +36,7 @@ pub enum StoreKind {
     Sd,
 }
 
-#[derive(Drop)]
+#[derive(Clone, Copy)]
 pub enum ImmediateKind {
     Addi,
     Slti,
@@ -46,21 +46,21 @@ pub enum ImmediateKind {
     Andi,
 }
 
-#[derive(Drop)]
+#[derive(Clone, Copy)]
 pub enum ShiftKind {
     Slli,
     Srli,
     Srai,
 }
 
-#[derive(Drop)]
+#[derive(Clone, Copy)]
 pub enum ShiftWordKind {
     Slliw,
     Srliw,
     Sraiw,
 }
 
-#[derive(Drop)]
+#[derive(Clone, Copy)]
 pub enum RegisterKind {
     Add,
     Sub,
@@ -82,7 +82,7 @@ pub enum RegisterKind {
     Remu,
 }
 
-#[derive(Drop)]
+#[derive(Clone, Copy)]
 pub enum RegisterWordKind {
     Addw,
     Subw,
@@ -96,14 +96,14 @@ pub enum RegisterWordKind {
     Remuw,
 }
 
-#[derive(Drop)]
+#[derive(Clone, Copy)]
 pub enum SystemKind {
     Ecall,
     Ebreak,
 }
 
 // The rows of document 01's table of opcode 5b.
-#[derive(Drop)]
+#[derive(Clone, Copy)]
 pub enum HfiKind {
     Enter,
     EnterJump,

@@ -10,7 +10,7 @@ use model::Machine;
 
 // What a step or a resumption of a lent machine answers: the documents' number, and the absent address of 12 and 17.
 #[repr(C)]
-#[derive(Drop)]
+#[derive(Clone, Copy)]
 pub struct Stop {
     pub stop: u64,
     pub address: u64,
@@ -18,7 +18,7 @@ pub struct Stop {
 
 // What a run of a lent machine answers, with the count of completed steps.
 #[repr(C)]
-#[derive(Drop)]
+#[derive(Clone, Copy)]
 pub struct RunStop {
     pub stop: u64,
     pub count: u64,

@@ -13,7 +13,7 @@ use instructions::instruction::{Decoded, Encoded, Instruction};
 // has. `imm` is an immediate, an offset in bytes or a shift's amount, `region` the explicit region of an h-word. Fields
 // that a group lacks are 0.
 #[repr(C)]
-#[derive(Drop)]
+#[derive(Clone, Copy)]
 pub struct Flat {
     pub group: u64,
     pub kind: u64,
@@ -29,7 +29,7 @@ pub struct Flat {
 
 // 0 and the instruction, or 13 and zeros.
 #[repr(C)]
-#[derive(Drop)]
+#[derive(Clone, Copy)]
 pub struct FlatDecoded {
     pub number: u64,
     pub instruction: Flat,
@@ -37,7 +37,7 @@ pub struct FlatDecoded {
 
 // 0 and the word, or 5 and 0.
 #[repr(C)]
-#[derive(Drop)]
+#[derive(Clone, Copy)]
 pub struct FlatEncoded {
     pub number: u64,
     pub word: u32,

@@ -1,4 +1,6 @@
 // The listing of each group: the instruction that stands under a code.
+#![tactic(auto)]
+
 ghost use Rattle.std.specs.Prelude.{◌≡◌};
 ghost use Rattle.instructions.specs.declared.instruction.Decoded.TheVariants.{Legal};
 ghost use Rattle.instructions.specs.Decode.{upperAt, branchAt, load_of, loadAt, store_of, storeAt, immediateAt, shiftAt, shiftWordAt, registerAt, registerWordAt, systemAt, hfiAt};

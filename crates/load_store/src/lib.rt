@@ -1,4 +1,6 @@
 // Loads and stores, ordinary and h-prefixed.
+#![tactic(auto)]
+
 ghost use Rattle.std.specs.Prelude.{◌≡◌, true, List, ℕ, ◌+◌, ◌<◌, ◌≤◌, length};
 ghost use Rattle.words.specs.Word.{fitsSigned};
 ghost use Rattle.model.specs.Regions.{read as readBit, write as writeBit};

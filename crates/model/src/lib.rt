@@ -2,6 +2,7 @@
 // machine is a definition in specs/; the theorems about these definitions are in proofs/. The code is in the crates above.
 //
 // Every number is 64 bits wide, so that a caller can hand in any wrong value and have it refused.
+#![tactic(auto)]
 
 // The longest memory and the largest budget that a call takes.
 pub const LONGEST: usize = 16_777_216;
@@ -42,7 +43,7 @@ pub const LARGEST_OPTIONS: u64 = 15;
 
 // "A region has a 64-bit base, a 64-bit bound or mask, and permissions: bit 0 read, bit 1 write, bit 2 execute, bit 3 large".
 #[repr(C)]
-#[derive(Drop)]
+#[derive(Clone, Copy)]
 pub struct Region {
     pub base: u64,
     pub bound: u64,
@@ -51,7 +52,7 @@ pub struct Region {
 
 // "Fault record: occurred (0 or 1), region, op (0 none, 1 load, 2 store, 3 fetch), and the address".
 #[repr(C)]
-#[derive(Drop)]
+#[derive(Clone, Copy)]
 pub struct Fault {
     pub occurred: u64,
     pub region: u64,
@@ -62,7 +63,7 @@ pub struct Fault {
 // "HFI state: mode (0 or 1), exit reason (0 none, 1 hfiexit, 2 system call), exit pc, options (4 bits), exit handler,
 // selector, three regions, fault record", of which document 02, Job 7, makes ten regions. `epc` is the exit pc; region n stands at n - 1.
 #[repr(C)]
-#[derive(Drop)]
+#[derive(Clone, Copy)]
 pub struct HfiState {
     pub mode: u64,
     pub reason: u64,
@@ -76,7 +77,7 @@ pub struct HfiState {
 
 // "Registers x0 to x31 and pc, 64 bits each."
 #[repr(C)]
-#[derive(Drop)]
+#[derive(Clone, Copy)]
 pub struct Machine {
     pub x: [u64; 32],
     pub pc: u64,
@@ -85,7 +86,7 @@ pub struct Machine {
 
 // What the regions and the memory's end say to the bytes of one access: all pass; one is refused, with its address and
 // its fault region; or all are granted and one is absent, with its address.
-#[derive(Drop)]
+#[derive(Clone, Copy)]
 pub enum Verdict {
     Passed,
     Refused(u64, u64),
@@ -93,7 +94,7 @@ pub enum Verdict {
 }
 
 // The answer of a step: the documents' number (0 for a completed step), the absent address of 12 and 17, and the machine.
-#[derive(Drop)]
+#[derive(Clone, Copy)]
 pub struct Stepped {
     pub stop: u64,
     pub address: u64,
@@ -101,7 +102,7 @@ pub struct Stepped {
 }
 
 // The answer of a run, with the count of completed steps.
-#[derive(Drop)]
+#[derive(Clone, Copy)]
 pub struct Ran {
     pub stop: u64,
     pub count: u64,

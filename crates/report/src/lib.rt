@@ -1,5 +1,7 @@
 // What is printed of a sheet: the definition of the whole program, and the lines of a run's result. Each function answers the
 // position after what it wrote.
+#![tactic(auto)]
+
 ghost use Rattle.std.specs.Prelude.{[], ◌∷◌, ◌+◌, ◌≤◌, length};
 ghost use Rattle.text.specs.Scan.{comma};
 ghost use Rattle.text.specs.Number.{hexadecimal};

@@ -1,4 +1,6 @@
 // A run sheet in, the printed lines out.
+#![tactic(auto)]
+
 ghost use Rattle.std.specs.Prelude.{◌≡◌, ◌≤◌, length, take};
 ghost use Rattle.report.specs.Report.{report, reportOver};
 ghost use Rattle.respond.specs.Answered.{Answered};

@@ -1,4 +1,6 @@
 // A run: steps of one machine until one of the documents' questions stops it.
+#![tactic(auto)]
+
 ghost use Rattle.std.specs.Prelude.{◌≡◌};
 ghost use Rattle.model.specs.Machine.{inside as isInside};
 ghost use Rattle.model.specs.Run.{run as run_of, ranWith, runCall};

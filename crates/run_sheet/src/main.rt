@@ -1,5 +1,7 @@
 // Reads a run sheet from standard input, to its end, and prints the answer. Whatever goes wrong before the answer is whole
 // is told on standard error: Rattle has no exit status.
+#![tactic(auto)]
+
 use input::Input;
 use libc::{STDERR_FILENO, STDIN_FILENO, STDOUT_FILENO};
 

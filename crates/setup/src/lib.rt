@@ -1,4 +1,6 @@
 // Line 1 of a sheet: its values, questions 32 to 34 of it, and the machine that a run of the sheet starts from.
+#![tactic(auto)]
+
 ghost use Rattle.std.specs.Prelude.{◌≡◌, ◌++◌, ◌+◌, ◌-◌, ◌*◌, ◌≤◌, length, replicate};
 ghost use Rattle.model.specs.Machine.{lastRegion, noRegion, regionsFrom};
 ghost use Rattle.setup.specs.Setup.{regionsGiven, permissionsInRange, setupRow, readSetup, machine_of};
@@ -19,7 +21,7 @@ const LONG_FORM: usize = 4 + 3 * REGIONS;
 const DEFAULT_BUDGET: u64 = 50000;
 
 // The values of line 1.
-#[derive(Drop)]
+#[derive(Clone, Copy)]
 pub struct Setup {
     pub pc: u64,
     pub options: u64,
@@ -29,7 +31,7 @@ pub struct Setup {
 }
 
 // Line 1 as read: the question of 32 to 34 that it fails first, 0 where it fails none, and its values.
-#[derive(Drop)]
+#[derive(Clone, Copy)]
 pub struct ReadSetup {
     pub question: u64,
     pub setup: Setup,

@@ -1,4 +1,6 @@
 // The run sheet: questions 30 to 35, its setup, its words placed in memory, and the line of a refusal.
+#![tactic(auto)]
+
 ghost use Rattle.std.specs.Prelude.{◌≡◌, ◌-◌, ◌≤◌, length, drop, get_or};
 ghost use Rattle.text.specs.Scan.{newline, LineStart};
 ghost use Rattle.text.specs.Split.{lines, row_of};
@@ -19,14 +21,14 @@ use text::scan::last_byte;
 const WORD_FIELDS: usize = 2;
 
 // The question that a sheet fails first, 0 where it fails none, and the number of the line that it is asked of.
-#[derive(Drop)]
+#[derive(Clone, Copy)]
 pub struct Refusal {
     pub question: u64,
     pub lineno: u64,
 }
 
 // A word line as read: the question of 32 to 35 that it fails first, 0 where it fails none, its address and its word.
-#[derive(Drop)]
+#[derive(Clone, Copy)]
 pub struct ReadWord {
     pub question: u64,
     pub address: u64,
@@ -34,7 +36,7 @@ pub struct ReadWord {
 }
 
 // A sheet as read, but for its words.
-#[derive(Drop)]
+#[derive(Clone, Copy)]
 pub struct ReadSheet {
     pub refusal: Refusal,
     pub setup: Setup,

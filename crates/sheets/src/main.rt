@@ -1,5 +1,7 @@
 // Runs the stored sheets that an index names, and prints each one's name and answer. A sheet that cannot be read has no
 // answer, and is told on standard error.
+#![tactic(auto)]
+
 use columns::{column, unpadded};
 use input::Input;
 use libc::STDOUT_FILENO;

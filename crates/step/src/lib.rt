@@ -1,5 +1,7 @@
 // One step of the machine. The registers and the numbers of the regions are worked on in place, and the rest of the record goes by
 // value, so that no step copies them; `fetch` has the questions of a fetch, `call` the calls by value above the step.
+#![tactic(auto)]
+
 ghost use Rattle.std.specs.Prelude.{◌≡◌, ◌+◌, ◌≤◌, true, length};
 ghost use Rattle.compressed.specs.Expand.{isLong};
 ghost use Rattle.model.specs.Step.{executeWord, step as step_of};

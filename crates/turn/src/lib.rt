@@ -1,4 +1,6 @@
 // One turn of several machines over one memory, and putting a machine into a slot again.
+#![tactic(auto)]
+
 ghost use Rattle.std.specs.Prelude.{◌≡◌, ◌≤◌};
 ghost use Rattle.scheduler.specs.Turn.{mostSlots, noTurn, tookTurn, turnedWith, turnCall, putCall};
 

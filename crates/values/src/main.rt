@@ -1,5 +1,7 @@
 // Runs stored cases of RV64I, RV64M and RV64C, and prints what each ended with. Nothing is compared here: the stored output has what
 // QEMU and the Dart SDK say of them. data/README.md has the columns.
+#![tactic(auto)]
+
 mod dart;
 mod setting;
 mod table;

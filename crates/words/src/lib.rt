@@ -1,4 +1,6 @@
 // Bits of 64-bit words. The codec takes words apart and puts them together by these functions.
+#![tactic(auto)]
+
 ghost use Rattle.std.specs.Prelude.{◌≡◌, ◌+◌, ◌-◌, ◌*◌, ◌^◌, ◌<◌, ◌≤◌, not, int_lt};
 ghost use Rattle.std.specs.Int.Signed.{non_neg, shr_z};
 ghost use Rattle.words.specs.Word.{field, signed, word, sext, fitsSigned};

@@ -1,5 +1,7 @@
 // Is some byte both writable and executable, by the regions? It is asked once a call and by an enter, and by no other step. The
 // test is made at the edges of the regions; model/specs/WritableCode.antt says why that is enough.
+#![tactic(auto)]
+
 ghost use Rattle.std.specs.Prelude.{◌≡◌, true, ◌<◌};
 ghost use Rattle.instructions.specs.HWords.{explicitRegions, among};
 ghost use Rattle.model.specs.Regions.{regionKind};
