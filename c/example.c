@@ -2,7 +2,7 @@
  * prints it. The second program makes a system call; the controller answers it and goes on. A third sandbox grants a
  * byte of its code for writing too, and its run is refused. In a fourth the program tries to widen what it was granted. The
  * fifth has several regions at once: a stack, a curve, and a shared table that it may only read. The sixth was assembled with
- * half-size words. */
+ * half-size words. At the end four guests run in turn over one memory, each as if it alone had run. */
 #include "koubospar.h"
 
 #include <inttypes.h>
@@ -16,12 +16,17 @@ struct placed {
     uint32_t word;
 };
 
-static void place(uint8_t *memory, const struct placed *words, size_t count)
+static void add(uint8_t *memory, const struct placed *words, size_t count)
 {
-    memset(memory, 0, LENGTH);
     for (size_t i = 0; i < count; i++)
         for (int byte = 0; byte < 4; byte++)
             memory[words[i].address + byte] = (uint8_t)(words[i].word >> 8 * byte);
+}
+
+static void place(uint8_t *memory, const struct placed *words, size_t count)
+{
+    memset(memory, 0, LENGTH);
+    add(memory, words, count);
 }
 
 static void grant(struct koubospar_machine *m, int number, uint64_t base, uint64_t bound, uint64_t permission)
@@ -131,6 +136,84 @@ static const struct placed halves[] = {
     {0x10, 0x0400005b}, /* hfiexit */
 };
 
+/* Four guests over one memory: c/turn-1.sheet to c/turn-4.sheet. */
+static const struct placed first[] = {
+    {0x1000, 0x00a00293}, /* addi x5, x0, 10 */
+    {0x1004, 0x00550533}, /* add x10, x10, x5 */
+    {0x1008, 0xfff28293}, /* addi x5, x5, -1 */
+    {0x100c, 0xfe029ce3}, /* bne x5, x0, -8 */
+    {0x1010, 0x0400005b}, /* hfiexit */
+};
+
+static const struct placed second[] = {
+    {0x2000, 0x00800293}, /* addi x5, x0, 8 */
+    {0x2004, 0x02528333}, /* mul x6, x5, x5 */
+    {0x2008, 0x00838393}, /* addi x7, x7, 8 */
+    {0x200c, 0xfe63bc2b}, /* hsd x6, -8(x7): a curve of its own in region 1 */
+    {0x2010, 0xfff28293}, /* addi x5, x5, -1 */
+    {0x2014, 0xfe0298e3}, /* bne x5, x0, -16 */
+    {0x2018, 0x0400005b}, /* hfiexit */
+};
+
+static const struct placed third[] = {
+    {0x3000, 0x00005437}, /* lui x8, 5: a table that it shares with the fourth */
+    {0x3004, 0x00400493}, /* addi x9, x0, 4 */
+    {0x3008, 0x00042303}, /* lw x6, 0(x8) */
+    {0x300c, 0x00650533}, /* add x10, x10, x6 */
+    {0x3010, 0x00440413}, /* addi x8, x8, 4 */
+    {0x3014, 0xfff48493}, /* addi x9, x9, -1 */
+    {0x3018, 0xfe0498e3}, /* bne x9, x0, -16 */
+    {0x301c, 0x0400005b}, /* hfiexit */
+    {0x5000, 3}, {0x5004, 5}, {0x5008, 7}, {0x500c, 11}, /* the table */
+};
+
+static const struct placed fourth[] = {
+    {0x4000, 0x00005437}, /* lui x8, 5 */
+    {0x4004, 0x00c42303}, /* lw x6, 12(x8) */
+    {0x4008, 0x00128293}, /* addi x5, x5, 1 */
+    {0x400c, 0x02628533}, /* mul x10, x5, x6 */
+    {0x4010, 0x00a43023}, /* sd x10, 0(x8): the table is there to be read, so it is refused */
+    {0x4014, 0x0400005b}, /* hfiexit: it never comes to this */
+};
+
+/* A guest with 32 bytes of code at `code` and, where `table` is set, the shared table to read. */
+static struct koubospar_machine guest(uint64_t code, int table)
+{
+    struct koubospar_machine m = only_code(0xffffffffffffffe0);
+    m.pc = code;
+    m.hfi.regions[KOUBOSPAR_CODE_0 - 1].base = code;
+    if (table)
+        grant(&m, KOUBOSPAR_DATA_0, 0x5000, 0xfffffffffffffff0, 1);
+    return m;
+}
+
+/* Turns of at most seven steps until all have stopped. What a guest came to is printed when it stops, with its steps in
+ * all its turns. The third is put into its slot once more, and comes to the same. */
+static void four_in_turn(uint8_t *memory)
+{
+    struct koubospar_machine m[KOUBOSPAR_SLOTS] = {guest(0x1000, 0), guest(0x2000, 0), guest(0x3000, 1), guest(0x4000, 1)};
+    grant(&m[1], KOUBOSPAR_EXPLICIT_0, 0x2800, 0x40, 3);
+    struct koubospar_scheduler s = {.count = KOUBOSPAR_SLOTS, .place = 1};
+    for (uint64_t n = 1; n <= KOUBOSPAR_SLOTS; n++)
+        koubospar_put(&s, n, &m[n - 1]);
+    uint64_t steps[KOUBOSPAR_SLOTS + 1] = {0};
+    int again = 1;
+    for (;;) {
+        struct koubospar_turn_stop t = koubospar_turn(&s, memory, LENGTH, 7);
+        if (t.slot == 0)
+            break; /* all have stopped: t.stop is 0, and no turn was refused */
+        steps[t.slot] += t.count;
+        if (t.stop == KOUBOSPAR_BUDGET_SPENT)
+            continue;
+        print((struct koubospar_run_stop){t.stop, steps[t.slot], t.address}, &s.slots[t.slot - 1].machine);
+        if (t.slot == 3 && again) {
+            again = 0;
+            steps[3] = 0;
+            koubospar_put(&s, 3, &m[2]);
+        }
+    }
+}
+
 int main(void)
 {
     static uint8_t memory[LENGTH];
@@ -169,5 +252,11 @@ int main(void)
     m = sandbox(0xffffffffffffffe0);
     r = koubospar_run(&m, memory, sizeof memory, 100);
     print(r, &m); /* KOUBOSPAR_LEFT */
+
+    place(memory, first, sizeof first / sizeof first[0]);
+    add(memory, second, sizeof second / sizeof second[0]);
+    add(memory, third, sizeof third / sizeof third[0]);
+    add(memory, fourth, sizeof fourth / sizeof fourth[0]);
+    four_in_turn(memory);
     return 0;
 }

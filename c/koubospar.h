@@ -1,6 +1,6 @@
 /* libkoubospar.a and libkoubospar_codec.a: an RV64IMC machine (of C the integer words) with HFI, for a controller.
  *
- * `rt staticlib koubospar` and `rt staticlib koubospar_codec` build them in target/staticlib/; nothing of them is
+ * `rt lib` in crates/koubospar and in crates/koubospar_codec builds them, in out/ there; nothing of them is
  * compiled unless it is proved. The second has koubospar_decode, koubospar_expand and koubospar_encode, the first all else. Numbers and
  * values are those of the scope paper, "document 01", with what "document 02" has changed. Every function takes every
  * value of every field; what it refuses, it answers with a number. What nothing checks is C's own: a machine is a
@@ -21,6 +21,7 @@
 #ifndef KOUBOSPAR_H
 #define KOUBOSPAR_H
 
+#include <stdbool.h>
 #include <stddef.h>
 #include <stdint.h>
 
@@ -100,6 +101,8 @@ struct koubospar_machine {
 #define KOUBOSPAR_STACK_STEP 4096
 #define KOUBOSPAR_STACK_RUN 3584
 #define KOUBOSPAR_STACK_RESUME 256
+#define KOUBOSPAR_STACK_TURN 16384
+#define KOUBOSPAR_STACK_PUT 8192
 #define KOUBOSPAR_STACK_RESPOND 69632
 #define KOUBOSPAR_STACK_DECODE 512
 #define KOUBOSPAR_STACK_ENCODE 512
@@ -164,6 +167,59 @@ struct koubospar_run_stop koubospar_run(struct koubospar_machine *machine, uint8
 /* Meant for 18: puts `value` in x10 and adds 4 to pc (ECALL has no half-word), and answers 0; or 3, which leaves the machine as it was. It asks
  * nothing else, 4 neither. */
 struct koubospar_stop koubospar_resume(struct koubospar_machine *machine, uint64_t value);
+
+/* ---- several machines in turn over one memory ------------------------------------------------------------------- */
+
+/* "Take 1 to 4 machines and a step allowance of 1 to 10,000." */
+#define KOUBOSPAR_SLOTS 4
+#define KOUBOSPAR_LARGEST_ALLOWANCE 10000
+
+/* A machine among those that take turns (the document's deck), and the stop of its last turn: 0 if it has had none since it
+ * was put there. A slot whose stop is neither 0 nor 21 (KOUBOSPAR_BUDGET_SPENT) is stopped: it is passed over, and its
+ * machine is not asked about, until koubospar_put puts a machine there again. */
+struct koubospar_slot {
+    struct koubospar_machine machine;
+    uint64_t stop;
+};
+
+/* What the controller keeps and lends to each turn. Slot n, from 1 on, stands at n - 1; the first `count` of them take
+ * turns. "The place starts at 1": it is the slot from which the next turn looks on, and any number outside the count is taken
+ * as 1, so a record of zeros with its count set and a machine put into each of that many slots begins at slot 1. `total` is the
+ * sum of the counts of all turns, modulo 2^64; it may be set back to 0 between turns. */
+struct koubospar_scheduler {
+    struct koubospar_slot slots[KOUBOSPAR_SLOTS];
+    uint64_t count;
+    uint64_t place;
+    uint64_t total;
+};
+
+/* Numbers that only a turn answers. */
+enum {
+    KOUBOSPAR_SLOT_COUNT = 50,      /* the count is not 1 to 4 */
+    KOUBOSPAR_ALLOWANCE_RANGE = 51, /* the allowance is not 1 to 10,000 */
+    KOUBOSPAR_NOT_LOCKED = 52       /* a machine that is not stopped is not in HFI mode with regions locked */
+};
+
+struct koubospar_turn_stop {
+    uint64_t slot; /* whose turn it was; 0 if no run was made */
+    uint64_t stop;
+    uint64_t count;
+    uint64_t address;
+};
+
+/* A turn: a run, with the allowance as its budget, of the first slot that is not stopped, from the place on and round. It
+ * answers the slot, and what the run answers. The slot then has the run's machine and stop, the place is the slot after it, and
+ * the total has grown by the count. 1, 50, 51, 3, 4 and 52 are asked first, in this order, the last three of each slot that is
+ * not stopped, slot by slot, whoever's turn it is: slot, count and address are then 0, and nothing has changed. With all
+ * slots stopped it answers 0 four times, and nothing has changed either.
+ *
+ * What is proved of it: a slot that stays unstopped gets its turn before any other gets two; and where no slot can write a byte that
+ * another can read, write or execute, each goes on as if it alone had made as many turns. */
+struct koubospar_turn_stop koubospar_turn(struct koubospar_scheduler *scheduler, uint8_t *memory, size_t length, uint64_t allowance);
+
+/* Puts a machine into slot n, 1 to 4, which then has had no turn; the answer is whether there is such a slot. Nothing else
+ * changes, count and place neither. The machine is asked about by the next turn. */
+bool koubospar_put(struct koubospar_scheduler *scheduler, uint64_t n, const struct koubospar_machine *machine);
 
 /* ---- words and instructions ----------------------------------------------------------------------------------- */
 
@@ -266,6 +322,13 @@ KOUBOSPAR_HOLDS(offsetof(struct koubospar_machine, pc) == 256, "pc");
 KOUBOSPAR_HOLDS(offsetof(struct koubospar_machine, hfi) == 264, "HFI state in the machine");
 KOUBOSPAR_HOLDS(sizeof(struct koubospar_stop) == 16, "stop");
 KOUBOSPAR_HOLDS(sizeof(struct koubospar_run_stop) == 24, "stop of a run");
+KOUBOSPAR_HOLDS(sizeof(bool) == 1, "truth");
+KOUBOSPAR_HOLDS(sizeof(struct koubospar_slot) == 592 && offsetof(struct koubospar_slot, stop) == 584, "slot");
+KOUBOSPAR_HOLDS(sizeof(struct koubospar_scheduler) == 2392, "scheduler");
+KOUBOSPAR_HOLDS(offsetof(struct koubospar_scheduler, count) == 2368, "count of slots");
+KOUBOSPAR_HOLDS(offsetof(struct koubospar_scheduler, place) == 2376, "place");
+KOUBOSPAR_HOLDS(offsetof(struct koubospar_scheduler, total) == 2384, "total");
+KOUBOSPAR_HOLDS(sizeof(struct koubospar_turn_stop) == 32, "stop of a turn");
 KOUBOSPAR_HOLDS(sizeof(struct koubospar_instruction) == 80, "instruction");
 KOUBOSPAR_HOLDS(sizeof(struct koubospar_decoded) == 88, "decoded");
 KOUBOSPAR_HOLDS(sizeof(struct koubospar_encoded) == 16 && offsetof(struct koubospar_encoded, word) == 8, "encoded");

@@ -102,6 +102,74 @@ static void calls(void)
     IS(koubospar_run(&m, memory, sizeof memory, 1000001).stop, 2);
 }
 
+/* A guest in locked HFI mode that counts in x5, two words at 0 over and over. */
+static struct koubospar_machine counting(uint64_t pc)
+{
+    struct koubospar_machine m;
+    memset(&m, 0, sizeof m);
+    m.pc = pc;
+    m.hfi.mode = 1;
+    m.hfi.options = 1;
+    m.hfi.regions[KOUBOSPAR_CODE_0 - 1] = (struct koubospar_region){0, ~0xfull, 4};
+    return m;
+}
+
+static void turn(struct koubospar_turn_stop t, uint64_t slot, uint64_t stop, uint64_t count, uint64_t address)
+{
+    is("the slot of a turn", t.slot, slot);
+    is("the stop of a turn", t.stop, stop);
+    is("the count of a turn", t.count, count);
+    is("the address of a turn", t.address, address);
+}
+
+/* several machines in turn: each field of the record, and the order of the answer's */
+static void turns(void)
+{
+    uint8_t memory[8] = {0x93, 0x82, 0x12, 0, 0x6f, 0xf0, 0xdf, 0xff}; /* addi x5, x5, 1; jal x0, -4 */
+    struct koubospar_scheduler s, before;
+    struct koubospar_machine m = counting(0), last = counting(8);
+    memset(&s, 0, sizeof s);
+    turn(koubospar_turn(&s, memory, sizeof memory, 3), 0, KOUBOSPAR_SLOT_COUNT, 0, 0);
+    s.count = 3;
+    turn(koubospar_turn(&s, memory, sizeof memory, 0), 0, KOUBOSPAR_ALLOWANCE_RANGE, 0, 0);
+    turn(koubospar_turn(&s, memory, sizeof memory, KOUBOSPAR_LARGEST_ALLOWANCE + 1), 0, KOUBOSPAR_ALLOWANCE_RANGE, 0, 0);
+    turn(koubospar_turn(&s, memory, sizeof memory, 3), 0, KOUBOSPAR_NOT_LOCKED, 0, 0);
+    memset(&s.slots[3], 0xee, sizeof s.slots[3]);
+    for (uint64_t n = 1; n <= KOUBOSPAR_SLOTS; n++) {
+        m.x[n] = 70 + n;
+        s.slots[n - 1].stop = 20;
+        IS(koubospar_put(&s, n, &m), 1);
+        IS(memcmp(&s.slots[n - 1].machine, &m, sizeof m), 0);
+        IS(s.slots[n - 1].stop, 0);
+    }
+    before = s;
+    IS(koubospar_put(&s, 0, &last), 0);
+    IS(koubospar_put(&s, KOUBOSPAR_SLOTS + 1, &last), 0);
+    IS(memcmp(&before, &s, sizeof s), 0);
+    s.total = 5;
+    s.slots[1].stop = KOUBOSPAR_SYSTEM_CALL;
+    turn(koubospar_turn(&s, memory, sizeof memory, 3), 1, KOUBOSPAR_BUDGET_SPENT, 3, 0);
+    IS(s.slots[0].stop, KOUBOSPAR_BUDGET_SPENT);
+    IS(s.slots[0].machine.x[1], 71);
+    IS(s.slots[0].machine.x[5], 2);
+    IS(s.slots[0].machine.pc, 4);
+    IS(s.count, 3);
+    IS(s.place, 2);
+    IS(s.total, 8);
+    IS(memcmp(&before.slots[2], &s.slots[2], 2 * sizeof s.slots[2]), 0);
+    turn(koubospar_turn(&s, memory, sizeof memory, KOUBOSPAR_LARGEST_ALLOWANCE), 3, KOUBOSPAR_BUDGET_SPENT, 10000, 0);
+    IS(s.place, 1);
+    IS(s.total, 10008);
+    koubospar_put(&s, 2, &last);
+    s.place = 2;
+    turn(koubospar_turn(&s, memory, sizeof memory, 1), 2, KOUBOSPAR_FETCH_ABSENT, 0, 8);
+    IS(s.slots[1].stop, KOUBOSPAR_FETCH_ABSENT);
+    s.slots[0].stop = s.slots[2].stop = KOUBOSPAR_LEFT;
+    before = s;
+    turn(koubospar_turn(&s, memory, sizeof memory, 1), 0, 0, 0, 0);
+    IS(memcmp(&before, &s, sizeof s), 0);
+}
+
 static void instruction(uint32_t word, struct koubospar_instruction expected)
 {
     struct koubospar_decoded d = koubospar_decode(word);
@@ -236,6 +304,7 @@ static void names(void)
         {KOUBOSPAR_DATA_ABSENT, 17},    {KOUBOSPAR_SYSTEM_CALL, 18},        {KOUBOSPAR_BREAKPOINT, 19},
         {KOUBOSPAR_LEFT, 20},           {KOUBOSPAR_BUDGET_SPENT, 21},       {KOUBOSPAR_LOCK_WRITABLE_CODE, 22},
         {KOUBOSPAR_ENTER_INSIDE, 23},   {KOUBOSPAR_EXIT_OUTSIDE, 24},       {KOUBOSPAR_SETTING_FORBIDDEN, 25},
+        {KOUBOSPAR_SLOT_COUNT, 50},     {KOUBOSPAR_ALLOWANCE_RANGE, 51},    {KOUBOSPAR_NOT_LOCKED, 52},
     };
     for (size_t i = 0; i < sizeof stops / sizeof stops[0]; i++)
         is("a stop by its name", (uint64_t)stops[i][0], (uint64_t)stops[i][1]);
@@ -273,6 +342,7 @@ int main(void)
 {
     machine();
     calls();
+    turns();
     codec();
     half_words();
     h_words();

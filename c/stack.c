@@ -55,10 +55,16 @@ static struct koubospar_instruction instruction;
 static struct koubospar_decoded decoded;
 static struct koubospar_encoded encoded;
 static uint8_t sheet[65537], output[KOUBOSPAR_MOST];
+static struct koubospar_scheduler slots_before, slots;
+static struct koubospar_turn_stop turn_stop;
+static uint64_t number;
+static bool done;
 
 static void step(void) { m = before, stop = koubospar_step(&m, memory, length); }
 static void run(void) { m = before, run_stop = koubospar_run(&m, memory, length, budget); }
 static void resume(void) { m = before, stop = koubospar_resume(&m, budget); }
+static void turn(void) { slots = slots_before, turn_stop = koubospar_turn(&slots, memory, length, budget); }
+static void put(void) { slots = slots_before, done = koubospar_put(&slots, number, &before); }
 static void respond(void) { written = koubospar_respond(sheet, length, output); }
 static void decode(void) { decoded = koubospar_decode(word); }
 static void encode(void) { encoded = koubospar_encode(instruction); }
@@ -73,12 +79,14 @@ struct measured {
     uint64_t calls, stops, missed; /* bit n: stop n was met, was not met */
 };
 
-enum { STEP, RUN, RESUME, RESPOND, DECODE, ENCODE, EXPAND, PROBE, PLACE, CALLS };
+enum { STEP, RUN, RESUME, TURN, PUT, RESPOND, DECODE, ENCODE, EXPAND, PROBE, PLACE, CALLS };
 
 static struct measured all[CALLS] = {
     {.name = "step", .action = step, .said = KOUBOSPAR_STACK_STEP},
     {.name = "run", .action = run, .said = KOUBOSPAR_STACK_RUN},
     {.name = "resume", .action = resume, .said = KOUBOSPAR_STACK_RESUME},
+    {.name = "turn", .action = turn, .said = KOUBOSPAR_STACK_TURN},
+    {.name = "put", .action = put, .said = KOUBOSPAR_STACK_PUT},
     {.name = "respond", .action = respond, .said = KOUBOSPAR_STACK_RESPOND},
     {.name = "decode", .action = decode, .said = KOUBOSPAR_STACK_DECODE},
     {.name = "encode", .action = encode, .said = KOUBOSPAR_STACK_ENCODE},
@@ -91,7 +99,7 @@ static void measure(int n)
 {
     action = all[n].action;
     for (int paint = 0x5a; paint <= 0xa5; paint += 0x4b) { /* a byte may happen to be written in the colour of one */
-        size_t bytes = used(paint, n == RESPOND ? STACK : 16 * 1024);
+        size_t bytes = used(paint, n == RESPOND || n == TURN ? STACK : 16 * 1024);
         if (bytes > all[n].most)
             all[n].most = bytes;
     }
@@ -100,6 +108,8 @@ static void measure(int n)
         all[n].stops |= 1ull << stop.stop;
     if (n == RUN)
         all[n].stops |= 1ull << run_stop.stop;
+    if (n == TURN)
+        all[n].stops |= 1ull << turn_stop.stop;
 }
 
 static void region(int number, uint64_t base, uint64_t bound, uint64_t permission)
@@ -269,6 +279,58 @@ static void stops(void)
     measure(RUN);
 }
 
+/* Four slots with the machine before, and whose turn it is. */
+static void turn_of(uint64_t count, uint64_t at)
+{
+    slots_before = (struct koubospar_scheduler){.count = count, .place = at};
+    for (int n = 0; n < KOUBOSPAR_SLOTS; n++)
+        slots_before.slots[n].machine = before;
+    measure(TURN);
+}
+
+/* Each refusal, each slot's turn, all slots stopped, and a run that stops for each reason that a locked guest can have. A turn
+ * is a run, whose words are measured above. */
+static void turns(void)
+{
+    static const uint32_t at_40[] = {0x13, 0x0000006f, 0, 0x73, 0x00100073, 0x0400005b, 0x0000005b, 0x0003305b, 0x00032283, 0x0062a023, 0x1400005b};
+    for (size_t w = 0; w < sizeof at_40 / sizeof at_40[0]; w++)
+        for (uint64_t at = 0; at < 6; at++) {
+            start(1, 1 + 2 * (at % 4), at_40[w]);
+            before.x[6] = at == 4 ? 0x7fc : 0x410;
+            budget = 100;
+            turn_of(4, at);
+            turn_of(at, 2);
+        }
+    start(1, 1, 0x0000006f);
+    for (budget = 0; budget < 10002; budget += 10000 / 2)
+        turn_of(4, 1);
+    budget = 10001;
+    turn_of(4, 1); /* 51 */
+    budget = 3;
+    length = LONGEST + 1;
+    turn_of(4, 1); /* 1 */
+    length = 0x42;
+    before.pc = 0x42;
+    turn_of(4, 1); /* 12 */
+    start(1, 1, 0x13);
+    before.pc = 0x41;
+    turn_of(4, 4); /* 10 */
+    before.pc = 0x800;
+    turn_of(4, 3); /* 11 */
+    start(1, 1, 0x13);
+    region(explicit_region(), 0xff, 0x40, 3);
+    turn_of(4, 1); /* 4 */
+    start(0, 1, 0x13);
+    turn_of(4, 1); /* 52 */
+    before.hfi.mode = 2;
+    turn_of(4, 1); /* 3 */
+    for (int n = 0; n < KOUBOSPAR_SLOTS; n++)
+        slots_before.slots[n].stop = 20;
+    measure(TURN); /* 0 */
+    for (number = 0; number < 6; number++)
+        measure(PUT);
+}
+
 static void sheet_of(const char *text)
 {
     length = strlen(text);
@@ -306,6 +368,8 @@ int main(void)
     half_words();
     for (ten = 0; ten < 2; ten++)
         stops();
+    for (ten = 0; ten < 2; ten++)
+        turns();
     sheets();
     measure(PROBE);
     for (place = 0; place < 80; place++)
@@ -313,6 +377,8 @@ int main(void)
     all[STEP].missed = 0x3cffc1b & ~all[STEP].stops; /* 0, 1, 3, 4, 10 to 19, 22 to 25 */
     all[RUN].missed = 0x3fffc1e & ~all[RUN].stops;   /* 1 to 4, 10 to 25 */
     all[RESUME].missed = 0x9 & ~all[RESUME].stops;   /* 0 and 3 */
+    /* 0, 1, 3, 4, 10 to 13, 16 to 21, 23, 25, 50 to 52: a locked guest has no other */
+    all[TURN].missed = 0x1c000002bf3c1bull & ~all[TURN].stops;
     int failed = 0;
     for (int n = 0; n < CALLS; n++) {
         int bad = all[n].most > all[n].said || all[n].missed != 0;

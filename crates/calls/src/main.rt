@@ -7,17 +7,16 @@ use columns::{print, print_decimal, read_file};
 use memory::bytes::{read, write};
 use model::{Fault, HfiState, Machine, REGIONS, Ran, Region, Stepped};
 use setup::regions_from;
+use std::io;
+use std::rt::Files;
 use text::field::{field_at, line_at};
 use text::number::number;
-use text::print::put_hexadecimal;
 use text::row::read_row;
 use text::scan::{position, rest};
 
 // A comma and the number, in hexadecimal.
-fn print_field(n: u64) {
-    let mut room = [b','; 17];
-    let end = put_hexadecimal(&mut room, 1, n);
-    print(&room[..end]);
+fn print_field(rt: &impl Print, n: u64) -> io::Result<()> {
+    print!(rt; ",{n:x}")
 }
 
 // What follows the first c from a position on; the text's end where there is none.
@@ -153,80 +152,75 @@ fn make(call: u64, argument: u64, m: Machine, mem: &mut [u8]) -> Ran {
     }
 }
 
-fn print_regions(regions: [Region; REGIONS]) {
-    let mut i = 0;
-    while i < REGIONS {
-        let r = regions[i];
-        print_field(r.base);
-        print_field(r.bound);
-        print_field(r.permission);
-        i += 1;
+fn print_regions(rt: &impl Print, regions: &[Region; REGIONS]) -> io::Result<()> {
+    for r in regions {
+        print_field(rt, r.base)?;
+        print_field(rt, r.bound)?;
+        print_field(rt, r.permission)?;
     }
+    Ok(())
 }
 
 // The state line: pc and the HFI state.
-fn print_state(pc: u64, h: HfiState) {
-    print(b"\nstate");
-    print_field(pc);
-    print_field(h.mode);
-    print_field(h.reason);
-    print_field(h.epc);
-    print_field(h.options);
-    print_field(h.handler);
-    print_field(h.selector);
-    let regions = h.regions;
-    print_regions(regions);
+fn print_state(rt: &impl Print, pc: u64, h: &HfiState) -> io::Result<()> {
+    print(rt, b"\nstate")?;
+    print_field(rt, pc)?;
+    print_field(rt, h.mode)?;
+    print_field(rt, h.reason)?;
+    print_field(rt, h.epc)?;
+    print_field(rt, h.options)?;
+    print_field(rt, h.handler)?;
+    print_field(rt, h.selector)?;
+    print_regions(rt, &h.regions)?;
     let f = h.fault;
-    print_field(f.occurred);
-    print_field(f.region);
-    print_field(f.op);
-    print_field(f.address);
+    print_field(rt, f.occurred)?;
+    print_field(rt, f.region)?;
+    print_field(rt, f.op)?;
+    print_field(rt, f.address)
 }
 
 // The registers that are not 0.
-fn print_registers(x: [u64; 32]) {
-    print(b"\nx");
-    let mut i = 0;
-    while i < 32 {
+fn print_registers(rt: &impl Print, x: &[u64; 32]) -> io::Result<()> {
+    print(rt, b"\nx")?;
+    for i in 0..32 {
         if x[i] != 0 {
-            print(b",");
-            print_decimal(i as u64);
-            print_field(x[i]);
+            print(rt, b",")?;
+            print_decimal(rt, i as u64)?;
+            print_field(rt, x[i])?;
         }
-        i += 1;
     }
+    Ok(())
 }
 
 // The doublewords that are not 0, of all 65,536 bytes: a call that reached past its memory would show here.
-fn print_memory(mem: &[u8; 65536]) {
-    print(b"\nmemory");
-    let mut a: u64 = 0;
-    while a < 65536 {
+fn print_memory(rt: &impl Print, mem: &[u8; 65536]) -> io::Result<()> {
+    print(rt, b"\nmemory")?;
+    for i in 0..8192 {
+        let a = 8 * i;
         let v = read(mem, a, 8);
         if v != 0 {
-            print_field(a);
-            print_field(v);
+            print_field(rt, a)?;
+            print_field(rt, v)?;
         }
-        a += 8;
     }
-    print(b"\n");
+    print(rt, b"\n")
 }
 
 // What a call gave: the stop in decimal, count and address, and the state afterwards.
-fn print_answer(o: Ran) {
-    print(b"\nstop,");
-    print_decimal(o.stop);
-    print_field(o.count);
-    print_field(o.address);
+fn print_answer(rt: &impl Print, o: Ran) -> io::Result<()> {
+    print(rt, b"\nstop,")?;
+    print_decimal(rt, o.stop)?;
+    print_field(rt, o.count)?;
+    print_field(rt, o.address)?;
     let m = o.machine;
     let hfi = m.hfi;
     let x = m.x;
-    print_state(m.pc, hfi);
-    print_registers(x);
+    print_state(rt, m.pc, &hfi)?;
+    print_registers(rt, &x)
 }
 
 // Makes the call of four lines, whose first begins at a position, and prints what it left.
-fn show(s: &[u8], at: usize) {
+fn show(rt: &impl Print, s: &[u8], at: usize) -> io::Result<()> {
     let state = next_line(s, at);
     let x = next_line(s, state);
     let mut mem = [0u8; 65536];
@@ -234,8 +228,8 @@ fn show(s: &[u8], at: usize) {
     let m = machine(line_at(s, state), registers(line_at(s, x)));
     let call = numbers(line_at(s, at));
     let n = lent(call[3]);
-    print_answer(make(call[1], call[2], m, &mut mem[..n]));
-    print_memory(&mem);
+    print_answer(rt, make(call[1], call[2], m, &mut mem[..n]))?;
+    print_memory(rt, &mem)
 }
 
 // Where the call after the one that begins at a position begins, five lines on.
@@ -250,23 +244,24 @@ fn next_call(s: &[u8], at: usize) -> usize
 }
 
 // Makes each call of a text.
-fn show_all(s: &[u8]) {
+fn show_all(rt: &impl Print, s: &[u8]) -> io::Result<()> {
     let mut at = 0;
     while at < s.len() {
-        print(line_at(s, at));
-        show(s, next_line(s, at));
+        print(rt, line_at(s, at))?;
+        show(rt, s, next_line(s, at))?;
         at = next_call(s, at);
     }
+    Ok(())
 }
 
 // Makes each call of a file.
-fn show_file(name: &[u8]) {
+fn show_file(rt: &(impl Files + Print + Eprint), name: &str) -> io::Result<()> {
     let mut room = [0u8; 655360];
-    let n = read_file(name, &mut room);
-    show_all(&room[..n]);
+    let n = read_file(rt, name, &mut room);
+    show_all(rt, &room[..n])
 }
 
-fn main() {
-    show_file(b"calls-1");
-    show_file(b"calls-2");
+fn main(rt: HostRuntime) -> io::Result<()> {
+    show_file(&rt, "calls-1")?;
+    show_file(&rt, "calls-2")
 }

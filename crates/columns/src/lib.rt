@@ -2,13 +2,13 @@
 // every other line of it, and each of its fields stands at a fixed position of the line, padded with spaces.
 #![tactic(auto)]
 
-ghost use Rattle.std.specs.Prelude.{◌≡◌, take, drop};
-ghost use Rattle.io.specs.Counts.{IsPrefixLen};
+ghost use Rattle.std.specs.Prelude.{◌≡◌, ◌≤◌, length, take, drop};
 ghost use Rattle.text.specs.Scan.{firstThat, is};
 ghost use Rattle.text.specs.Number.{number as Number·number};
 
-use input::Input;
-use libc::STDOUT_FILENO;
+use input::{fail, read_stored};
+use std::io;
+use std::rt::Files;
 use text::number::number;
 use text::scan::{front, position, rest};
 
@@ -35,35 +35,28 @@ pub fn unpadded(s: &[u8]) -> &[u8]
 
 // The three below write to standard output. What reaches it is left free: no contract can speak of it, and each program is
 // held to its stored output.
-pub fn print(text: &[u8]) {
-    io::write_all(STDOUT_FILENO, text);
+pub fn print(rt: &impl Print, text: &[u8]) -> io::Result<()> {
+    rt.write_all(text)
 }
 
-pub fn print_decimal(n: u64) {
-    io::print_decimal(STDOUT_FILENO, n);
+pub fn print_decimal(rt: &impl Print, n: u64) -> io::Result<()> {
+    print!(rt; "{n}")
 }
 
 // At least `width` digits.
-pub fn print_hexadecimal(n: u64, width: usize) {
-    io::print_hex(STDOUT_FILENO, n, width);
+pub fn print_hexadecimal(rt: &impl Print, n: u64, width: usize) -> io::Result<()> {
+    print!(rt; "{n:0width$x}")
 }
 
 // The bytes of a file, as many as there is room for; none where it cannot be read, which is told on standard error. Their
 // count lies within the room; which bytes they are and how many is left free: no contract can speak of what a file holds.
-pub fn read_file(path: &[u8], room: &mut [u8]) -> usize
-    ensures { IsPrefixLen result room.new }
+pub fn read_file(rt: &(impl Files + Eprint), path: &str, room: &mut [u8]) -> usize
+    ensures { result ≤ length room.new }
 {
-    let fd = os::open_read(path);
-    if fd < 0 {
-        os::fail(path);
-        return 0;
-    }
-    let read = input::read_to_end(fd, room);
-    libc::close(fd);
-    match read {
-        Input::Whole(n) => n,
-        Input::Failed => {
-            os::fail(path);
+    match read_stored(rt, path, room) {
+        Ok(n) => n,
+        Err(e) => {
+            fail(rt, path, e);
             0
         }
     }

@@ -1,15 +1,15 @@
 -- Every expansion is an instruction that encode takes, so that it has a long word.
 -- Assumes nothing.
 use mathlib.Core.Path.{◌≡◌, refl, sym, ap, ◌∙◌}
-use mathlib.Core.Bool.{Bool, true, false, cond, ◌&&◌}
+use mathlib.Core.Bool.{Bool, true, false, cond}
 use mathlib.Core.List.{List, [], ◌∷◌}
 use Prim.Native.Nat.{ℕ, ◌^◌, ◌<◌, ◌≤◌}
 use native.Mathlib.Nat.{lt_of_lt_of_le}
 use native.Mathlib.Omega.{arith}
-use lib.Dec.{eqb, ltb, lit<, lit≤}
+use lib.Dec.{ltb, lit<, lit≤}
 use lib.Pow.{pow_pos, pow_mono}
 use borrow.Author.Tests.{lt-ltb, eq-eqb}
-use Rattle.words.specs.Word.{field, sext, fitsSigned, width, lay}
+use Rattle.words.specs.Word.{field, sext, fitsSigned, width}
 use Rattle.words.proofs.Fields.{field_lt, Fit, Are, lay-lt, lay-read}
 use Rattle.words.proofs.Extend.{sext-field, low_fits, sext-wider}
 use Rattle.instructions.specs.Encode.{two, multiple, in_range, encodeFields, encodeWord}

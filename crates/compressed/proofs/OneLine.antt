@@ -8,8 +8,7 @@ use lib.Dec.{eqb}
 use borrow.Author.Tests.{eqb-true, eqb-false, eq-eqb, not-true}
 use Rattle.words.specs.Word.{field}
 use Rattle.instructions.specs.declared.instruction.Instruction.{Instruction}
-use Rattle.instructions.specs.declared.instruction.Decoded.{Decoded}
-use Rattle.instructions.specs.declared.instruction.Decoded.TheVariants.{Legal, Illegal}
+use Rattle.instructions.specs.declared.instruction.Decoded.TheVariants.{Legal}
 use Rattle.instructions.proofs.Tests.{and_both, and-of}
 use Rattle.compressed.specs.Table.{Bits, matches, matchesOne, Line, takes, table}
 use Rattle.compressed.specs.Expand.{expandBy, expandHalf}

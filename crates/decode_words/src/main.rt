@@ -9,6 +9,8 @@ use columns::{column, hexadecimal_at, print, print_decimal, print_hexadecimal, r
 use decode::decode;
 use encode::encode;
 use instructions::instruction::{Decoded, Encoded};
+use std::io;
+use std::rt::Files;
 
 // Document 01's number.
 fn number_of(d: Decoded) -> u64
@@ -20,24 +22,24 @@ fn number_of(d: Decoded) -> u64
     }
 }
 
-fn print_encoded(e: Encoded) {
+fn print_encoded(rt: &impl Print, e: Encoded) -> io::Result<()> {
     match e {
-        Encoded::Word(w) => print_hexadecimal(w as u64, 8),
-        Encoded::OutOfRange => print(b"out of range"),
+        Encoded::Word(w) => print_hexadecimal(rt, w as u64, 8),
+        Encoded::OutOfRange => print(rt, b"out of range"),
     }
 }
 
 // The word, its number and, for a legal one, the word that encoding the decoded instruction gives.
-fn print_word(w: u32) {
+fn print_word(rt: &impl Print, w: u32) -> io::Result<()> {
     let d = decode(w);
-    print_hexadecimal(w as u64, 8);
-    print(b" ");
-    print_decimal(number_of(d));
+    print_hexadecimal(rt, w as u64, 8)?;
+    print(rt, b" ")?;
+    print_decimal(rt, number_of(d))?;
     if let Decoded::Legal(i) = d {
-        print(b" ");
-        print_encoded(encode(i));
+        print(rt, b" ")?;
+        print_encoded(rt, encode(i))?;
     }
-    print(b"\n");
+    print(rt, b"\n")
 }
 
 // The word of a record is its first column.
@@ -46,42 +48,39 @@ fn word_of(r: &[u8]) -> u32 {
 }
 
 // Words with a text: 45 bytes each.
-fn rows(s: &[u8]) {
-    let mut at = 0;
-    while 45 <= s.len() - at {
-        let r = column(s, at, 45);
-        print(column(r, 9, 24));
-        print_word(word_of(r));
-        at += 45;
+fn rows(rt: &impl Print, s: &[u8]) -> io::Result<()> {
+    for r in s.chunks_exact(45) {
+        print(rt, column(r, 9, 24))?;
+        print_word(rt, word_of(r))?;
     }
+    Ok(())
 }
 
 // Words alone: 9 bytes each.
-fn words(s: &[u8]) {
-    let mut at = 0;
-    while 9 <= s.len() - at {
-        print_word(word_of(column(s, at, 9)));
-        at += 9;
+fn words(rt: &impl Print, s: &[u8]) -> io::Result<()> {
+    for r in s.chunks_exact(9) {
+        print_word(rt, word_of(r))?;
     }
+    Ok(())
 }
 
-fn rows_of(path: &[u8]) {
+fn rows_of(rt: &(impl Files + Print + Eprint), path: &str) -> io::Result<()> {
     let mut room = [0u8; 16384];
-    let n = read_file(path, &mut room);
-    rows(&room[..n]);
+    let n = read_file(rt, path, &mut room);
+    rows(rt, &room[..n])
 }
 
-fn words_of(path: &[u8]) {
+fn words_of(rt: &(impl Files + Print + Eprint), path: &str) -> io::Result<()> {
     let mut room = [0u8; 131072];
-    let n = read_file(path, &mut room);
-    words(&room[..n]);
+    let n = read_file(rt, path, &mut room);
+    words(rt, &room[..n])
 }
 
-fn main() {
-    print(b"llvm\n");
-    rows_of(b"llvm.columns");
-    print(b"document\n");
-    rows_of(b"document.columns");
-    print(b"words\n");
-    words_of(b"words.columns");
+fn main(rt: HostRuntime) -> io::Result<()> {
+    print(&rt, b"llvm\n")?;
+    rows_of(&rt, "llvm.columns")?;
+    print(&rt, b"document\n")?;
+    rows_of(&rt, "document.columns")?;
+    print(&rt, b"words\n")?;
+    words_of(&rt, "words.columns")
 }

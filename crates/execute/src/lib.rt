@@ -22,6 +22,7 @@ use instructions::instruction::Instruction;
 use instructions::kind::{BranchKind, LoadKind, StoreKind, SystemKind, UpperKind};
 use std::num::wrapping_add_u64;
 
+#[tactic(auto, unfolding(model::specs::Step::perform))]
 fn upper(
     x: &mut [u64; 32],
     pc: u64,
@@ -41,6 +42,7 @@ fn upper(
     write_back(x, hfi, next, rd, v)
 }
 
+#[tactic(auto, unfolding(model::specs::Step::perform))]
 fn branch(
     x: &[u64; 32],
     pc: u64,
@@ -61,6 +63,7 @@ fn branch(
 }
 
 // ECALL, which HFI may redirect to the handler, and EBREAK.
+#[tactic(auto, unfolding(model::specs::Step::perform))]
 fn system(pc: u64, hfi: Control, k: SystemKind) -> Effect
     ensures { (x numbers mem : List ℕ) (next : ℕ) → effectWith result x numbers mem ≡ perform (hart x pc hfi numbers) mem next (System k) }
 {
@@ -76,6 +79,7 @@ fn system(pc: u64, hfi: Control, k: SystemKind) -> Effect
     }
 }
 
+#[tactic(auto, unfolding(model::specs::Step::perform))]
 fn load(
     x: &mut [u64; 32],
     pc: u64,
@@ -95,6 +99,7 @@ fn load(
     load_store::load(x, pc, hfi, rs, mem, next, k, rd, a)
 }
 
+#[tactic(auto, unfolding(model::specs::Step::perform))]
 fn store(
     x: &[u64; 32],
     pc: u64,
@@ -114,6 +119,15 @@ fn store(
     load_store::store(pc, hfi, rs, mem, next, k, register(x, rs2), a)
 }
 
+#[tactic(
+    auto,
+    unfolding(
+        model::specs::Step::perform,
+        model::specs::Step::executeInstruction,
+        model::specs::Outcome::allowed,
+        model::specs::Hfi::hfiStop
+    )
+)]
 fn hload(
     x: &mut [u64; 32],
     pc: u64,
@@ -138,6 +152,15 @@ fn hload(
     load_store::hload(x, pc, hfi, rs, mem, next, k, region, rd, operand, imm)
 }
 
+#[tactic(
+    auto,
+    unfolding(
+        model::specs::Step::perform,
+        model::specs::Step::executeInstruction,
+        model::specs::Outcome::allowed,
+        model::specs::Hfi::hfiStop
+    )
+)]
 fn hstore(
     x: &[u64; 32],
     pc: u64,
@@ -174,6 +197,16 @@ fn hstore(
 }
 
 // One instruction, question 8 first; `next` is the pc after it.
+#[tactic(
+    auto,
+    using(crate::proofs::Ranges::below),
+    unfolding(
+        model::specs::Step::perform,
+        model::specs::Step::executeInstruction,
+        model::specs::Outcome::allowed,
+        model::specs::Hfi::hfiStop
+    )
+)]
 pub fn execute(
     x: &mut [u64; 32],
     pc: u64,

@@ -32,6 +32,7 @@ fn short(h: u64, at: u64) -> u64
     put(bits(h, at, 3), 1, 3)
 }
 
+#[tactic(auto, unfolding(compressed::specs::Expand::expandHalf))]
 fn quadrant_0(h: u64) -> Decoded
     requires { (h < 2 ^ 16) × (field h 0 2 ≡ 0) }
     ensures { result ≡ expandHalf h }
@@ -55,6 +56,7 @@ fn quadrant_0(h: u64) -> Decoded
 }
 
 // C.ADDI16SP and C.LUI.
+#[tactic(auto, unfolding(compressed::specs::Expand::expandHalf))]
 fn upper(h: u64) -> Decoded
     requires { (h < 2 ^ 16) × (field h 0 2 ≡ 1) × (field h 13 3 ≡ 3) }
     ensures { result ≡ expandHalf h }
@@ -70,6 +72,7 @@ fn upper(h: u64) -> Decoded
 }
 
 // The C.xx between two of x8 to x15.
+#[tactic(auto, unfolding(compressed::specs::Expand::expandHalf))]
 fn between_registers(h: u64) -> Decoded
     requires { (h < 2 ^ 16) × (field h 0 2 ≡ 1) × (field h 13 3 ≡ 4) × (field h 10 2 ≡ 3) }
     ensures { result ≡ expandHalf h }
@@ -89,6 +92,7 @@ fn between_registers(h: u64) -> Decoded
 }
 
 // What has the destination as its first source.
+#[tactic(auto, unfolding(compressed::specs::Expand::expandHalf))]
 fn arithmetic(h: u64) -> Decoded
     requires { (h < 2 ^ 16) × (field h 0 2 ≡ 1) × (field h 13 3 ≡ 4) }
     ensures { result ≡ expandHalf h }
@@ -103,6 +107,7 @@ fn arithmetic(h: u64) -> Decoded
     }
 }
 
+#[tactic(auto, unfolding(compressed::specs::Expand::expandHalf))]
 fn quadrant_1(h: u64) -> Decoded
     requires { (h < 2 ^ 16) × (field h 0 2 ≡ 1) }
     ensures { result ≡ expandHalf h }
@@ -128,6 +133,7 @@ fn quadrant_1(h: u64) -> Decoded
 }
 
 // C.JR, C.MV, C.EBREAK, C.JALR and C.ADD.
+#[tactic(auto, unfolding(compressed::specs::Expand::expandHalf))]
 fn jump_or_add(h: u64) -> Decoded
     requires { (h < 2 ^ 16) × (field h 0 2 ≡ 2) × (field h 13 3 ≡ 4) }
     ensures { result ≡ expandHalf h }
@@ -153,6 +159,7 @@ fn jump_or_add(h: u64) -> Decoded
     Decoded::Illegal
 }
 
+#[tactic(auto, unfolding(compressed::specs::Expand::expandHalf))]
 fn quadrant_2(h: u64) -> Decoded
     requires { (h < 2 ^ 16) × (field h 0 2 ≡ 2) }
     ensures { result ≡ expandHalf h }
@@ -182,6 +189,7 @@ fn quadrant_2(h: u64) -> Decoded
 }
 
 // The instruction of any half-word.
+#[tactic(auto, unfolding(compressed::specs::Expand::expandHalf))]
 pub fn expand(h: u16) -> Decoded
     ensures { result ≡ expandHalf h }
 {

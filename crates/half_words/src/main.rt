@@ -6,32 +6,29 @@ use columns::{print, print_hexadecimal};
 use encode::encode;
 use expand::expand;
 use instructions::instruction::{Decoded, Encoded};
+use std::io;
 
-fn print_encoded(e: Encoded) {
+fn print_encoded(rt: &impl Print, e: Encoded) -> io::Result<()> {
     match e {
-        Encoded::Word(w) => print_hexadecimal(w as u64, 8),
-        Encoded::OutOfRange => print(b"out of range"),
+        Encoded::Word(w) => print_hexadecimal(rt, w as u64, 8),
+        Encoded::OutOfRange => print(rt, b"out of range"),
     }
 }
 
 // The half-word and its long word; nothing of an illegal one.
-fn print_half_word(h: u16) {
+fn print_half_word(rt: &impl Print, h: u16) -> io::Result<()> {
     if let Decoded::Legal(i) = expand(h) {
-        print_hexadecimal(h as u64, 4);
-        print(b" ");
-        print_encoded(encode(i));
-        print(b"\n");
+        print_hexadecimal(rt, h as u64, 4)?;
+        print(rt, b" ")?;
+        print_encoded(rt, encode(i))?;
+        print(rt, b"\n")?;
     }
+    Ok(())
 }
 
-fn half_words() {
-    let mut h = 0u64;
-    while h < 65536 {
-        print_half_word(h as u16);
-        h += 1;
+fn main(rt: HostRuntime) -> io::Result<()> {
+    for h in 0..=u16::MAX {
+        print_half_word(&rt, h)?;
     }
-}
-
-fn main() {
-    half_words();
+    Ok(())
 }

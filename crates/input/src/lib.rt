@@ -1,47 +1,48 @@
-// Reading a descriptor to its end, for the programs over sheets and stored data.
+// Reading to the end, for the programs over sheets and stored data.
 #![tactic(auto)]
 
 ghost use Rattle.std.specs.Prelude.{◌≡◌, take};
-ghost use Rattle.input.specs.Held.{Held};
+ghost use Rattle.std.specs.Io.{ReadsAtMost};
 
+use std::fmt::Display;
+use std::io::Read;
+use std::rt::Files;
+use std::{fs, io};
 use text::scan::front;
 
 // One byte more than the longest sheet, so that a longer file is seen to be too long.
 pub const ROOM: usize = 65537;
 
-// How many bytes were read up to the end, or until the room was full; or a read failed, and nothing is known of the rest.
-#[derive(Clone, Copy)]
-pub enum Input {
-    Whole(usize),
-    Failed,
-}
-
-// The bytes of a descriptor, from the room's start on. A count lies within the room. Which of the two answers it is, the
-// count and the bytes are left free, since no contract can speak of what a descriptor holds. `libc::read` answers -1 where
-// it fails, and 0 at the end.
-pub fn read_to_end(fd: i32, room: &mut [u8]) -> Input
-    ensures { Held result room.new }
+// Reads up to the end, or until the room is full, and counts the bytes, which stand from the room's start on. A count lies
+// within the room. A read that fails is the answer, and nothing is then known of the rest. Which of the two answers it is,
+// the count and the bytes are left free, since no contract can speak of what a file holds.
+pub fn read_to_end<R: Read>(source: &mut R, room: &mut [u8]) -> io::Result<usize>
+    ensures { ReadsAtMost result room.new }
 {
     let mut n = 0;
     while n < room.len() {
-        let got = libc::read(fd, &mut room[n..]);
-        if got < 0 {
-            return Input::Failed;
-        }
-        let more = io::count(got, &room[n..]);
+        let more = source.read(&mut room[n..])?;
         if more == 0 {
-            return Input::Whole(n);
+            return Ok(n);
         }
         n += more;
     }
-    Input::Whole(n)
+    Ok(n)
 }
 
 // The same with room for every sheet. An array's type says its length, so whoever lends one owes no proof of it.
-pub fn read_sheet(fd: i32, room: &mut [u8; ROOM]) -> Input
-    ensures { Held result room.new }
+pub fn read_sheet<R: Read>(source: &mut R, room: &mut [u8; ROOM]) -> io::Result<usize>
+    ensures { ReadsAtMost result room.new }
 {
-    read_to_end(fd, room)
+    read_to_end(source, room)
+}
+
+// The same of a file.
+pub fn read_stored(rt: &impl Files, path: &str, room: &mut [u8]) -> io::Result<usize>
+    ensures { ReadsAtMost result room.new }
+{
+    let mut file = fs::open(rt, path)?;
+    read_to_end(&mut file, room)
 }
 
 // The bytes that were counted.
@@ -49,4 +50,9 @@ pub fn counted(room: &[u8; ROOM], n: usize) -> &[u8]
     ensures { result.now ≡ take n room.now }
 {
     front(room, n)
+}
+
+// One line on standard error: what failed, and why. Where that cannot be written either, nobody can be told.
+pub fn fail(rt: &impl Eprint, what: &str, why: impl Display + Drop) {
+    let _ = eprintln!(rt; "{what}: {why}");
 }

@@ -22,6 +22,7 @@ use memory::width::{load_width, store_width};
 use model::{LOAD_OP, READ, STORE_OP, Verdict, WRITE};
 
 // What the verdict on a load of kind `k` at `a` leads to.
+#[tactic(auto, unfolding(model::specs::Outcome::settle))]
 fn finish_load(
     x: &mut [u64; 32],
     pc: u64,
@@ -94,6 +95,7 @@ pub fn hload(
 }
 
 // What the verdict on a store of `value` at `a` leads to.
+#[tactic(auto, unfolding(model::specs::Outcome::settle))]
 fn finish_store(
     pc: u64,
     hfi: Control,

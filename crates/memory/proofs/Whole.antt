@@ -1,14 +1,14 @@
 -- One region that decides a whole access: over any list of numbers.
 -- Assumes nothing.
-use Rattle.std.proofs.Common.{◌≡◌, ℕ, suc, ◌+◌, ◌-◌, ◌%◌, ◌^◌, ◌<◌, ◌≤◌, Bool, true, false, cond, not, ◌&&◌, eqb, ltb, leb, List, [], ◌∷◌, length, get_or, drop, sym, refl, ap, ◌∙◌, ap₂, zero-add, arith, lit≤, drop_of_length-le, drop-cons, ltb-false, ltb-true, ne_eqb, le-leb, leb-false, leb-true}
+use Rattle.std.proofs.Common.{◌≡◌, ℕ, suc, ◌+◌, ◌-◌, ◌%◌, ◌^◌, ◌<◌, ◌≤◌, Bool, true, false, cond, ◌&&◌, eqb, ltb, leb, List, [], ◌∷◌, length, get_or, drop, sym, refl, ap, ◌∙◌, ap₂, zero-add, arith, lit≤, drop_of_length-le, drop-cons, ltb-false, ltb-true, ne_eqb, le-leb, leb-false, leb-true}
 use mathlib.Core.Bool.{false≢true}
 use lib.Bits.{bit_and}
 use borrow.Author.Tests.{lt-leb}
 use Rattle.instructions.proofs.Tests.{and_both}
 use Rattle.model.specs.Machine.{region}
-use Rattle.model.specs.Regions.{execute, codeRegions, permits, maskZeros, implicitRule, matches, firstMatch, granting, implicitGrants}
+use Rattle.model.specs.Regions.{execute, codeRegions, permits, maskZeros, implicitRule, matches, firstMatch, implicitGrants}
 use Rattle.model.specs.Bytes.{byte_of}
-use Rattle.model.specs.Access.{implicitAccess, fetchAccess, scan, firstRefused, verdict}
+use Rattle.model.specs.Access.{implicitAccess, fetchAccess, firstRefused, verdict}
 use Rattle.model.specs.declared.Verdict.TheVariants.{Passed}
 use Rattle.model.proofs.Cleared.{passes}
 use Rattle.model.specs.declared.Region.{Region}

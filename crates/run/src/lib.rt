@@ -83,6 +83,7 @@ fn run(
 }
 
 // A run of any machine over any memory, with any budget.
+#[tactic(auto, unfolding(model::specs::Run::runCall))]
 pub fn run_call(m: Machine, mem: &mut [u8], budget: u64) -> Ran
     ensures { ranWith result mem.new ≡ runCall m mem.old budget }
 {

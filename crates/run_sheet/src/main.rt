@@ -1,24 +1,31 @@
 // Reads a run sheet from standard input, to its end, and prints the answer. Whatever goes wrong before the answer is whole
-// is told on standard error: Rattle has no exit status.
+// is told on standard error; the exit status is 0 all the same.
 #![tactic(auto)]
 
-use input::Input;
-use libc::{STDERR_FILENO, STDIN_FILENO, STDOUT_FILENO};
+use input::fail;
+use std::env::{Env, FillError};
 
-fn main() {
-    if 1 < os::arg_count() {
-        io::write_all(STDERR_FILENO, b"usage: run_sheet < SHEET\n");
+// Argument 0 is the program's own name.
+fn has_argument(rt: &impl Env) -> bool {
+    !matches!(rt.arg(1, &mut []), Err(FillError::NotPresent))
+}
+
+fn main(rt: HostRuntime) {
+    if has_argument(&rt) {
+        let _ = eprintln!(rt; "usage: run_sheet < SHEET");
         return;
     }
     let mut room = [0u8; input::ROOM];
-    let read = input::read_sheet(STDIN_FILENO, &mut room);
-    let Input::Whole(n) = read else {
-        os::fail(b"run_sheet: standard input");
-        return;
-    };
+    match input::read_sheet(&mut rt.reader(), &mut room) {
+        Ok(n) => answer(&rt, input::counted(&room, n)),
+        Err(e) => fail(&rt, "run_sheet: standard input", e),
+    }
+}
+
+fn answer(rt: &(impl Print + Eprint), sheet: &[u8]) {
     let mut answer = [0u8; respond::MOST];
-    let r = respond::respond(input::counted(&room, n), &mut answer);
-    if !io::write_all(STDOUT_FILENO, &answer[..r]) {
-        os::fail(b"run_sheet: standard output");
+    let r = respond::respond(sheet, &mut answer);
+    if let Err(e) = rt.write_all(&answer[..r]) {
+        fail(rt, "run_sheet: standard output", e);
     }
 }

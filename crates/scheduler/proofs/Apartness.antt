@@ -286,3 +286,15 @@ apartness p gs n f a i =
       bytes = λ b o. refl;
       apart = λ k b j ne w o. a n k b i j ne w o;
     })
+
+-- a main loop that changes nothing between the turns leaves alone what the page asks for
+in_turn-untouched : (p : State) (allowances : List ℕ) → Follow Untouched p (in_turn p allowances)
+unfolding in_turn
+in_turn-untouched p [] = tt
+in_turn-untouched p (a ∷ rest) =
+    let g : Given = record { scheduler = p.scheduler; memory = p.memory; allowance = a } in
+    (record { slots = refl; count = refl; memory = refl }, in_turn-untouched (after g) rest)
+
+-- so of its turns, whatever their allowances
+pub apart-in_turn : (p : State) (allowances : List ℕ) (n : ℕ) → Apart p.scheduler → Taking p.scheduler n → Alike p (alone p n) n (in_turn p allowances) (aloneTurns p n (in_turn p allowances))
+apart-in_turn p allowances n = apartness p (in_turn p allowances) n (in_turn-untouched p allowances)

@@ -10,7 +10,7 @@ use lib.Dec.{eqb, leb, ltb}
 use lib.ListN.{length}
 use borrow.Author.Tests.{eqb-true, eqb-false, eq-eqb, ne_eqb, ltb-true, ltb-false}
 use Rattle.scheduler.specs.Turn.{slot, stopped, place_in, following, firstUnstopped, nextSlot, Left, turnCall}
-use Rattle.scheduler.specs.Turns.{Given, left, State, before, after, Follow, turnsOf}
+use Rattle.scheduler.specs.Turns.{Given, left, State, before, after, Follow, turnsOf, in_turn}
 use Rattle.scheduler.specs.Fairness.{SamePlace, StaysUnstopped, Fairness}
 use Rattle.scheduler.specs.declared.Scheduler.{Scheduler}
 use Rattle.scheduler.proofs.Round.{distance, Numbered, Found, first_found, distance-below, distance-past, distance-one, distance-last, following-numbered, place-numbered, place_same}
@@ -142,3 +142,15 @@ fairness p (g ∷ gs) n k f u l h m e = go (eqb (left g).result.slot k) refl (fa
         (as-counted g.scheduler.count (after g).scheduler.count (start (after g).scheduler) n k (count_kept g) t.1) (rest-too n g gs e) in
         rw (mine k g gs (eqb-true _ k q), z) (omega arith)
     go false q later = rw (others k g gs (eqb-false _ k q)) (later f.1 u.1 l kept.high m (rest-too n g gs e))
+
+-- the turns of a main loop that changes nothing each get the place and count that the last one left
+in_turn-same : (p : State) (allowances : List ℕ) → Follow SamePlace p (in_turn p allowances)
+unfolding in_turn
+in_turn-same p [] = tt
+in_turn-same p (a ∷ rest) =
+    let g : Given = record { scheduler = p.scheduler; memory = p.memory; allowance = a } in
+    (record { place = refl; count = refl }, in_turn-same (after g) rest)
+
+pub fair-in_turn : (p : State) (allowances : List ℕ) (n k : ℕ) → StaysUnstopped n (in_turn p allowances) → 1 ≤ n → n ≤ p.scheduler.count → 1 ≤ k
+    → turnsOf n (in_turn p allowances) ≡ [] → length (turnsOf k (in_turn p allowances)) ≤ 1
+fair-in_turn p allowances n k = fairness p (in_turn p allowances) n k (in_turn-same p allowances)

@@ -4,3 +4,4 @@ pub mod Turns
 pub mod Fairness
 pub mod Apartness
 pub mod Total
+pub mod TurnRows

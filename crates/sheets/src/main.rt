@@ -2,56 +2,63 @@
 // answer, and is told on standard error.
 #![tactic(auto)]
 
-use columns::{column, unpadded};
-use input::Input;
-use libc::STDOUT_FILENO;
+use columns::{column, print, unpadded};
+use input::{counted, fail, read_stored};
+use std::rt::Files;
+use std::{io, str};
 
-fn read_stored(name: &[u8], room: &mut [u8; input::ROOM]) -> Input {
-    let fd = os::open_read(name);
-    if fd < 0 {
-        return Input::Failed;
-    }
-    let read = input::read_sheet(fd, room);
-    libc::close(fd);
-    read
+fn print_answer(rt: &impl Print, name: &str, sheet: &[u8]) -> io::Result<()> {
+    let mut answer = [0u8; respond::MOST];
+    let r = respond::respond(sheet, &mut answer);
+    print(rt, name.as_bytes())?;
+    print(rt, b"\n")?;
+    print(rt, &answer[..r])
 }
 
 // The answer to one stored sheet, under its name.
-fn show(name: &[u8]) {
+fn show(rt: &(impl Files + Print + Eprint), name: &str) -> io::Result<()> {
     let mut room = [0u8; input::ROOM];
-    let read = read_stored(name, &mut room);
-    let Input::Whole(n) = read else {
-        os::fail(name);
-        return;
-    };
-    let mut answer = [0u8; respond::MOST];
-    let r = respond::respond(input::counted(&room, n), &mut answer);
-    io::write_all(STDOUT_FILENO, name);
-    io::write_all(STDOUT_FILENO, b"\n");
-    io::write_all(STDOUT_FILENO, &answer[..r]);
-}
-
-// Each row of an index is a name of at most 31 bytes, padded with spaces, and the line's end.
-fn show_all(index: &[u8]) {
-    let mut at = 0;
-    while 32 <= index.len() - at {
-        show(unpadded(column(index, at, 31)));
-        at += 32;
+    match read_stored(rt, name, &mut room) {
+        Ok(n) => print_answer(rt, name, counted(&room, n)),
+        Err(e) => {
+            fail(rt, name, e);
+            Ok(())
+        }
     }
 }
 
-fn show_index(name: &[u8]) {
+// A row's name. Names of other bytes than text name no file here.
+fn show_row(rt: &(impl Files + Print + Eprint), row: &[u8]) -> io::Result<()> {
+    match str::from_utf8(unpadded(column(row, 0, 31))) {
+        Ok(name) => show(rt, name),
+        Err(e) => {
+            fail(rt, "a name in an index", e);
+            Ok(())
+        }
+    }
+}
+
+// Each row of an index is a name of at most 31 bytes, padded with spaces, and the line's end.
+fn show_all(rt: &(impl Files + Print + Eprint), index: &[u8]) -> io::Result<()> {
+    for row in index.chunks_exact(32) {
+        show_row(rt, row)?;
+    }
+    Ok(())
+}
+
+fn show_index(rt: &(impl Files + Print + Eprint), name: &str) -> io::Result<()> {
     let mut room = [0u8; input::ROOM];
-    let read = read_stored(name, &mut room);
-    let Input::Whole(n) = read else {
-        os::fail(name);
-        return;
-    };
-    show_all(input::counted(&room, n));
+    match read_stored(rt, name, &mut room) {
+        Ok(n) => show_all(rt, counted(&room, n)),
+        Err(e) => {
+            fail(rt, name, e);
+            Ok(())
+        }
+    }
 }
 
 // The second index names what cannot be read, so that no answer stands in the stored output.
-fn main() {
-    show_index(b"index");
-    show_index(b"unreadable");
+fn main(rt: HostRuntime) -> io::Result<()> {
+    show_index(&rt, "index")?;
+    show_index(&rt, "unreadable")
 }

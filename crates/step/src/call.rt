@@ -22,6 +22,7 @@ fn refused(stop: u64, m: Machine) -> Stepped
 }
 
 // One step of any machine over any memory.
+#[tactic(auto, unfolding(model::specs::Step::stepCall))]
 pub fn step_call(m: Machine, mem: &mut [u8]) -> Stepped
     ensures { steppedWith result mem.new ≡ stepCall m mem.old }
 {
@@ -54,6 +55,7 @@ pub fn step_call(m: Machine, mem: &mut [u8]) -> Stepped
 }
 
 // `v` in x10, and pc past the word that it stands at.
+#[tactic(auto, unfolding(model::specs::Step::resumeCall))]
 pub fn resume_call(m: Machine, v: u64) -> Stepped
     ensures { result ≡ resumeCall m v }
 {

@@ -14,6 +14,7 @@ use model::Verdict;
 use std::num::wrapping_add_u64;
 
 // Questions 5 and 6 by halves: of the two bytes at `pc` and, where these are of a long word, of the next two.
+#[tactic(auto, unfolding(crate::specs::Fetch::fetchVerdict))]
 fn check_halves(mode: u64, rs: &[u64; REGION_NUMBERS], mem: &[u8], pc: u64) -> Verdict
     ensures { result ≡ fetchVerdict mode (regionsOf rs.now) mem.now pc }
 {
@@ -53,6 +54,7 @@ pub fn size_at(mem: &[u8], pc: u64) -> u64
 }
 
 // The instruction of the word at `pc`.
+#[tactic(auto, unfolding(crate::specs::Fetch::word_at))]
 pub fn word_at(mem: &[u8], pc: u64) -> Decoded
     requires { (pc + 2 ≤ length mem.now) × (isLong (halfAt mem.now pc) ≡ true → pc + 4 ≤ length mem.now) }
     ensures { result ≡ word_at mem.now pc }

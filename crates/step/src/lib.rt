@@ -22,6 +22,7 @@ pub mod call;
 pub mod fetch;
 
 // Question 7, and the rest of the step.
+#[tactic(auto, unfolding(model::specs::Step::executeWord))]
 fn execute_word(
     x: &mut [u64; 32],
     pc: u64,

@@ -6,6 +6,8 @@ use columns::{
 };
 use memory::bytes::write;
 use model::{Machine, Ran};
+use std::io;
+use std::rt::Files;
 
 fn registers(r: &[u8]) -> [u64; 32] {
     let mut x = [0u64; 32];
@@ -27,39 +29,38 @@ fn run_in(m: Machine, mem: &mut [u8; 2097152], budget: u64) -> Ran {
     run::run_call(m, mem, budget)
 }
 
-fn print_end(o: Ran) {
+fn print_end(rt: &impl Print, o: Ran) -> io::Result<()> {
     let m = o.machine;
-    print(b" ");
-    print_decimal(o.stop);
+    print(rt, b" ")?;
+    print_decimal(rt, o.stop)?;
     if o.stop == 18 {
-        print(b" ");
-        print_hexadecimal(m.pc, 1);
-        print(b" ");
-        print_hexadecimal(m.x[10], 1);
+        print(rt, b" ")?;
+        print_hexadecimal(rt, m.pc, 1)?;
+        print(rt, b" ")?;
+        print_hexadecimal(rt, m.x[10], 1)?;
     }
-    print(b"\n");
+    print(rt, b"\n")
 }
 
-fn case(r: &[u8]) {
+fn case(rt: &impl Print, r: &[u8]) -> io::Result<()> {
     let mut mem = [0u8; 2097152];
     fill(r, &mut mem);
     let o = run_in(machine(registers(r), 0x100000), &mut mem, 1000);
-    print(unpadded(column(r, 0, 64)));
-    print_end(o);
+    print(rt, unpadded(column(r, 0, 64)))?;
+    print_end(rt, o)
 }
 
 // 257 bytes each.
-fn cases(s: &[u8]) {
-    let mut at = 0;
-    while 257 <= s.len() - at {
-        case(column(s, at, 257));
-        at += 257;
+fn cases(rt: &impl Print, s: &[u8]) -> io::Result<()> {
+    for r in s.chunks_exact(257) {
+        case(rt, r)?;
     }
+    Ok(())
 }
 
 // A line for each case of a file. What is printed is left free: no contract can speak of it, and the stored output has it.
-pub fn cases_of(path: &[u8]) {
+pub fn cases_of(rt: &(impl Files + Print + Eprint), path: &str) -> io::Result<()> {
     let mut room = [0u8; 131072];
-    let n = read_file(path, &mut room);
-    cases(&room[..n]);
+    let n = read_file(rt, path, &mut room);
+    cases(rt, &room[..n])
 }

@@ -8,18 +8,19 @@ mod table;
 mod value;
 
 use columns::print;
+use std::io;
 
-fn main() {
-    print(b"values\n");
-    value::cases_of(b"values.columns");
-    print(b"dart-rv64i\n");
-    dart::cases_of(b"dart-rv64i.columns");
-    print(b"dart-rv64m\n");
-    dart::cases_of(b"dart-rv64m.columns");
-    print(b"dart-rv64c\n");
-    dart::cases_of(b"dart-rv64c.columns");
-    print(b"dart-beyond\n");
-    dart::cases_of(b"dart-beyond.columns");
-    print(b"rv64m\n");
-    table::table_of(b"rv64m.columns", b"operands.columns");
+fn main(rt: HostRuntime) -> io::Result<()> {
+    print(&rt, b"values\n")?;
+    value::cases_of(&rt, "values.columns")?;
+    print(&rt, b"dart-rv64i\n")?;
+    dart::cases_of(&rt, "dart-rv64i.columns")?;
+    print(&rt, b"dart-rv64m\n")?;
+    dart::cases_of(&rt, "dart-rv64m.columns")?;
+    print(&rt, b"dart-rv64c\n")?;
+    dart::cases_of(&rt, "dart-rv64c.columns")?;
+    print(&rt, b"dart-beyond\n")?;
+    dart::cases_of(&rt, "dart-beyond.columns")?;
+    print(&rt, b"rv64m\n")?;
+    table::table_of(&rt, "rv64m.columns", "operands.columns")
 }

@@ -7,6 +7,8 @@ use columns::{
 };
 use memory::bytes::{read, write};
 use model::{Machine, Ran};
+use std::io;
+use std::rt::Files;
 
 // All but x5, x6, x7 and x10 are 0.
 fn registers(r: &[u8]) -> [u64; 32] {
@@ -28,84 +30,78 @@ fn run_in(m: Machine, mem: &mut [u8; 65536], budget: u64) -> Ran {
     run::run_call(m, mem, budget)
 }
 
-fn print_end(o: Ran) {
+fn print_end(rt: &impl Print, o: Ran) -> io::Result<()> {
     let m = o.machine;
-    print(b" ");
-    print_decimal(o.stop);
-    print(b" ");
-    print_hexadecimal(o.count, 1);
-    print(b" ");
-    print_hexadecimal(o.address, 1);
-    print(b" ");
-    print_hexadecimal(m.pc, 1);
+    print(rt, b" ")?;
+    print_decimal(rt, o.stop)?;
+    print(rt, b" ")?;
+    print_hexadecimal(rt, o.count, 1)?;
+    print(rt, b" ")?;
+    print_hexadecimal(rt, o.address, 1)?;
+    print(rt, b" ")?;
+    print_hexadecimal(rt, m.pc, 1)
 }
 
-fn print_register(i: u64, v: u64) {
+fn print_register(rt: &impl Print, i: u64, v: u64) -> io::Result<()> {
     if v == 0 {
-        return;
+        return Ok(());
     }
-    print(b" x");
-    print_decimal(i);
-    print(b"=");
-    print_hexadecimal(v, 1);
+    print(rt, b" x")?;
+    print_decimal(rt, i)?;
+    print(rt, b"=")?;
+    print_hexadecimal(rt, v, 1)
 }
 
-fn print_registers(x: &[u64; 32]) {
-    let mut i = 0;
-    while i < 32 {
-        print_register(i as u64, x[i]);
-        i += 1;
+fn print_registers(rt: &impl Print, x: &[u64; 32]) -> io::Result<()> {
+    for i in 0..32 {
+        print_register(rt, i as u64, x[i])?;
     }
+    Ok(())
 }
 
-fn print_doubleword(a: u64, v: u64) {
+fn print_doubleword(rt: &impl Print, a: u64, v: u64) -> io::Result<()> {
     if v == 0 {
-        return;
+        return Ok(());
     }
-    print(b" ");
-    print_hexadecimal(a, 1);
-    print(b"=");
-    print_hexadecimal(v, 1);
+    print(rt, b" ")?;
+    print_hexadecimal(rt, a, 1)?;
+    print(rt, b"=")?;
+    print_hexadecimal(rt, v, 1)
 }
 
-fn print_doublewords(mem: &[u8]) {
-    let mut a = 0;
-    while 8 <= mem.len() - a {
-        print_doubleword(a as u64, read(mem, a as u64, 8));
-        a += 8;
+fn print_memory(rt: &impl Print, mem: &[u8; 65536]) -> io::Result<()> {
+    for i in 0..8192 {
+        let a = 8 * i;
+        print_doubleword(rt, a, read(mem, a, 8))?;
     }
+    Ok(())
 }
 
-fn print_memory(mem: &[u8; 65536]) {
-    print_doublewords(mem);
-}
-
-fn case(r: &[u8]) {
+fn case(rt: &impl Print, r: &[u8]) -> io::Result<()> {
     let mut mem = [0u8; 65536];
     fill(r, &mut mem);
     let steps = hexadecimal_at(r, 112, 8);
     let o = run_in(machine(registers(r), 0x1000), &mut mem, steps);
     let m = o.machine;
     let x = m.x;
-    print(unpadded(column(r, 0, 32)));
-    print_end(o);
-    print_registers(&x);
-    print_memory(&mem);
-    print(b"\n");
+    print(rt, unpadded(column(r, 0, 32)))?;
+    print_end(rt, o)?;
+    print_registers(rt, &x)?;
+    print_memory(rt, &mem)?;
+    print(rt, b"\n")
 }
 
 // 161 bytes each.
-fn cases(s: &[u8]) {
-    let mut at = 0;
-    while 161 <= s.len() - at {
-        case(column(s, at, 161));
-        at += 161;
+fn cases(rt: &impl Print, s: &[u8]) -> io::Result<()> {
+    for r in s.chunks_exact(161) {
+        case(rt, r)?;
     }
+    Ok(())
 }
 
 // A line for each case of a file. What is printed is left free: no contract can speak of it, and the stored output has it.
-pub fn cases_of(path: &[u8]) {
+pub fn cases_of(rt: &(impl Files + Print + Eprint), path: &str) -> io::Result<()> {
     let mut room = [0u8; 524288];
-    let n = read_file(path, &mut room);
-    cases(&room[..n]);
+    let n = read_file(rt, path, &mut room);
+    cases(rt, &room[..n])
 }

@@ -126,6 +126,7 @@ pub fn writable_code(rs: &[u64; REGION_NUMBERS]) -> bool
 }
 
 // Is it a locked state with such a byte?
+#[tactic(auto, unfolding(model::specs::WritableCode::exposesCode))]
 pub fn exposes_code(h: Control, rs: &[u64; REGION_NUMBERS]) -> bool
     ensures { result ≡ exposesCode (stateWith h (regionsOf rs.now)) }
 {

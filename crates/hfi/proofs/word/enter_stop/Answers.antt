@@ -1,0 +1,14 @@
+use Rattle.std.proofs.Common.{sym, ◌∙◌}
+use borrow.Author.Tests.{le-ltb}
+use Rattle.model.specs.Machine.{largestOptions}
+use Rattle.hfi.proofs.word.enter_stop.Goals as goal
+
+pub returns : goal.returns
+returns c =
+    rw (
+      c.rule.ensures,
+      c.exposes_code.ensures,
+      c.entered.ensures,
+      sym c.inside.ensures ∙ c.if-inside.false,
+      le-ltb largestOptions _ c.if-options-gt-LARGEST_OPTIONS.false,
+    )

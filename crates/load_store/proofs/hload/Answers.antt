@@ -1,0 +1,27 @@
+use Rattle.std.proofs.Common.{length, ◌∙◌, pos, ◌+ℤ◌, rules}
+use Rattle.hart.specs.State.{regionsOf}
+use Rattle.model.specs.Step.{load}
+use Rattle.model.specs.Access.{explicitAccess, offset, load_width}
+use Rattle.model.specs.Regions.{read}
+use Rattle.model.specs.Machine.{region}
+use Rattle.words.proofs.Residues.{word_lt}
+use Rattle.memory.proofs.Widths.{load-is-width}
+use Rattle.memory.proofs.Fits.{passed-fits}
+use Rattle.load_store.proofs.hload.Goals as goal
+
+-- what passed lies in memory
+pub finish_load-requires : goal.finish_load-requires
+finish_load-requires c =
+    let a = c.args in
+    let access = explicitAccess (regionsOf a.rs.now) a.region read (offset a.operand a.imm) (load_width a.k) in (
+      c.requires.0,
+      rw (c.explicit_address-first.ensures, c.region_at.ensures)
+          (passed-fits a.hfi.mode (length a.mem.now) access (load-is-width a.k)
+          (word_lt 64 (pos (region (regionsOf a.rs.now) a.region).base +ℤ offset a.operand a.imm)) (search rules)
+          (c.check_explicit-v.ensures ∙ rw c.load_width.ensures)),
+    )
+
+pub returns : goal.returns
+unfolding load
+returns c =
+    c.finish_load.ensures c.args.rs.now ∙ rw (c.check_explicit-v.ensures, c.load_width.ensures, c.explicit_address-first.ensures, c.region_at.ensures)

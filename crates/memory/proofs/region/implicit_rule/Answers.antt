@@ -1,0 +1,18 @@
+use Rattle.std.proofs.Common.{◌<◌, ap, ◌∙◌, arith, pow_pos, pow_mono}
+use Rattle.words.proofs.Shifts.{one_shl}
+use Rattle.model.specs.Regions.{implicitRuleAt}
+use Rattle.memory.proofs.Rules.{implicit-law}
+use Rattle.memory.proofs.region.implicit_rule.Goals as goal
+
+pub overflow_sub-result : goal.overflow_sub-result
+overflow_sub-result c =
+    let k = c.mask_zeros-k.result in
+    let l : k < 64 = omega arith in
+    let p = pow_mono c.if-k-gt48.false in
+    rw (one_shl k l) (omega (arith, pow_pos k))
+
+pub returns : goal.returns
+returns c =
+    let r = c.args.r in
+    let k = c.mask_zeros-k in
+    implicit-law k.result r.base r.bound c.if-k-gt48.false ∙ ap (λ z. implicitRuleAt z r.base r.bound) k.ensures

@@ -1,0 +1,235 @@
+-- Document 02, Job 9, as rows of tables that computed checks cover: which slots are stopped, whose turn it is, what a turn is refused for, and
+-- whole turns with what they leave.
+-- Assumes nothing.
+use mathlib.Core.Path.{◌≡◌, refl}
+use mathlib.Core.Bool.{Bool, true, false}
+use mathlib.Core.List.{List, [], ◌∷◌, ◌++◌, map}
+use Prim.Native.Nat.{ℕ, ◌+◌, ◌-◌, ◌^◌}
+use lib.Count.{count_trailing_zeros}
+use Rattle.words.specs.Word.{sext}
+use Rattle.instructions.specs.Decode.{decodeWord}
+use Rattle.compressed.specs.Expand.{expandHalf}
+use Rattle.model.specs.Bytes.{value, written}
+use Rattle.model.specs.Outcome.{allowed, aligned, settle}
+use Rattle.model.specs.WellFormed.{stateFits, wellFormed}
+use Rattle.model.specs.Hfi.{hfiStop, hfiPerform}
+use Rattle.model.specs.Regions.{explicitRule, matches, firstMatch, implicitGrants, explicitGrants}
+use Rattle.model.specs.WritableCode.{explicitCovers, writableCode, exposesCode}
+use Rattle.model.specs.Access.{scan, firstRefused, firstAbsent, verdict}
+use Rattle.model.specs.Step.{load, store, perform, executeInstruction, executeWord, fetching, executeFetched, step}
+use Rattle.model.specs.Run.{run_by, runCall}
+use Rattle.model.specs.declared.Machine.{Machine}
+use Rattle.model.proofs.Rows.{x, pc, mode, options, base, bound, permission, bytes, with}
+use Rattle.scheduler.specs.Turn.{stopped, firstUnstopped, nextSlot, slotRefusal, slotsRefusal, refusal, Left, turnCall, putCall}
+use Rattle.scheduler.specs.declared.Slot.{Slot}
+use Rattle.scheduler.specs.declared.Scheduler.{Scheduler}
+use Rattle.scheduler.specs.declared.Put.{Put}
+
+-- ---- slots
+
+-- a machine in locked HFI mode, with sixteen bytes of code from 0 on and eight bytes at 16 that it may write
+abbrev guest : List (ℕ × ℕ)
+guest = (mode, 1) ∷ (options, 1) ∷ (base 1, 16) ∷ (bound 1, 8) ∷ (permission 1, 3) ∷ (base 3, 0) ∷ (bound 3, 2 ^ 64 - 16) ∷ (permission 3, 4) ∷ []
+
+-- the guest but for these places, in a slot with a stop
+abbrev slotWith : List (ℕ × ℕ) → ℕ → Slot
+slotWith ps stop = record { machine = with (guest ++ ps); stop = stop }
+
+abbrev fresh : Slot
+fresh = slotWith [] 0
+
+abbrev spent : Slot
+spent = slotWith [] 21
+
+-- each of these is refused if it is asked
+abbrev illFormed : ℕ → Slot
+illFormed stop = slotWith ((x 0, 1) ∷ []) stop
+
+abbrev exposing : ℕ → Slot
+exposing stop = slotWith ((base 1, 8) ∷ []) stop
+
+abbrev unlocked : ℕ → Slot
+unlocked stop = slotWith ((options, 14) ∷ []) stop
+
+abbrev outside : ℕ → Slot
+outside stop = slotWith ((mode, 0) ∷ []) stop
+
+abbrev four : Slot → Slot → Slot → Slot → List Slot
+four a b c d = a ∷ b ∷ c ∷ d ∷ []
+
+abbrev scheduled : List Slot → ℕ → ℕ → ℕ → Scheduler
+scheduled ds count place total = record { slots = ds; count = count; place = place; total = total }
+
+abbrev allFresh : List Slot
+allFresh = four fresh fresh fresh fresh
+
+-- ---- which slots are stopped, by the stops 0 to 25 and a number that no run gives
+
+abbrev stops : List ℕ
+stops = 0 ∷ 1 ∷ 2 ∷ 3 ∷ 4 ∷ 10 ∷ 11 ∷ 12 ∷ 13 ∷ 14 ∷ 15 ∷ 16 ∷ 17 ∷ 18 ∷ 19 ∷ 20 ∷ 21 ∷ 22 ∷ 23 ∷ 24 ∷ 25 ∷ 26 ∷ []
+
+-- "A deck that stops with anything but 21 is passed over", and one that has had no turn is not
+pub stopped-rows : map (λ s. stopped (record { machine = with []; stop = s })) stops
+    ≡ false ∷ true ∷ true ∷ true ∷ true ∷ true ∷ true ∷ true ∷ true ∷ true ∷ true ∷ true ∷ true ∷ true ∷ true ∷ true ∷ false ∷ true ∷ true ∷ true ∷ true ∷ true ∷ []
+stopped-rows = refl
+
+-- ---- whose turn it is
+
+abbrev next : List Slot → ℕ → ℕ → ℕ
+next ds count place = nextSlot (scheduled ds count place 0)
+
+abbrev halted : Slot
+halted = slotWith [] 18
+
+pub next-rows :
+    -- "from the place on"
+    next allFresh 4 1 ∷ next allFresh 4 2 ∷ next allFresh 4 4
+    -- "a place outside the deck count is taken as 1"
+    ∷ next allFresh 4 0 ∷ next allFresh 4 5 ∷ next allFresh 3 4 ∷ next allFresh 1 2 ∷ next (four halted fresh fresh fresh) 3 4
+    -- "the first deck not stopped", "and round to the first"
+    ∷ next (four fresh halted spent fresh) 4 2 ∷ next (four fresh halted halted halted) 4 2 ∷ next (four halted spent halted halted) 4 3
+    ∷ next (four spent fresh halted fresh) 3 3 ∷ next (four halted halted halted fresh) 4 1
+    -- a slot above the count has no turn
+    ∷ next (four halted halted halted fresh) 3 1 ∷ next (four halted halted fresh fresh) 2 3
+    ∷ next (four halted halted halted halted) 4 2 ∷ []
+    ≡ 1 ∷ 2 ∷ 4 ∷ 1 ∷ 1 ∷ 1 ∷ 1 ∷ 2 ∷ 3 ∷ 1 ∷ 2 ∷ 1 ∷ 4 ∷ 0 ∷ 0 ∷ 0 ∷ []
+unfolding firstUnstopped
+next-rows = refl
+
+-- ---- refusals
+
+abbrev longest : ℕ
+longest = 16777216
+
+abbrev refused : List Slot → ℕ → ℕ → ℕ → ℕ
+refused ds count size allowance = refusal (scheduled ds count 1 0) size allowance
+
+pub refusal-rows :
+    -- "the order is 1, 50, 51, then deck by deck from 1"
+    refused (four (illFormed 0) fresh fresh fresh) 0 (longest + 1) 0 ∷ refused (four (illFormed 0) fresh fresh fresh) 0 longest 0
+    ∷ refused (four (illFormed 0) fresh fresh fresh) 1 longest 0 ∷ refused (four (illFormed 0) fresh fresh fresh) 1 longest 1
+    -- "1 to 4 machines and a step allowance of 1 to 10,000"
+    ∷ refused allFresh 0 0 1 ∷ refused allFresh 1 0 1 ∷ refused allFresh 4 0 1 ∷ refused allFresh 5 0 1 ∷ refused allFresh (2 ^ 64 - 1) 0 1
+    ∷ refused allFresh 4 0 0 ∷ refused allFresh 4 0 10000 ∷ refused allFresh 4 0 10001 ∷ refused allFresh 4 0 (2 ^ 64 - 1)
+    -- "3, 4, 52" of one deck
+    ∷ refused (four (slotWith ((x 0, 1) ∷ (base 1, 8) ∷ []) 0) fresh fresh fresh) 1 0 1
+    ∷ refused (four (slotWith ((x 0, 1) ∷ (mode, 0) ∷ []) 0) fresh fresh fresh) 1 0 1
+    ∷ refused (four (exposing 0) fresh fresh fresh) 1 0 1
+    ∷ refused (four (unlocked 0) fresh fresh fresh) 1 0 1 ∷ refused (four (outside 0) fresh fresh fresh) 1 0 1
+    ∷ refused (four (slotWith ((base 1, 8) ∷ (options, 14) ∷ []) 0) fresh fresh fresh) 1 0 1
+    -- "deck by deck": the first that is refused, whatever a later one is refused for
+    ∷ refused (four fresh (unlocked 21) (illFormed 0) (exposing 0)) 4 0 1 ∷ refused (four fresh fresh (exposing 21) (illFormed 0)) 4 0 1
+    ∷ refused (four fresh fresh spent (illFormed 21)) 4 0 1 ∷ refused (four fresh fresh spent (illFormed 21)) 3 0 1
+    -- "stopped ones left out"
+    ∷ refused (four (illFormed 3) (exposing 4) (outside 20) (unlocked 25)) 4 0 1 ∷ refused (four (illFormed 19) fresh (outside 21) fresh) 4 0 1 ∷ []
+    ≡ 1 ∷ 50 ∷ 51 ∷ 3 ∷ 50 ∷ 0 ∷ 0 ∷ 50 ∷ 50 ∷ 51 ∷ 0 ∷ 51 ∷ 51 ∷ 3 ∷ 3 ∷ 4 ∷ 52 ∷ 52 ∷ 52 ∷ 52 ∷ 4 ∷ 3 ∷ 0 ∷ 0 ∷ 52 ∷ []
+unfolding refusal slotsRefusal slotRefusal count_trailing_zeros stateFits wellFormed matches explicitRule firstMatch implicitGrants explicitGrants explicitCovers writableCode exposesCode
+refusal-rows = refl
+
+-- ---- whole turns
+
+-- slot, stop, count and address; place and total; each slot's stop and pc; and the memory
+abbrev seen : Left → List ℕ
+seen l =
+    let s = l.result.scheduler in
+    (l.result.slot ∷ l.result.stop ∷ l.result.count ∷ l.result.address ∷ s.count ∷ s.place ∷ s.total ∷ [])
+    ++ map (λ (d : Slot). d.stop) s.slots ++ map (λ (d : Slot). d.machine.pc) s.slots ++ l.memory
+
+-- addi x7, x0, 7; hsb x7, 0(x0); jal x0, -8
+abbrev loop : List ℕ
+loop = 0x00700393 ∷ 0x0070002b ∷ 0xff9ff06f ∷ []
+
+-- with the byte at 16, which a guest writes
+abbrev before : List ℕ
+before = bytes loop ++ (0 ∷ 0 ∷ 0 ∷ 0 ∷ 9 ∷ [])
+
+abbrev afterwards : List ℕ
+afterwards = bytes loop ++ (0 ∷ 0 ∷ 0 ∷ 0 ∷ 7 ∷ [])
+
+abbrev turn : List Slot → ℕ → ℕ → ℕ → ℕ → List ℕ
+turn ds count place total allowance = seen (turnCall (scheduled ds count place total) before allowance)
+
+-- its fetch is refused
+abbrev astray : Slot
+astray = slotWith ((pc, 32) ∷ []) 0
+
+unfoldable pub turns : List (List ℕ)
+turns =
+    -- "one run, with the allowance as its budget"; "then the place becomes the deck after that one"; "adds its run's count"
+    turn allFresh 4 1 0 2
+    ∷ turn allFresh 4 1 5 1
+    ∷ turn allFresh 4 2 0 3
+    -- "likewise round", and round the count, not the four
+    ∷ turn allFresh 4 4 0 2
+    ∷ turn allFresh 2 2 0 2
+    ∷ turn allFresh 1 1 0 2
+    -- "a place outside the deck count is taken as 1"
+    ∷ turn allFresh 4 0 0 2
+    ∷ turn allFresh 3 4 0 2
+    -- a stopped slot is passed over, also by the place
+    ∷ turn (four halted fresh halted fresh) 4 1 0 2
+    ∷ turn (four fresh halted halted halted) 4 2 0 2
+    -- a run that stops: its stop stays with the slot, and its fault record with the machine
+    ∷ turn (four astray fresh fresh fresh) 4 1 7 2
+    ∷ turn (four fresh (slotWith ((pc, 12) ∷ []) 0) fresh fresh) 4 2 7 2
+    -- "modulo 2^64"
+    ∷ turn allFresh 4 1 (2 ^ 64 - 1) 2
+    -- "With all decks stopped a turn makes no run, changes nothing and answers 0": a place outside stays, too
+    ∷ turn (four halted halted halted fresh) 3 9 5 2
+    -- refused: "deck, count and address are then 0, and nothing has changed"
+    ∷ turn allFresh 5 3 5 2
+    ∷ turn allFresh 4 3 5 0
+    ∷ turn (four fresh fresh fresh (outside 21)) 4 1 5 2
+    ∷ turn (four fresh fresh (illFormed 0) fresh) 4 9 5 2
+    ∷ []
+
+unfoldable pub left : List (List ℕ)
+left =
+    (1 ∷ 21 ∷ 2 ∷ 0 ∷ 4 ∷ 2 ∷ 2 ∷ 21 ∷ 0 ∷ 0 ∷ 0 ∷ 8 ∷ 0 ∷ 0 ∷ 0 ∷ afterwards)
+    ∷ (1 ∷ 21 ∷ 1 ∷ 0 ∷ 4 ∷ 2 ∷ 6 ∷ 21 ∷ 0 ∷ 0 ∷ 0 ∷ 4 ∷ 0 ∷ 0 ∷ 0 ∷ before)
+    ∷ (2 ∷ 21 ∷ 3 ∷ 0 ∷ 4 ∷ 3 ∷ 3 ∷ 0 ∷ 21 ∷ 0 ∷ 0 ∷ 0 ∷ 0 ∷ 0 ∷ 0 ∷ afterwards)
+    ∷ (4 ∷ 21 ∷ 2 ∷ 0 ∷ 4 ∷ 1 ∷ 2 ∷ 0 ∷ 0 ∷ 0 ∷ 21 ∷ 0 ∷ 0 ∷ 0 ∷ 8 ∷ afterwards)
+    ∷ (2 ∷ 21 ∷ 2 ∷ 0 ∷ 2 ∷ 1 ∷ 2 ∷ 0 ∷ 21 ∷ 0 ∷ 0 ∷ 0 ∷ 8 ∷ 0 ∷ 0 ∷ afterwards)
+    ∷ (1 ∷ 21 ∷ 2 ∷ 0 ∷ 1 ∷ 1 ∷ 2 ∷ 21 ∷ 0 ∷ 0 ∷ 0 ∷ 8 ∷ 0 ∷ 0 ∷ 0 ∷ afterwards)
+    ∷ (1 ∷ 21 ∷ 2 ∷ 0 ∷ 4 ∷ 2 ∷ 2 ∷ 21 ∷ 0 ∷ 0 ∷ 0 ∷ 8 ∷ 0 ∷ 0 ∷ 0 ∷ afterwards)
+    ∷ (1 ∷ 21 ∷ 2 ∷ 0 ∷ 3 ∷ 2 ∷ 2 ∷ 21 ∷ 0 ∷ 0 ∷ 0 ∷ 8 ∷ 0 ∷ 0 ∷ 0 ∷ afterwards)
+    ∷ (2 ∷ 21 ∷ 2 ∷ 0 ∷ 4 ∷ 3 ∷ 2 ∷ 18 ∷ 21 ∷ 18 ∷ 0 ∷ 0 ∷ 8 ∷ 0 ∷ 0 ∷ afterwards)
+    ∷ (1 ∷ 21 ∷ 2 ∷ 0 ∷ 4 ∷ 2 ∷ 2 ∷ 21 ∷ 18 ∷ 18 ∷ 18 ∷ 8 ∷ 0 ∷ 0 ∷ 0 ∷ afterwards)
+    ∷ (1 ∷ 11 ∷ 0 ∷ 0 ∷ 4 ∷ 2 ∷ 7 ∷ 11 ∷ 0 ∷ 0 ∷ 0 ∷ 32 ∷ 0 ∷ 0 ∷ 0 ∷ before)
+    ∷ (2 ∷ 13 ∷ 0 ∷ 0 ∷ 4 ∷ 3 ∷ 7 ∷ 0 ∷ 13 ∷ 0 ∷ 0 ∷ 0 ∷ 12 ∷ 0 ∷ 0 ∷ before)
+    ∷ (1 ∷ 21 ∷ 2 ∷ 0 ∷ 4 ∷ 2 ∷ 1 ∷ 21 ∷ 0 ∷ 0 ∷ 0 ∷ 8 ∷ 0 ∷ 0 ∷ 0 ∷ afterwards)
+    ∷ (0 ∷ 0 ∷ 0 ∷ 0 ∷ 3 ∷ 9 ∷ 5 ∷ 18 ∷ 18 ∷ 18 ∷ 0 ∷ 0 ∷ 0 ∷ 0 ∷ 0 ∷ before)
+    ∷ (0 ∷ 50 ∷ 0 ∷ 0 ∷ 5 ∷ 3 ∷ 5 ∷ 0 ∷ 0 ∷ 0 ∷ 0 ∷ 0 ∷ 0 ∷ 0 ∷ 0 ∷ before)
+    ∷ (0 ∷ 51 ∷ 0 ∷ 0 ∷ 4 ∷ 3 ∷ 5 ∷ 0 ∷ 0 ∷ 0 ∷ 0 ∷ 0 ∷ 0 ∷ 0 ∷ 0 ∷ before)
+    ∷ (0 ∷ 52 ∷ 0 ∷ 0 ∷ 4 ∷ 1 ∷ 5 ∷ 0 ∷ 0 ∷ 0 ∷ 21 ∷ 0 ∷ 0 ∷ 0 ∷ 0 ∷ before)
+    ∷ (0 ∷ 3 ∷ 0 ∷ 0 ∷ 4 ∷ 9 ∷ 5 ∷ 0 ∷ 0 ∷ 0 ∷ 0 ∷ 0 ∷ 0 ∷ 0 ∷ 0 ∷ before)
+    ∷ []
+
+pub turn-rows : turns ≡ left
+unfolding turns left turnCall firstUnstopped refusal slotsRefusal slotRefusal count_trailing_zeros sext decodeWord expandHalf matches explicitRule firstMatch implicitGrants explicitGrants explicitCovers writableCode exposesCode scan firstRefused firstAbsent verdict value written allowed aligned settle stateFits wellFormed hfiStop hfiPerform load store perform executeInstruction executeWord fetching executeFetched step run_by runCall
+turn-rows = refl
+
+-- ---- a machine put into a slot
+
+-- whether it was done, count, place, total, and each slot's stop and pc
+abbrev afterPut : Put → List ℕ
+afterPut p = (p.scheduler.count ∷ p.scheduler.place ∷ p.scheduler.total ∷ []) ++ map (λ (d : Slot). d.stop) p.scheduler.slots ++ map (λ (d : Slot). d.machine.pc) p.scheduler.slots
+
+abbrev put : ℕ → List ℕ
+put n = afterPut (putCall (scheduled (four halted halted halted halted) 2 9 5) n (with (guest ++ ((pc, 8) ∷ []))))
+
+unfoldable pub puts : List (List ℕ)
+puts = put 0 ∷ put 1 ∷ put 4 ∷ put 5 ∷ []
+
+-- "until the main loop puts a machine there again": it is no longer stopped, and nothing else has changed
+pub put-rows : puts
+    ≡ (2 ∷ 9 ∷ 5 ∷ 18 ∷ 18 ∷ 18 ∷ 18 ∷ 0 ∷ 0 ∷ 0 ∷ 0 ∷ [])
+    ∷ (2 ∷ 9 ∷ 5 ∷ 0 ∷ 18 ∷ 18 ∷ 18 ∷ 8 ∷ 0 ∷ 0 ∷ 0 ∷ [])
+    ∷ (2 ∷ 9 ∷ 5 ∷ 18 ∷ 18 ∷ 18 ∷ 0 ∷ 0 ∷ 0 ∷ 0 ∷ 8 ∷ [])
+    ∷ (2 ∷ 9 ∷ 5 ∷ 18 ∷ 18 ∷ 18 ∷ 18 ∷ 0 ∷ 0 ∷ 0 ∷ 0 ∷ []) ∷ []
+unfolding puts putCall
+put-rows = refl
+
+pub done-rows : map (λ n. (putCall (scheduled allFresh 2 9 5) n (with guest)).done) (0 ∷ 1 ∷ 2 ∷ 3 ∷ 4 ∷ 5 ∷ []) ≡ false ∷ true ∷ true ∷ true ∷ true ∷ false ∷ []
+unfolding putCall
+done-rows = refl
