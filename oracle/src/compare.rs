@@ -2,6 +2,7 @@
 
 use std::collections::BTreeMap;
 
+use crate::apart;
 use crate::fetches;
 use crate::half_words::{begins_long_word, row};
 use crate::hfi_rules;
@@ -12,9 +13,11 @@ use crate::numbers::{bit, power};
 use crate::overlap::locked_code_is_writable;
 use crate::reach::{executable, writable};
 use crate::region::{keeps_rule, Place};
+use crate::scheduler::{Answer, Scheduler};
 use crate::step::{data_access, load_size, meaning, step_asked, store_size, HALF, LONG};
 use crate::supply::{sheet_of, written_out, Supply, AIMS};
 use crate::ten_regions;
+use crate::turns;
 use crate::writable_code::{self, WAYS};
 
 /// What an engine under test offers. `None` means that it lacks the call.
@@ -30,6 +33,14 @@ pub trait Engine {
     /// 0 or 3.
     fn resume(&self, machine: &mut Machine, value: u64) -> Option<u64>;
     fn respond(&self, sheet: &[u8]) -> Option<Vec<u8>>;
+    /// What a turn answers (Job 9).
+    fn turn(&self, _scheduler: &mut Scheduler, _memory: &mut [u8], _allowance: u64) -> Option<Answer> {
+        None
+    }
+    /// Is there such a slot?
+    fn put(&self, _scheduler: &mut Scheduler, _n: u64, _machine: &Machine) -> Option<bool> {
+        None
+    }
 }
 
 pub struct Oracle;
@@ -58,6 +69,12 @@ impl Engine for Oracle {
     }
     fn respond(&self, sheet: &[u8]) -> Option<Vec<u8>> {
         Some(crate::respond(sheet))
+    }
+    fn turn(&self, scheduler: &mut Scheduler, memory: &mut [u8], allowance: u64) -> Option<Answer> {
+        Some(crate::turn(scheduler, memory, allowance))
+    }
+    fn put(&self, scheduler: &mut Scheduler, n: u64, machine: &Machine) -> Option<bool> {
+        Some(crate::put(scheduler, n, machine))
     }
 }
 
@@ -165,6 +182,9 @@ pub struct Counts {
     pub isolation_stored: u64,
     /// Isolation pairs that ended in HFI mode, where 4 was asked again.
     pub isolation_inside: u64,
+    /// Turns and puts of Job 9 by what they were (`turns`), and its experiment by engine (`apart`).
+    pub turns: turns::Met,
+    pub apart: apart::Met,
     pub compared: u64,
     /// How many comparisons differed; the first 20 are told.
     pub differing: u64,
@@ -185,6 +205,8 @@ impl Counts {
         all(&mut self.code_classes, other.code_classes);
         all(&mut self.ten_regions, other.ten_regions);
         all(&mut self.fetches, other.fetches);
+        all(&mut self.turns, other.turns);
+        all(&mut self.apart, other.apart);
         all(&mut self.crossings, other.crossings);
         all(&mut self.resume_stops, other.resume_stops);
         all(&mut self.sheet_lines, other.sheet_lines);
@@ -362,11 +384,11 @@ pub fn compare_word(left: &dyn Engine, right: &dyn Engine, word: u32, counts: &m
     }
 }
 
-fn first_byte_apart(a: &[u8], b: &[u8]) -> Option<usize> {
+pub fn first_byte_apart(a: &[u8], b: &[u8]) -> Option<usize> {
     (0..a.len()).find(|i| a[*i] != b[*i])
 }
 
-fn show(machine: &Machine) -> String {
+pub fn show(machine: &Machine) -> String {
     let registers: Vec<String> =
         (0..32).filter(|n| machine.x[*n] != 0).map(|n| format!("x{n}={:x}", machine.x[n])).collect();
     format!(
@@ -941,6 +963,8 @@ pub fn rounds(left: &dyn Engine, right: &dyn Engine, seed: u64, number: u64, cou
             empty_elsewhere(left, right, &mut supply, counts);
         }
         empty_budget(left, right, &mut supply, round % EMPTY_EVERY, counts);
+        turns::compare(left, right, &mut supply, round, counts);
+        apart::compare(left, right, &mut supply, round, counts);
     }
 }
 
@@ -1084,6 +1108,7 @@ pub fn long_memories(left: &dyn Engine, right: &dyn Engine, seed: u64, counts: &
         let (mut machine, _, _) = supply.aimed_regions_world(writable_code::aims()[0]);
         compare_run(left, right, &machine, &memory, 10, counts);
         compare_step(left, right, &mut machine, &mut memory, counts);
+        turns::long(left, right, &mut supply, &mut memory, counts);
     }
 }
 
@@ -1120,6 +1145,8 @@ pub fn print_counts(counts: &Counts) {
         println!("  {range}: {}", met.map(|count| count.to_string()).join(" "));
     }
     print_isolation(counts);
+    turns::print(&counts.turns);
+    apart::print(&counts.apart);
     println!("instructions (completed, stopped):");
     for (name, (completed, stopped)) in &counts.instructions {
         println!("  {name} {completed} {stopped}");

@@ -3,6 +3,7 @@
 use crate::compare::Engine;
 use crate::instruction::*;
 use crate::machine::Machine;
+use crate::scheduler::{Answer, Scheduler, Slot};
 
 /// `struct koubospar_instruction`
 #[repr(C)]
@@ -45,11 +46,26 @@ struct RunStop {
     address: u64,
 }
 
+/// `struct koubospar_turn_stop`
+#[repr(C)]
+struct TurnStop {
+    slot: u64,
+    stop: u64,
+    count: u64,
+    address: u64,
+}
+
 /// The most bytes that the answer to a sheet takes.
 const MOST: usize = 1373;
 
 // The oracle's machine has the layout of `struct koubospar_machine`: 73 numbers in the same order.
 const _: () = assert!(std::mem::size_of::<Machine>() == 584);
+// Its slot and its scheduler have those of `struct koubospar_slot` and `struct koubospar_scheduler`.
+const _: () = assert!(std::mem::size_of::<Slot>() == 592 && std::mem::offset_of!(Slot, stop) == 584);
+const _: () = assert!(std::mem::size_of::<Scheduler>() == 2392 && std::mem::offset_of!(Scheduler, slots) == 0);
+const _: () = assert!(std::mem::offset_of!(Scheduler, count) == 2368);
+const _: () = assert!(std::mem::offset_of!(Scheduler, place) == 2376);
+const _: () = assert!(std::mem::offset_of!(Scheduler, total) == 2384);
 
 #[link(name = "koubospar_codec", kind = "static")]
 extern "C" {
@@ -64,6 +80,8 @@ extern "C" {
     fn koubospar_run(machine: *mut Machine, memory: *mut u8, length: usize, budget: u64) -> RunStop;
     fn koubospar_resume(machine: *mut Machine, value: u64) -> Stop;
     fn koubospar_respond(input: *const u8, length: usize, output: *mut u8) -> usize;
+    fn koubospar_turn(scheduler: *mut Scheduler, memory: *mut u8, length: usize, allowance: u64) -> TurnStop;
+    fn koubospar_put(scheduler: *mut Scheduler, n: u64, machine: *const Machine) -> bool;
 }
 
 /// The number and the instruction of a word.
@@ -178,5 +196,12 @@ impl Engine for Proved {
         let length = unsafe { koubospar_respond(sheet.as_ptr(), sheet.len(), output.as_mut_ptr()) };
         output.truncate(length);
         Some(output)
+    }
+    fn turn(&self, scheduler: &mut Scheduler, memory: &mut [u8], allowance: u64) -> Option<Answer> {
+        let t = unsafe { koubospar_turn(scheduler, memory.as_mut_ptr(), memory.len(), allowance) };
+        Some(Answer { slot: t.slot, stop: t.stop, count: t.count, address: t.address })
+    }
+    fn put(&self, scheduler: &mut Scheduler, n: u64, machine: &Machine) -> Option<bool> {
+        Some(unsafe { koubospar_put(scheduler, n, machine) })
     }
 }

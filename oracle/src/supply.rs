@@ -448,6 +448,13 @@ impl Supply {
         self.steady_world_with(1)
     }
 
+    /// The same, always locked, with a memory of twice 2^k bytes at most.
+    pub fn locked_world_of(&mut self, k: u64) -> (Machine, Vec<u8>) {
+        let (mut machine, mut memory) = self.steady_world_of(k, 1);
+        self.give_offsets(&mut machine, &mut memory);
+        (machine, memory)
+    }
+
     /// The same with these options and others.
     fn steady_world_with(&mut self, options: u64) -> (Machine, Vec<u8>) {
         let k = self.pick(&[7, 8, 9, 10, 11, 11, 12, 12]); // half of 128 to 4,096 bytes each
@@ -1270,7 +1277,7 @@ impl Supply {
     }
 
     /// Breaks one condition of well formed, or sets an allowed bit.
-    fn spoil(&mut self, machine: &mut Machine) {
+    pub fn spoil(&mut self, machine: &mut Machine) {
         let bit = 1u64 << self.below(64);
         match self.below(11) {
             0 => machine.x[0] = bit,

@@ -2,7 +2,7 @@
 use Rattle.std.proofs.Common.{◌≡◌, ℕ, ◌≤◌, length, sym, ap, ◌∙◌, arith}
 use borrow.Author.Tests.{eq-eqb, ne_eqb}
 use Rattle.model.specs.Run.{Ended, runCall}
-use Rattle.scheduler.specs.Turn.{mostSlots, slot, place_in, nextSlot, refusal, turnedWith, noTurn, tookTurn, turnCall}
+use Rattle.scheduler.specs.Turn.{mostSlots, place_in, nextSlot, refusal, turnedWith, noTurn, tookTurn, turnCall}
 use Rattle.scheduler.specs.declared.Slot.{Slot}
 use Rattle.scheduler.specs.declared.Scheduler.{Scheduler}
 use Rattle.scheduler.specs.declared.Turned.{Turned}

@@ -1,5 +1,5 @@
 use Rattle.std.proofs.Common.{◌≡◌, true, false, sym, ap, ◌∙◌, arith}
-use Rattle.scheduler.specs.Turn.{slot, stopped, following}
+use Rattle.scheduler.specs.Turn.{slot, stopped}
 use Rattle.scheduler.specs.declared.Slot.{Slot}
 use Rattle.scheduler.proofs.Round.{following-numbered, first-none, first-here, first_on}
 use Rattle.turn.proofs.order.next_slot.Goals as goal
