@@ -9,8 +9,7 @@ use std::collections::BTreeMap;
 use crate::apart;
 use crate::compare::{first_byte_apart, show, Counts, Engine};
 use crate::instruction::{encode, HfiKind, ImmediateKind, Instruction, LoadKind, StoreKind, SystemKind};
-use crate::machine::{well_formed, Fault, Machine, Region, EXPLICIT, REGIONS};
-use crate::overlap::locked_code_is_writable;
+use crate::machine::{well_formed, Fault, Machine, Region, EXPLICIT};
 use crate::scheduler::{machine_refusal, Answer, Scheduler, Slot, ALLOWANCE_LIMIT, SLOTS};
 use crate::step::MEMORY_LIMIT;
 use crate::supply::Supply;
@@ -27,13 +26,16 @@ pub const TURN_ROUNDS: u64 = 16;
 pub fn compare(left: &dyn Engine, right: &dyn Engine, supply: &mut Supply, round: u64, counts: &mut Counts) {
     let part = round % TURN_ROUNDS;
     for (n, order) in orders().into_iter().enumerate().filter(|(n, _)| *n as u64 % TURN_ROUNDS == part) {
-        // As many ends as there are go by the round too, so each order meets each of them in time.
+        // The ends go by the round too, so in time each order has each of them.
         let end = ENDS[(n + (round / TURN_ROUNDS) as usize) % ENDS.len()];
         aimed_order(left, right, supply, order, end, counts);
     }
+    if part == 0 {
+        aimed_order(left, right, supply, LONGEST, End::Loop, counts);
+    }
     for (_, aim) in refusals(false).into_iter().enumerate().filter(|(n, _)| *n as u64 % TURN_ROUNDS == part) {
-        let mut memory = vec![0; supply.length()];
-        aimed_refusal(left, right, supply, aim, &mut memory, counts);
+        let length = if aim.told() == 0 { 0 } else { supply.length() };
+        aimed_refusal(left, right, supply, aim, &mut vec![0; length], counts);
     }
     sequence(left, right, supply, counts);
 }
@@ -45,7 +47,7 @@ pub fn long(left: &dyn Engine, right: &dyn Engine, supply: &mut Supply, memory: 
             aimed_refusal(left, right, supply, aim, memory, counts);
         }
     } else {
-        let mut scheduler = Scheduler::of(&[supply.locked_machine(memory.len()), supply.locked_machine(memory.len())]);
+        let mut scheduler = Scheduler::of(&[good_machine(supply, memory.len()), good_machine(supply, memory.len())]);
         for _ in 0..2 {
             compare_turn(left, right, &mut scheduler, memory, 10, counts);
         }
@@ -181,9 +183,9 @@ impl Seen<'_> {
 
     /// Refused for a machine whose turn it was not.
     fn for_another(&self) -> bool {
-        let count = self.before.count;
-        let own = (0..count).map(|n| (self.before.place_taken() - 1 + n) % count).find(|n| !self.before.slots[*n as usize].stopped());
-        [3, 4, 52].contains(&self.answer.stop) && !self.ran() && own.is_some_and(|n| machine_refusal(&self.before.slots[n as usize].machine) == 0)
+        let order = Order { count: self.before.count, place: self.before.place, stopped: 0 };
+        let own = || order.round().into_iter().map(|n| self.before.slot(n)).find(|slot| !slot.stopped());
+        [3, 4, 52].contains(&self.answer.stop) && !self.ran() && own().is_some_and(|slot| machine_refusal(&slot.machine) == 0)
     }
 
     /// What the slot had before its turn.
@@ -277,12 +279,15 @@ pub fn print(met: &Met) {
 // ---- aimed: whose turn it is, and how its run ends
 
 /// How many slots, the place, and which are stopped: bit n - 1 for slot n.
-#[derive(Clone, Copy, Debug)]
+#[derive(Clone, Copy, Debug, PartialEq, Eq)]
 pub struct Order {
     pub count: u64,
     pub place: u64,
     pub stopped: u64,
 }
+
+/// The one whose turn, where it comes to its allowance, is of 10,000 steps.
+const LONGEST: Order = Order { count: 3, place: 3, stopped: 0 };
 
 /// Each count with each place in it and some outside, and each set of stopped
 /// slots.
@@ -301,17 +306,15 @@ impl Order {
         self.stopped >> (n - 1) & 1 == 1
     }
 
-    /// Whose turn it is: going up from the place, and after the last slot on
-    /// from 1, the first that is not stopped.
+    /// The slots going up from the place, and after the last one on from 1.
+    fn round(self) -> Vec<u64> {
+        let place = if self.place >= 1 && self.place <= self.count { self.place } else { 1 };
+        (0..self.count).map(|n| (place - 1 + n) % self.count + 1).collect()
+    }
+
+    /// Whose turn it is: the first that is not stopped.
     fn told(self) -> Option<u64> {
-        let mut n = if self.place >= 1 && self.place <= self.count { self.place } else { 1 };
-        for _ in 0..self.count {
-            if !self.stops(n) {
-                return Some(n);
-            }
-            n = if n == self.count { 1 } else { n + 1 };
-        }
-        None
+        self.round().into_iter().find(|n| !self.stops(*n))
     }
 }
 
@@ -438,7 +441,6 @@ fn aimed_machine(supply: &mut Supply, n: u64, end: End) -> Machine {
     machine.regions[2] = block(64 * (n - 1), 4);
     machine.regions[6] = block(ABSENT_DATA, 3);
     machine.regions[9] = block(ABSENT_CODE, 4);
-    // A place that no slot may fetch from, as 11 wants it, is data of none but the fourth.
     machine.fault = Fault { occurred: supply.below(2), region: supply.below(11), op: supply.below(4), address: supply.edge() };
     machine
 }
@@ -482,7 +484,7 @@ fn aimed_order(left: &dyn Engine, right: &dyn Engine, supply: &mut Supply, order
     for n in order.count + 1..=SLOTS as u64 {
         spoil_any(supply, scheduler.slot_mut(n), n);
     }
-    let (allowance, steps) = aimed_allowance(supply, before, end);
+    let (allowance, steps) = aimed_allowance(supply, order, before, end);
     // The total then goes just to 2^64 - 1, to 0 or to 1.
     if supply.once_in(4) {
         scheduler.total = steps.wrapping_neg().wrapping_add(supply.below(3)).wrapping_sub(1);
@@ -492,12 +494,33 @@ fn aimed_order(left: &dyn Engine, right: &dyn Engine, supply: &mut Supply, order
         Some(slot) => Answer { slot, stop: end.stop(), count: steps, address: end.address() },
     };
     told_turn(left, right, &mut scheduler, &mut memory, allowance, told, counts);
+    if told.slot == 0 {
+        aimed_put(left, right, supply, &mut scheduler, &mut memory, counts);
+    }
+}
+
+/// With all slots stopped a machine is put where there is no slot, and then
+/// into one of those that take turns: the next turn is that slot's.
+fn aimed_put(left: &dyn Engine, right: &dyn Engine, supply: &mut Supply, scheduler: &mut Scheduler, memory: &mut Vec<u8>, counts: &mut Counts) {
+    let (before, n) = (*scheduler, 1 + supply.below(scheduler.count));
+    let machine = aimed_machine(supply, n, End::Odd);
+    let nowhere = supply.pick(&[0, 5, ALL]);
+    if compare_put(left, right, scheduler, nowhere, &machine, counts) || *scheduler != before {
+        counts.difference(format!("a machine is put into slot {nowhere}"));
+    }
+    let mut told = before;
+    told.slots[n as usize - 1] = Slot { machine, stop: 0 };
+    if !compare_put(left, right, scheduler, n, &machine, counts) || *scheduler != told {
+        counts.difference(format!("a machine is not put into slot {n} alone"));
+    }
+    told_turn(left, right, scheduler, memory, 1, Answer { slot: n, stop: 10, ..Answer::default() }, counts);
+    *counts.turns.entry(AWAKE.to_string()).or_default() += 1;
 }
 
 /// An allowance that brings the run to its end, and the steps that it makes.
-fn aimed_allowance(supply: &mut Supply, before: u64, end: End) -> (u64, u64) {
+fn aimed_allowance(supply: &mut Supply, order: Order, before: u64, end: End) -> (u64, u64) {
     if matches!(end, End::Loop) {
-        let allowance = if supply.once_in(24) { ALLOWANCE_LIMIT } else { before + 1 + supply.below(8) };
+        let allowance = if order == LONGEST { ALLOWANCE_LIMIT } else { before + 1 + supply.below(8) };
         return (allowance, allowance);
     }
     let steps = before + end.own_steps();
@@ -554,12 +577,16 @@ fn as_told(before: &Scheduler, after: &Scheduler, n: u64, told: Answer) -> bool 
 
 // ---- aimed: refusals
 
+/// Counts and allowances that are refused.
+const BAD_COUNTS: [u64; 8] = [0, 5, (1 << 32) + 1, 6, ALL, (1 << 32) + 4, 1 << 63, 1 << 32];
+const BAD_ALLOWANCES: [u64; 8] = [0, ALLOWANCE_LIMIT + 1, (1 << 32) + 1, ALL, 1_000_000, (1 << 32) + ALLOWANCE_LIMIT, 1_000_001, 1 << 63];
+
 /// What can be refused.
 #[derive(Clone, Copy, Debug, PartialEq, Eq)]
 pub enum Bad {
     Memory,
-    Count,
-    Allowance,
+    Count(u64),
+    Allowance(u64),
     /// The machine of this slot, with 3, 4 or 52.
     Machine(u64, u64),
 }
@@ -568,8 +595,8 @@ impl Bad {
     fn number(self) -> u64 {
         match self {
             Bad::Memory => 1,
-            Bad::Count => 50,
-            Bad::Allowance => 51,
+            Bad::Count(_) => 50,
+            Bad::Allowance(_) => 51,
             Bad::Machine(_, number) => number,
         }
     }
@@ -578,6 +605,15 @@ impl Bad {
         match self {
             Bad::Machine(n, _) => Some(n),
             _ => None,
+        }
+    }
+
+    /// The same with another bad count or allowance, going by a number.
+    fn varied(self, by: usize) -> Bad {
+        match self {
+            Bad::Count(_) => Bad::Count(BAD_COUNTS[by % BAD_COUNTS.len()]),
+            Bad::Allowance(_) => Bad::Allowance(BAD_ALLOWANCES[by % BAD_ALLOWANCES.len()]),
+            other => other,
         }
     }
 }
@@ -606,7 +642,7 @@ impl Refusal {
 /// 3, 4, 52"
 fn in_order() -> Vec<Bad> {
     let machines = (1..=SLOTS as u64).flat_map(|n| [3, 4, 52].map(|number| Bad::Machine(n, number)));
-    [Bad::Memory, Bad::Count, Bad::Allowance].into_iter().chain(machines).collect()
+    [Bad::Memory, Bad::Count(0), Bad::Allowance(0)].into_iter().chain(machines).collect()
 }
 
 /// All of them that have 1, or all that have not.
@@ -614,11 +650,14 @@ pub fn refusals(long: bool) -> Vec<Refusal> {
     let bad = in_order();
     let mut all = Vec::new();
     for (place, first) in bad.iter().copied().enumerate().filter(|(_, bad)| (*bad == Bad::Memory) == long) {
-        all.push(Refusal { first, second: None, asked: true });
+        let values = if matches!(first, Bad::Count(_) | Bad::Allowance(_)) { BAD_COUNTS.len() } else { 1 };
+        all.extend((0..values).map(|by| Refusal { first: first.varied(by), second: None, asked: true }));
         if first.slot().is_some() {
             all.push(Refusal { first, second: None, asked: false });
         }
         for second in bad[place + 1..].iter().copied().filter(|second| together(first, *second)) {
+            let by = all.len();
+            let (first, second) = (first.varied(by), second.varied(by / 8));
             all.push(Refusal { first, second: Some(second), asked: true });
             if first.slot().is_some() && second.slot() != first.slot() {
                 all.push(Refusal { first, second: Some(second), asked: false });
@@ -685,20 +724,10 @@ fn give_slots(supply: &mut Supply, aim: Refusal, scheduler: &mut Scheduler) {
 fn plant(supply: &mut Supply, scheduler: &mut Scheduler, allowance: &mut u64, bad: Bad) {
     match bad {
         Bad::Memory => {}
-        Bad::Count => scheduler.count = bad_count(supply),
-        Bad::Allowance => *allowance = bad_allowance(supply),
+        Bad::Count(count) => scheduler.count = count,
+        Bad::Allowance(bad) => *allowance = bad,
         Bad::Machine(n, number) => make_refused(supply, &mut scheduler.slot_mut(n).machine, n, number),
     }
-}
-
-fn bad_count(supply: &mut Supply) -> u64 {
-    let more = 1 + supply.below(4);
-    supply.pick(&[0, 0, 5, 5, 6, 8, ALL, 1 << 63, (1 << 32) + more, more << 32])
-}
-
-fn bad_allowance(supply: &mut Supply) -> u64 {
-    let more = 1 + supply.below(ALLOWANCE_LIMIT);
-    supply.pick(&[0, 0, ALLOWANCE_LIMIT + 1, ALLOWANCE_LIMIT + 1, ALLOWANCE_LIMIT + more, 1_000_000, 1_000_001, (1 << 32) + more, ALL, 1 << 63])
 }
 
 /// Makes the machine of an aimed slot one that is refused with 3, 4 or 52.
@@ -804,7 +833,7 @@ fn meddle(supply: &mut Supply, scheduler: &mut Scheduler) {
 
 fn any_count(supply: &mut Supply) -> u64 {
     if supply.once_in(16) {
-        bad_count(supply)
+        supply.pick(&BAD_COUNTS)
     } else {
         1 + supply.below(SLOTS as u64)
     }
@@ -821,7 +850,7 @@ fn any_place(supply: &mut Supply) -> u64 {
 /// An allowance, mostly small.
 pub fn any_allowance(supply: &mut Supply) -> u64 {
     match supply.below(64) {
-        0 | 1 => bad_allowance(supply),
+        0 | 1 => supply.pick(&BAD_ALLOWANCES),
         2 => supply.edge(),
         3 => ALLOWANCE_LIMIT,
         4..=9 => 1,
@@ -840,6 +869,16 @@ fn any_machine(supply: &mut Supply, length: usize) -> Machine {
             ill_formed(supply, &machine)
         }
         _ => supply.locked_machine(length),
+    }
+}
+
+/// A machine that is not refused.
+fn good_machine(supply: &mut Supply, length: usize) -> Machine {
+    loop {
+        let machine = supply.locked_machine(length);
+        if machine_refusal(&machine) == 0 {
+            return machine;
+        }
     }
 }
 

@@ -255,8 +255,8 @@ fn show_all(rt: &impl Print, s: &[u8]) -> io::Result<()> {
 }
 
 // Makes each call of a file.
-fn show_file(rt: &(impl Files + Print + Eprint), name: &str) -> io::Result<()> {
-    let mut room = [0u8; 655360];
+fn show_file(rt: &(impl Files + Print + Eprint + Alloc), name: &str) -> io::Result<()> {
+    let mut room = vec![in rt.alloc(); 0u8; 655360]?;
     let n = read_file(rt, name, &mut room);
     show_all(rt, &room[..n])
 }

@@ -119,15 +119,7 @@ fn store(
     load_store::store(pc, hfi, rs, mem, next, k, register(x, rs2), a)
 }
 
-#[tactic(
-    auto,
-    unfolding(
-        model::specs::Step::perform,
-        model::specs::Step::executeInstruction,
-        model::specs::Outcome::allowed,
-        model::specs::Hfi::hfiStop
-    )
-)]
+#[tactic(auto, unfolding(model::specs::Step::perform, model::specs::Step::executeInstruction, model::specs::Outcome::allowed, model::specs::Hfi::hfiStop))]
 fn hload(
     x: &mut [u64; 32],
     pc: u64,
@@ -152,15 +144,7 @@ fn hload(
     load_store::hload(x, pc, hfi, rs, mem, next, k, region, rd, operand, imm)
 }
 
-#[tactic(
-    auto,
-    unfolding(
-        model::specs::Step::perform,
-        model::specs::Step::executeInstruction,
-        model::specs::Outcome::allowed,
-        model::specs::Hfi::hfiStop
-    )
-)]
+#[tactic(auto, unfolding(model::specs::Step::perform, model::specs::Step::executeInstruction, model::specs::Outcome::allowed, model::specs::Hfi::hfiStop))]
 fn hstore(
     x: &[u64; 32],
     pc: u64,
@@ -197,16 +181,7 @@ fn hstore(
 }
 
 // One instruction, question 8 first; `next` is the pc after it.
-#[tactic(
-    auto,
-    using(crate::proofs::Ranges::below),
-    unfolding(
-        model::specs::Step::perform,
-        model::specs::Step::executeInstruction,
-        model::specs::Outcome::allowed,
-        model::specs::Hfi::hfiStop
-    )
-)]
+#[tactic(auto, using(crate::proofs::Ranges::below), unfolding(model::specs::Step::perform, model::specs::Step::executeInstruction, model::specs::Outcome::allowed, model::specs::Hfi::hfiStop))]
 pub fn execute(
     x: &mut [u64; 32],
     pc: u64,

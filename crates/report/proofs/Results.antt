@@ -8,7 +8,6 @@ use native.Mathlib.Omega.{arith}
 use lib.Dec.{eqb, lit≤}
 use lib.ListN.{length, get_or}
 use borrow.Author.Tests.{eqb-true}
-use Rattle.text.specs.Scan.{count}
 use Rattle.text.specs.Number.{decimal, hexadecimal}
 use Rattle.text.proofs.RoundTrip.{Clean, lines_same, decimal-free, hexadecimal-free, decimal-same, hexadecimal-same}
 use Rattle.model.specs.declared.Fault.{Fault}

@@ -9,7 +9,7 @@ loop-count-init c =
     let a = c.args in (
       omega arith,
       ap (λ n. run c.inside-began.result n 0 (hart a.m.x a.m.pc a.control a.numbers) a.mem.now) (omega arith)
-      ∙ whole a.m a.control a.numbers a.mem.now c.inside-began.result a.budget c.requires c.inside-began.ensures,
+          ∙ whole a.m a.control a.numbers a.mem.now c.inside-began.result a.budget c.requires c.inside-began.ensures,
     )
 
 pub returns-then-e-ne0 : goal.returns-then-e-ne0
@@ -25,10 +25,10 @@ returns-then-began-inside c =
 
 pub loop-count-preserved : goal.loop-count-preserved
 loop-count-preserved c = (
-      omega (arith, c.loop-count-test.true),
-      onward _ c.args.budget c.loop-count.count _ _ _ _ _ _ c.loop-count-test.true c.step-e.ensures _ c.if-e-ne0.false c.inside.ensures c.if-began-inside.false
+  omega (arith, c.loop-count-test.true),
+  onward _ c.args.budget c.loop-count.count _ _ _ _ _ _ c.loop-count-test.true c.step-e.ensures _ c.if-e-ne0.false c.inside.ensures c.if-began-inside.false
       ∙ c.loop-count.invariant.1,
-    )
+)
 
 pub returns : goal.returns
 returns c =
