@@ -6,13 +6,17 @@
 use std::collections::BTreeMap;
 
 use crate::compare::{Counts, Engine};
-use crate::machine::{region_kind, Machine, Region, RegionKind, EXPLICIT, IMPLICIT_DATA, REGIONS, WRITE};
+use crate::instruction::{
+    encode, BranchKind, HfiKind, ImmediateKind, Instruction, SystemKind, BRANCH_TABLE, IMMEDIATE_TABLE, LOAD_TABLE, REGISTER_TABLE, SHIFT_TABLE,
+    STORE_TABLE,
+};
+use crate::machine::{region_kind, Fault, Machine, Region, RegionKind, EXPLICIT, IMPLICIT_DATA, REGIONS, WRITE};
 use crate::numbers::add;
 use crate::overlap::{code_is_writable, executable_intervals, extent};
 use crate::reach::{executable, readable, writable};
 use crate::scheduler::{Answer, Scheduler, Slot, SLOTS};
 use crate::supply::Supply;
-use crate::turns::{any_allowance, show_scheduler, stopped_stop, TURN_ROUNDS};
+use crate::turns::{any_allowance, show_scheduler, stopped_stop};
 
 const ALL: u64 = u64::MAX;
 
@@ -20,7 +24,7 @@ const ALL: u64 = u64::MAX;
 pub type Met = BTreeMap<(&'static str, String), u64>;
 
 /// One round in so many has the experiments: they look at every byte.
-const APART_EVERY: u64 = 4;
+const APART_EVERY: u64 = 2;
 
 pub fn compare(left: &dyn Engine, right: &dyn Engine, supply: &mut Supply, round: u64, counts: &mut Counts) {
     if round % APART_EVERY != 0 {
@@ -346,7 +350,7 @@ const KINDS: [Kind; 8] =
     [Kind::Blocks, Kind::Trespass, Kind::Blocks, Kind::OneBlock, Kind::Blocks, Kind::Blocks, Kind::Any, Kind::Blocks];
 
 /// After so many rounds each kind has come often enough for every class.
-pub const APART_ROUNDS: u64 = 16 * TURN_ROUNDS;
+pub const APART_ROUNDS: u64 = 256;
 
 pub fn any_set(supply: &mut Supply) -> Set {
     let kind = supply.pick(&KINDS);
@@ -395,16 +399,18 @@ fn any_machines(supply: &mut Supply) -> Set {
 }
 
 /// Four worlds in blocks of one memory, in any order, and a block of bytes that
-/// nobody writes: the table.
+/// nobody writes: the table. A world is one in which runs go on for a while, or
+/// most often a worker's, in which they go on longer.
 fn blocks(supply: &mut Supply, kind: Kind, count: u64) -> Set {
     let k = supply.pick(&[7, 7, 7, 8]);
+    let workers = !supply.once_in(3);
     let size = 2u64 << k;
     let mut memory = vec![0; 5 * size as usize];
     memory.iter_mut().for_each(|byte| *byte = supply.next() as u8);
     let place = order(supply);
     let mut scheduler = Scheduler::default();
     for n in 0..SLOTS {
-        let (machine, bytes) = supply.locked_world_of(k);
+        let (machine, bytes) = if workers { worker(supply, k) } else { supply.locked_world_of(k) };
         // Code of the first slot, or its own; data in its own block, or with the first slot's.
         let code = if n > 0 && supply.once_in(2) { place[0] } else { place[n] } * size;
         let data = if n == 1 && kind == Kind::OneBlock { place[0] } else { place[n] } * size;
@@ -413,7 +419,11 @@ fn blocks(supply: &mut Supply, kind: Kind, count: u64) -> Set {
         }
         scheduler.slots[n].machine = settled(supply, &machine, k, code, data);
     }
-    share_table(supply, &mut scheduler, 4 * size, k);
+    if workers {
+        give_table(supply, &mut scheduler, 4 * size, k);
+    } else {
+        share_table(supply, &mut scheduler, 4 * size, k);
+    }
     if kind == Kind::Trespass {
         trespass(supply, &mut scheduler, size, &place, count);
     }
@@ -421,6 +431,87 @@ fn blocks(supply: &mut Supply, kind: Kind, count: u64) -> Set {
         memory.truncate(memory.len() - supply.below(size) as usize);
     }
     Set { scheduler, memory }
+}
+
+/// Registers that a worker computes with, and one that counts its rounds.
+const WORKING: [u64; 7] = [5, 6, 7, 10, 11, 14, 15];
+const ROUNDS: u64 = 9;
+
+/// A world of 2^k bytes of code and as many of data from there on: a loop that
+/// loads, stores, computes and branches by what it has loaded, a number of
+/// rounds, and a word that stops it. x1 and x2 point into its data, x4 and x12
+/// are offsets into region 1, which has nearly all of them; x8 points to what
+/// is only loaded, and so does region 4.
+fn worker(supply: &mut Supply, k: u64) -> (Machine, Vec<u8>) {
+    let half = 1u64 << k;
+    let mut memory: Vec<u8> = (0..2 * half).map(|_| supply.next() as u8).collect();
+    for (n, instruction) in worker_loop(supply).iter().enumerate() {
+        memory[4 * n..4 * n + 4].copy_from_slice(&encode(instruction).expect("in range").to_le_bytes());
+    }
+    let mut machine = Machine { mode: 1, options: 1 | supply.below(8) << 1, reason: supply.below(3), selector: supply.below(11), ..Machine::default() };
+    machine.fault = Fault { occurred: supply.below(2), region: supply.below(11), op: supply.below(4), address: supply.edge() };
+    (machine.exit_pc, machine.handler) = (supply.edge(), supply.below(1 << 20) * 4);
+    (5..32).for_each(|register| machine.x[register] = supply.edge());
+    [1, 2, 8].into_iter().for_each(|register| machine.x[register] = half + 48 + supply.below(half - 103));
+    let first = supply.below(16);
+    [4, 12].into_iter().for_each(|register| machine.x[register] = 24 + supply.below(half - 16 - 55));
+    machine.x[ROUNDS as usize] = if supply.once_in(3) { supply.next() } else { 1 + supply.below(5) };
+    machine.regions[0] = Region { base: half + first, bound: half - 16, permission: 3 };
+    machine.regions[1] = Region { base: half, bound: ALL << k, permission: 3 };
+    machine.regions[2] = Region { base: 0, bound: ALL << k, permission: 4 };
+    machine.regions[3] = Region { base: half, bound: 64, permission: 1 };
+    (machine, memory)
+}
+
+fn worker_loop(supply: &mut Supply) -> Vec<Instruction> {
+    let mut words: Vec<Instruction> = (0..8 + supply.below(12)).map(|_| work(supply)).collect();
+    let back = -4 * (words.len() as i64 + 1);
+    words.push(Instruction::Immediate { kind: ImmediateKind::Addi, rd: ROUNDS, rs1: ROUNDS, value: -1 });
+    words.push(Instruction::Branch { kind: BranchKind::Bne, rs1: ROUNDS, rs2: 0, offset: back });
+    let hfi = |kind| Instruction::Hfi { kind, rd: 0, rs1: 0, rs2: 0 };
+    words.push(supply.pick(&[
+        Instruction::System { kind: SystemKind::Ecall },
+        Instruction::System { kind: SystemKind::Ebreak },
+        hfi(HfiKind::Exit),
+        hfi(HfiKind::Exit),
+        hfi(HfiKind::Exit),
+        hfi(HfiKind::Enter),
+        hfi(HfiKind::Reset),
+        Instruction::Jalr { rd: 0, rs1: 1, offset: 0 },
+        Instruction::Store { kind: STORE_TABLE[0].0, rs1: 3, rs2: 5, offset: 0 },
+    ]));
+    words
+}
+
+/// A word of a worker that does not stop it.
+fn work(supply: &mut Supply) -> Instruction {
+    let (rd, rs1, rs2) = (supply.pick(&WORKING), supply.pick(&WORKING), supply.pick(&WORKING));
+    let near = supply.below(96) as i64 - 48;
+    let inside = supply.below(48) as i64 - 24;
+    match supply.below(16) {
+        0..=2 => Instruction::Register { kind: supply.pick(&REGISTER_TABLE).0, rd, rs1, rs2 },
+        3 => Instruction::Immediate { kind: supply.pick(&IMMEDIATE_TABLE).0, rd, rs1, value: near },
+        4 => Instruction::Shift { kind: supply.pick(&SHIFT_TABLE).0, rd, rs1, amount: supply.below(32) },
+        5 | 6 => Instruction::Load { kind: supply.pick(&LOAD_TABLE).0, rd, rs1: supply.pick(&[1, 2, 8, 8]), offset: near },
+        7..=9 => Instruction::Store { kind: supply.pick(&STORE_TABLE).0, rs1: supply.pick(&[1, 2]), rs2, offset: near },
+        10 => Instruction::HLoad { kind: supply.pick(&LOAD_TABLE).0, region: 4, rd, rs1: 0, offset: supply.below(57) as i64 },
+        11 => Instruction::HLoad { kind: supply.pick(&LOAD_TABLE).0, region: 1, rd, rs1: supply.pick(&[4, 12]), offset: inside },
+        12 | 13 => Instruction::HStore { kind: supply.pick(&STORE_TABLE).0, region: 1, rs1: supply.pick(&[4, 12]), rs2, offset: inside },
+        _ => Instruction::Branch { kind: supply.pick(&BRANCH_TABLE).0, rs1, rs2, offset: 8 },
+    }
+}
+
+/// Most workers read the table through region 4, some also by x8.
+fn give_table(supply: &mut Supply, scheduler: &mut Scheduler, table: u64, k: u64) {
+    for slot in &mut scheduler.slots {
+        if !supply.once_in(4) {
+            slot.machine.regions[3] = Region { base: table + supply.below(32), bound: 64 + supply.below(64), permission: 1 };
+        }
+        if supply.once_in(3) {
+            slot.machine.regions[supply.pick(&[6, 7, 8])] = Region { base: table, bound: ALL << k, permission: 1 };
+            slot.machine.x[8] = table + 48 + supply.below((1 << k) - 103);
+        }
+    }
 }
 
 /// The places of the four blocks, in any order.
@@ -518,12 +609,12 @@ fn any_plan(supply: &mut Supply) -> Vec<Step> {
     let places = supply.once_in(4);
     let one = |supply: &mut Supply| Step {
         place: if places && supply.once_in(3) { Some(supply.below(6)) } else { None },
-        allowance: match supply.below(10) {
+        allowance: match supply.below(12) {
             0 => 0,
             1 => any_allowance(supply),
             _ => 1 + supply.below(24),
         },
     };
-    let many = 4 + supply.below(12);
+    let many = 4 + supply.below(16);
     (0..many).map(|_| one(supply)).collect()
 }

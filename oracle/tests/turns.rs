@@ -315,9 +315,9 @@ fn experiments_can_fail() {
         // a register, the fault record or pc of one slot goes over to another
         |s, m, a| after_run(s, m, a, |s, answer| s.slots[(answer.slot % 4) as usize].machine.x[31] = s.slot(answer.slot).machine.x[31]),
         |s, m, a| after_run(s, m, a, |s, answer| s.slots[(answer.slot % 4) as usize].machine.fault.address = s.slot(answer.slot).machine.pc),
-        // what one slot leaves of the allowance the next one has too
+        // the allowance goes by what other slots have done
         |s, m, a| turn(s, m, if s.count > 1 && a > 1 && a <= 10_000 { a - s.total % 2 } else { a }),
-        // memory: the first byte of all, or one beside those that the slot stored to
+        // memory: the first byte of all changes after a turn of another slot than the first
         |s, m, a| {
             let answer = turn(s, m, a);
             if answer.slot > 1 {
@@ -347,7 +347,7 @@ fn experiments_can_fail() {
             }
             answer
         },
-        // the total is not kept
+        // the total lacks some steps
         |s, m, a| after_run(s, m, a, |s, answer| s.total = s.total.wrapping_sub(answer.count / 9)),
         // a refused turn moves the place: not fair
         |s, m, a| {

@@ -1,13 +1,26 @@
 -- What a call on a lent machine answers, with the machine that it left, as the model's answer of the call by value.
--- Stop and RunStop are declared in src/lent.rt, Machine, Stepped and Ran in model/src/lib.rt. Assumes nothing.
+-- Stop and RunStop are declared in src/lent.rt, TurnStop in src/scheduled.rt, Machine, Stepped and Ran in model/src/lib.rt, Scheduler, Turned and
+-- Put in scheduler/src/lib.rt. Assumes nothing.
+use Rattle.std.specs.Prelude.{Bool}
 use Rattle.model.specs.declared.Machine.{Machine}
 use Rattle.model.specs.declared.Stepped.{Stepped}
 use Rattle.model.specs.declared.Ran.{Ran}
 use Rattle.koubospar.specs.declared.lent.Stop.{Stop}
 use Rattle.koubospar.specs.declared.lent.RunStop.{RunStop}
+use Rattle.scheduler.specs.declared.Scheduler.{Scheduler}
+use Rattle.scheduler.specs.declared.Turned.{Turned}
+use Rattle.scheduler.specs.declared.Put.{Put}
+use Rattle.koubospar.specs.declared.scheduled.TurnStop.{TurnStop}
 
 abbrev pub stopWith : Stop → Machine → Stepped
 stopWith r m = record { stop = r.stop; address = r.address; machine = m }
 
 abbrev pub runStopWith : RunStop → Machine → Ran
 runStopWith r m = record { stop = r.stop; count = r.count; address = r.address; machine = m }
+
+-- a turn's answer with the slots that it left, and whether a machine was put there
+abbrev pub turnStopWith : TurnStop → Scheduler → Turned
+turnStopWith r s = record { slot = r.slot; stop = r.stop; count = r.count; address = r.address; scheduler = s }
+
+abbrev pub putWith : Bool → Scheduler → Put
+putWith done s = record { done = done; scheduler = s }

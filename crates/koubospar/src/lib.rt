@@ -5,5 +5,6 @@
 
 pub mod lent;
 pub mod probe;
+pub mod scheduled;
 pub mod sheet_call;
 pub mod single;

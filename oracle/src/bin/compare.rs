@@ -5,12 +5,14 @@
 //! ENGINE is `oracle` (against itself), `plain` (the C interpreter of bench/, with `--features plain`) or `proved` (the
 //! proved static library, with `--features proved`). Ends with 1 if there is a difference.
 
+use oracle::apart::APART_ROUNDS;
 use oracle::compare::{
     compare_step, empty_budgets_unmet, fields_unmet, h_words_unmet, long_memories, long_sheets_unmet, print_counts, rounds, Counts, Engine,
     Oracle, EMPTY_TURNS, H_ROUNDS,
 };
 use oracle::fetches::every_half_word;
 use oracle::sheet::{print_result, read_sheet, sheet_memory};
+use oracle::turns::TURN_ROUNDS;
 use oracle::Machine;
 
 #[cfg(feature = "plain")]
@@ -94,6 +96,12 @@ fn unmet(counts: &Counts, rounds: u64) -> Vec<String> {
     }
     if rounds >= EMPTY_TURNS {
         unmet.extend(empty_budgets_unmet(counts));
+    }
+    if rounds >= TURN_ROUNDS {
+        unmet.extend(oracle::turns::unmet(&counts.turns));
+    }
+    if rounds >= APART_ROUNDS {
+        unmet.extend(oracle::apart::unmet(&counts.apart));
     }
     unmet
 }
