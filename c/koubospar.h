@@ -1,6 +1,6 @@
 /* libkoubospar.a and libkoubospar_codec.a: an RV64IMC machine (of C the integer words) with HFI, for a controller.
  *
- * `rt lib` in crates/koubospar and in crates/koubospar_codec builds them, in out/ there; nothing of them is
+ * `rt lib --cpu=x86-64` in crates/koubospar and in crates/koubospar_codec builds them, in out/ there; nothing of them is
  * compiled unless it is proved. The second has koubospar_decode, koubospar_expand and koubospar_encode, the first all else. Numbers and
  * values are those of the scope paper, "document 01", with what "document 02" has changed. Every function takes every
  * value of every field; what it refuses, it answers with a number. What nothing checks is C's own: a machine is a
@@ -14,7 +14,7 @@
  * compiler of the controller's code (`CC=.. c/try`), before you believe the declarations below.
  *
  * The libraries are compiled for x86-64 alone, with the System V calling convention, and use SSE2, which every x86-64
- * has: a controller that calls them from an interrupt has to save those registers. Another machine takes a compiler back
+ * has (built without --cpu they use SSE4.1 too, and ask nobody whether it is there): a controller that calls them from an interrupt has to save those registers. Another machine takes a compiler back
  * end for it in the kit; sources and proofs stay as they are, and `c/try` and `oracle/try` have to be run there. Memory is
  * little-endian by its definition and not by the host's.
  */
