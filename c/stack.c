@@ -292,11 +292,11 @@ static void turn_of(uint64_t count, uint64_t at)
  * is a run, whose words are measured above. */
 static void turns(void)
 {
-    static const uint32_t at_40[] = {0x13, 0x0000006f, 0, 0x73, 0x00100073, 0x0400005b, 0x0000005b, 0x0003305b, 0x00032283, 0x0062a023, 0x1400005b};
+    static const uint32_t at_40[] = {0x13, 0x0000006f, 0, 0x73, 0x00100073, 0x0400005b, 0x0000005b, 0x0003305b, 0x00032283, 0x0062a023, 0x0003328b, 0x1400005b};
     for (size_t w = 0; w < sizeof at_40 / sizeof at_40[0]; w++)
         for (uint64_t at = 0; at < 6; at++) {
-            start(1, 1 + 2 * (at % 4), at_40[w]);
-            before.x[6] = at == 4 ? 0x7fc : 0x410;
+            start(1, 1 + 2 * (at % 4), choosing(at_40[w]));
+            before.x[6] = at == 4 ? 0x1c : 0x410; /* the h-load then asks for bytes that memory lacks */
             budget = 100;
             turn_of(4, at);
             turn_of(at, 2);
