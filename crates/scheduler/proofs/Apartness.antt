@@ -4,36 +4,36 @@
 use mathlib.Core.Path.{◌≡◌, refl, ap, sym, subst, ◌∙◌}
 use mathlib.Core.Bool.{Bool, true, false, cond, false≢true}
 use mathlib.Core.List.{List, [], ◌∷◌, map}
-use Prim.Native.Nat.{ℕ, zero, suc, ◌+◌, ◌-◌, ◌<◌, ◌≤◌}
+use Prim.Native.Nat.{ℕ, ◌-◌, ◌<◌, ◌≤◌}
 use native.Mathlib.Omega.{arith}
 use lib.Dec.{eqb, ltb}
 use lib.ListN.{length, get_or, set, get_or-eq_default}
 use lib.Seq.{get_or-set_same, get_or-set_other}
-use borrow.Author.Tests.{eqb-true, eqb-false, eq-eqb, ne_eqb, ltb-true, ltb-false}
+use borrow.Author.Tests.{eqb-true, eqb-false, ltb-true, ltb-false}
 use Rattle.model.specs.Machine.{sum, locked}
-use Rattle.model.specs.Reach.{Readable, Writable, Executable}
+use Rattle.model.specs.Reach.{Writable}
 use Rattle.model.specs.Run.{Ended, runCall}
-use Rattle.model.specs.Isolation.{Locked, Agree, Isolated}
+use Rattle.model.specs.Isolation.{Locked, Isolated}
 use Rattle.model.specs.declared.Region.{Region}
 use Rattle.model.specs.declared.Machine.{Machine}
 use Rattle.model.specs.declared.Ran.{Ran}
 use Rattle.model.proofs.Moves.{Settings}
 use Rattle.model.proofs.Runs.{locked-is, run_length, locked-keeps, locked-unwritten}
 use Rattle.model.proofs.Isolation.{isolation}
-use Rattle.scheduler.specs.Turn.{within, no_slot, slot, stopped, place_in, firstUnstopped, nextSlot, slotsRefusal, Left, turnedWith, tookTurn, turnCall}
-use Rattle.scheduler.specs.Turns.{Given, left, State, before, after, Follow, afterAll, turnsOf, in_turn}
+use Rattle.scheduler.specs.Turn.{within, no_slot, slot, stopped, place_in, firstUnstopped, slotsRefusal, Left, turnedWith, tookTurn, turnCall}
+use Rattle.scheduler.specs.Turns.{Given, left, State, before, after, Follow, turnsOf, in_turn}
 use Rattle.scheduler.specs.Apartness.{Untouched, Own, regionsAt, Taking, Apart, alone, aloneTurns, Told, told, Alike, Apartness}
 use Rattle.scheduler.specs.declared.Slot.{Slot}
 use Rattle.scheduler.specs.declared.Scheduler.{Scheduler}
 use Rattle.scheduler.proofs.Round.{Numbered, within-numbered}
-use Rattle.scheduler.proofs.Turn.{Ready, ready-slot, Accepted, accepting, Took, Turn, turn_is, turn-runs}
+use Rattle.scheduler.proofs.Turn.{Ready, ready-slot, accepting, Took, Turn, turn_is, turn-runs}
 use Rattle.scheduler.proofs.Turn.Turn.{none, took}
 use Rattle.scheduler.proofs.Turns.{mine, others}
 
 -- ---- lists of slots
 
 -- what is asked and passes is in the list: the slot that stands for none is refused
-there : (ds : List Slot) (n : ℕ) → Ready (slot ds n) → n - 1 < length ds
+pub there : (ds : List Slot) (n : ℕ) → Ready (slot ds n) → n - 1 < length ds
 there ds n r = go (ltb (n - 1) (length ds)) refl
   where
     go : (b : Bool) → ltb (n - 1) (length ds) ≡ b → n - 1 < length ds
@@ -43,10 +43,10 @@ there ds n r = go (ltb (n - 1) (length ds)) refl
         let z : false ≡ true = ap (λ (h : Slot). locked h.machine.hfi) (sym d) ∙ r.lock in
         absurd (false≢true z)
 
-slot_same : (ds : List Slot) (n : ℕ) (d : Slot) → n - 1 < length ds → slot (set ds (n - 1) d) n ≡ d
+pub slot_same : (ds : List Slot) (n : ℕ) (d : Slot) → n - 1 < length ds → slot (set ds (n - 1) d) n ≡ d
 slot_same ds n d h = get_or-set_same ds (n - 1) d no_slot h
 
-slot-other : (ds : List Slot) (n k : ℕ) (d : Slot) → 1 ≤ n → 1 ≤ k → (n ≡ k → ⊥) → slot (set ds (n - 1) d) k ≡ slot ds k
+pub slot-other : (ds : List Slot) (n k : ℕ) (d : Slot) → 1 ≤ n → 1 ≤ k → (n ≡ k → ⊥) → slot (set ds (n - 1) d) k ≡ slot ds k
 slot-other ds n k d l m ne = get_or-set_other ds (n - 1) (k - 1) d no_slot (λ e. ne (omega (arith, e, l, m)))
 
 -- ---- slot n among others, in p, and alone: a slot d over a memory t
@@ -60,18 +60,21 @@ record Tied (n : ℕ) (p : State) (d : Slot) (t : List ℕ) : Type 0 where
   same : slot p.scheduler.slots n ≡ d
   lengths : length p.memory ≡ length t
   bytes : (b : ℕ) → Own d.machine.hfi.regions b → get_or p.memory b 0 ≡ get_or t b 0
-  apart : (k b : ℕ) → Taking p.scheduler k → (n ≡ k → ⊥) → Writable (regionsAt p.scheduler k) b → Own d.machine.hfi.regions b → ⊥
+  apart : (k b : ℕ) → b < length p.memory → Taking p.scheduler k → (n ≡ k → ⊥) → Writable (regionsAt p.scheduler k) b → Own d.machine.hfi.regions b → ⊥
 
 -- the main loop leaves them so
 tied-before : (n : ℕ) (p q : State) (d : Slot) (t : List ℕ) → Untouched p q → Tied n p d t → Tied n q d t
 tied-before n p q d t u h =
     record {
       numbered = rw u.count h.numbered;
-      same = rw u.slots h.same;
+      same = u.slots n h.numbered.low h.numbered.high ∙ h.same;
       lengths = rw u.memory h.lengths;
       bytes = λ b o. rw u.memory (h.bytes b o);
-      apart = λ k b i ne w o.
-          h.apart k b (record { first = i.first; last = rw u.count at i.last; unstopped = rw u.slots at i.unstopped }) ne (rw u.slots at w) o;
+      apart = λ k b m i ne w o.
+          let l = rw u.count at i.last in
+          let e = u.slots k i.first l in
+          h.apart k b (rw u.memory at m) (record { first = i.first; last = l; unstopped = subst (λ (c : Slot). stopped c ≡ false) e i.unstopped }) ne
+          (subst (λ (c : Slot). Writable c.machine.hfi.regions b) e w) o;
     }
 
 -- a scheduler of one slot has one place
@@ -117,17 +120,24 @@ module _ (s : Scheduler) (mem : List ℕ) (a k : ℕ) (t : Took s mem a k) where
   -- another slot's turn: n's slot and own bytes are as they were
   after-another : (n : ℕ) (d : Slot) (men : List ℕ) → (n ≡ k → ⊥) → Tied n (record { scheduler = s; memory = mem }) d men → Tied n (past s mem a k) d men
   after-another n d men ne h =
-      let m = (slot s.slots k).machine in
       record {
         numbered = h.numbered;
         same = slot-other s.slots k n _ t.numbered.low h.numbered.low (λ e. ne (sym e)) ∙ h.same;
         lengths = run_length m mem a ∙ h.lengths;
-        bytes = λ b o.
-            locked-unwritten m mem a (locked-is m t.ready.lock) b
-            (λ w. h.apart k b (record { first = t.numbered.low; last = t.numbered.high; unstopped = t.unstopped }) ne w o)
-            ∙ h.bytes b o;
-        apart = λ j b i x w o. let y = took-before j i in h.apart j b y.0 x (rw y.1 at w) o;
+        bytes = λ b o. unwritten b o (ltb b (length mem)) refl ∙ h.bytes b o;
+        apart = λ j b l i x w o. let y = took-before j i in let e = run_length m mem a in h.apart j b (omega (arith, l, e)) y.0 x (rw y.1 at w) o;
       }
+    where
+      m : Machine
+      m = (slot s.slots k).machine
+
+      unwritten : (b : ℕ) → Own d.machine.hfi.regions b → (c : Bool) → ltb b (length mem) ≡ c → get_or (runCall m mem a).memory b 0 ≡ get_or mem b 0
+      unwritten b o true e =
+          locked-unwritten m mem a (locked-is m t.ready.lock) b
+          (λ w. h.apart k b (ltb-true _ _ e) (record { first = t.numbered.low; last = t.numbered.high; unstopped = t.unstopped }) ne w o)
+      unwritten b o false e =
+          let l = ltb-false _ _ e in let z = run_length m mem a in
+          get_or-eq_default (runCall m mem a).memory 0 {n = b} (omega (arith, l, z)) ∙ sym (get_or-eq_default mem 0 {n = b} l)
 
   -- its own turn, made alone too
   module _ (d : Slot) (men : List ℕ) (h : Tied k (record { scheduler = s; memory = mem }) d men) where
@@ -173,7 +183,9 @@ module _ (s : Scheduler) (mem : List ℕ) (a k : ℕ) (t : Took s mem a k) where
           same = slot_same s.slots k _ (there s.slots k t.ready) ∙ ap ran same_answer;
           lengths = ap (λ (e : Ended). length e.memory) same-run ∙ runs.lengths.0 ∙ h.lengths ∙ sym runs.lengths.1;
           bytes = λ b o. ap (λ (e : Ended). get_or e.memory b 0) same-run ∙ runs.agreeing b (h.bytes b (rw kept at o));
-          apart = λ j b i x w o. let y = took-before j i in h.apart j b y.0 x (rw y.1 at w) (rw kept at o);
+          apart = λ j b l i x w o.
+              let y = took-before j i in let e = run_length (slot s.slots k).machine mem a in
+              h.apart j b (omega (arith, l, e)) y.0 x (rw y.1 at w) (rw kept at o);
         }
 
 -- ---- the turns
@@ -274,7 +286,7 @@ go_on p (g ∷ gs) n d place total men f h = go (turn_is g.scheduler g.memory g.
             carried p (lone d place total men) n g gs (λ i. ne (sym i ∙ slot-k)) (regions d men x refl) (later d place total men f.1 x)
         whose true e =
             let own : Took g.scheduler g.memory g.allowance n = subst (Took g.scheduler g.memory g.allowance) (sym (eqb-true n k e)) t in
-            own_turn p g gs n d place total men own tied (ap (λ (ds : List Slot). (slot ds n).machine.hfi.regions) f.0.slots) (λ c i j x. later c i j x f.1)
+            own_turn p g gs n d place total men own tied (ap (λ (c : Slot). c.machine.hfi.regions) (f.0.slots n h.numbered.low h.numbered.high)) (λ c i j x. later c i j x f.1)
 
 pub apartness : Apartness
 apartness p gs n f a i =
@@ -284,7 +296,7 @@ apartness p gs n f a i =
       same = refl;
       lengths = refl;
       bytes = λ b o. refl;
-      apart = λ k b j ne w o. a n k b i j ne w o;
+      apart = λ k b l j ne w o. a n k b l i j ne w o;
     })
 
 -- a main loop that changes nothing between the turns leaves alone what the page asks for
@@ -293,8 +305,8 @@ unfolding in_turn
 in_turn-untouched p [] = tt
 in_turn-untouched p (a ∷ rest) =
     let g : Given = record { scheduler = p.scheduler; memory = p.memory; allowance = a } in
-    (record { slots = refl; count = refl; memory = refl }, in_turn-untouched (after g) rest)
+    (record { slots = λ n l u. refl; count = refl; memory = refl }, in_turn-untouched (after g) rest)
 
 -- so of its turns, whatever their allowances
-pub apart-in_turn : (p : State) (allowances : List ℕ) (n : ℕ) → Apart p.scheduler → Taking p.scheduler n → Alike p (alone p n) n (in_turn p allowances) (aloneTurns p n (in_turn p allowances))
+pub apart-in_turn : (p : State) (allowances : List ℕ) (n : ℕ) → Apart p → Taking p.scheduler n → Alike p (alone p n) n (in_turn p allowances) (aloneTurns p n (in_turn p allowances))
 apart-in_turn p allowances n = apartness p (in_turn p allowances) n (in_turn-untouched p allowances)

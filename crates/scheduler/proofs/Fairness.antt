@@ -2,19 +2,19 @@
 -- one's, and the place then stands behind it; so a slot that has had its turn is farther than one that waits, until that has had its own.
 -- Assumes nothing.
 use mathlib.Core.Path.{◌≡◌, refl, ap, sym, ◌∙◌}
-use mathlib.Core.Bool.{Bool, true, false, cond}
+use mathlib.Core.Bool.{Bool, true, false}
 use mathlib.Core.List.{List, [], ◌∷◌}
-use Prim.Native.Nat.{ℕ, zero, suc, ◌+◌, ◌-◌, ◌<◌, ◌≤◌}
+use Prim.Native.Nat.{ℕ, suc, ◌<◌, ◌≤◌}
 use native.Mathlib.Omega.{arith}
-use lib.Dec.{eqb, leb, ltb}
+use lib.Dec.{eqb, ltb}
 use lib.ListN.{length}
-use borrow.Author.Tests.{eqb-true, eqb-false, eq-eqb, ne_eqb, ltb-true, ltb-false}
-use Rattle.scheduler.specs.Turn.{slot, stopped, place_in, following, firstUnstopped, nextSlot, Left, turnCall}
-use Rattle.scheduler.specs.Turns.{Given, left, State, before, after, Follow, turnsOf, in_turn}
+use borrow.Author.Tests.{eqb-true, eqb-false, ltb-true, ltb-false}
+use Rattle.scheduler.specs.Turn.{slot, stopped, place_in, following, nextSlot, Left}
+use Rattle.scheduler.specs.Turns.{Given, left, State, after, Follow, turnsOf, in_turn}
 use Rattle.scheduler.specs.Fairness.{SamePlace, StaysUnstopped, Fairness}
 use Rattle.scheduler.specs.declared.Scheduler.{Scheduler}
-use Rattle.scheduler.proofs.Round.{distance, Numbered, Found, first_found, distance-below, distance-past, distance-one, distance-last, following-numbered, place-numbered, place_same}
-use Rattle.scheduler.proofs.Turn.{Took, Turn, turn_is}
+use Rattle.scheduler.proofs.Round.{distance, Numbered, first_found, distance-below, distance-past, distance-one, distance-last, following-numbered, place-numbered, place_same}
+use Rattle.scheduler.proofs.Turn.{Turn, turn_is}
 use Rattle.scheduler.proofs.Turn.Turn.{none, took}
 use Rattle.scheduler.proofs.Turns.{count_kept, mine, others}
 

@@ -5,3 +5,5 @@ pub mod Fairness
 pub mod Apartness
 pub mod Total
 pub mod TurnRows
+pub mod Witness
+pub mod OneRun

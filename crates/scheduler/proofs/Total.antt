@@ -1,13 +1,13 @@
 -- The total is the sum of the counts, modulo 2^64.
 -- Assumes nothing.
-use mathlib.Core.Path.{◌≡◌, refl, ap, sym, ◌∙◌}
-use mathlib.Core.List.{List, [], ◌∷◌}
-use Prim.Native.Nat.{ℕ, ◌+◌, ◌%◌, ◌<◌, ◌^◌}
+use mathlib.Core.Path.{◌≡◌, ap, sym, ◌∙◌}
+use mathlib.Core.List.{[], ◌∷◌}
+use Prim.Native.Nat.{◌<◌, ◌^◌}
 use native.Mathlib.Omega.{arith}
 use Rattle.model.specs.Machine.{sum}
 use Rattle.scheduler.specs.Turn.{Left}
-use Rattle.scheduler.specs.Turns.{Given, left, State, after, Follow, afterAll}
-use Rattle.scheduler.specs.Total.{SameTotal, counts, Total}
+use Rattle.scheduler.specs.Turns.{Given, left, after}
+use Rattle.scheduler.specs.Total.{Total}
 use Rattle.scheduler.proofs.Turn.{Turn, turn_is}
 use Rattle.scheduler.proofs.Turn.Turn.{none, took}
 

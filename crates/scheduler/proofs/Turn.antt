@@ -1,24 +1,19 @@
 -- Laws of one turn: what is asked of the slots, and that a turn either changes nothing or is one run of one slot.
 -- Assumes nothing.
 use mathlib.Core.Path.{◌≡◌, refl, ap, sym, ◌∙◌}
-use mathlib.Core.Bool.{Bool, true, false, cond, not, ◌&&◌}
-use mathlib.Core.List.{List, [], ◌∷◌}
-use mathlib.Core.Logic.{◌⊎◌, inl, inr}
+use mathlib.Core.Bool.{Bool, true, false, cond}
+use mathlib.Core.List.{List}
 use Prim.Native.Nat.{ℕ, zero, suc, ◌+◌, ◌-◌, ◌<◌, ◌≤◌}
 use native.Mathlib.Omega.{arith}
-use lib.Dec.{eqb, leb, ltb}
-use lib.ListN.{length, get_or, set}
-use lib.Seq.{get_or-set_same, get_or-set_other}
-use borrow.Author.Tests.{eqb-true, eqb-false, ne_eqb, eq-eqb, leb-true, leb-false, ltb-true, ltb-false, le-leb, lt-leb}
+use lib.Dec.{eqb, ltb}
+use lib.ListN.{length}
+use borrow.Author.Tests.{eqb-true, eqb-false, ne_eqb, eq-eqb}
 use Rattle.model.specs.Machine.{locked}
 use Rattle.model.specs.WellFormed.{wellFormed}
 use Rattle.model.specs.WritableCode.{exposesCode}
 use Rattle.model.specs.Step.{longest}
-use Rattle.model.specs.Run.{Ended, run, runCall, largestBudget}
-use Rattle.model.specs.Machine.{inside}
-use Rattle.model.proofs.Moves.{clash}
-use Rattle.model.proofs.Runs.{run-not-refused, never-zero}
-use Rattle.scheduler.specs.Turn.{mostSlots, largestAllowance, within, no_slot, slot, stopped, place_in, following, firstUnstopped, nextSlot, slotRefusal, slotsRefusal, refusal, Left, turnedWith, noTurn, advanced, tookTurn, turnCall}
+use Rattle.model.specs.Run.{runCall}
+use Rattle.scheduler.specs.Turn.{mostSlots, largestAllowance, within, slot, stopped, place_in, nextSlot, slotRefusal, slotsRefusal, refusal, turnedWith, noTurn, tookTurn, turnCall}
 use Rattle.scheduler.specs.declared.Slot.{Slot}
 use Rattle.scheduler.specs.declared.Scheduler.{Scheduler}
 use Rattle.scheduler.proofs.Round.{Numbered, within-numbered, place-numbered, found-unstopped}

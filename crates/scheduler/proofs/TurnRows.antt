@@ -19,8 +19,8 @@ use Rattle.model.specs.Access.{scan, firstRefused, firstAbsent, verdict}
 use Rattle.model.specs.Step.{load, store, perform, executeInstruction, executeWord, fetching, executeFetched, step}
 use Rattle.model.specs.Run.{run_by, runCall}
 use Rattle.model.specs.declared.Machine.{Machine}
-use Rattle.model.proofs.Rows.{x, pc, mode, options, base, bound, permission, bytes, with}
-use Rattle.scheduler.specs.Turn.{stopped, firstUnstopped, nextSlot, slotRefusal, slotsRefusal, refusal, Left, turnCall, putCall}
+use Rattle.model.proofs.Rows.{x, pc, mode, reason, epc, options, base, bound, permission, occurred, faultRegion, op, faulting, bytes, with}
+use Rattle.scheduler.specs.Turn.{stopped, firstUnstopped, nextSlot, slotRefusal, slotsRefusal, refusal, Left, turnedWith, noTurn, turnCall, putCall}
 use Rattle.scheduler.specs.declared.Slot.{Slot}
 use Rattle.scheduler.specs.declared.Scheduler.{Scheduler}
 use Rattle.scheduler.specs.declared.Put.{Put}
@@ -63,14 +63,15 @@ scheduled ds count place total = record { slots = ds; count = count; place = pla
 abbrev allFresh : List Slot
 allFresh = four fresh fresh fresh fresh
 
--- ---- which slots are stopped, by the stops 0 to 25 and a number that no run gives
+-- ---- which slots are stopped, by the stops 0 to 25 and numbers that no run gives
 
 abbrev stops : List ℕ
-stops = 0 ∷ 1 ∷ 2 ∷ 3 ∷ 4 ∷ 10 ∷ 11 ∷ 12 ∷ 13 ∷ 14 ∷ 15 ∷ 16 ∷ 17 ∷ 18 ∷ 19 ∷ 20 ∷ 21 ∷ 22 ∷ 23 ∷ 24 ∷ 25 ∷ 26 ∷ []
+stops = 0 ∷ 1 ∷ 2 ∷ 3 ∷ 4 ∷ 10 ∷ 11 ∷ 12 ∷ 13 ∷ 14 ∷ 15 ∷ 16 ∷ 17 ∷ 18 ∷ 19 ∷ 20 ∷ 21 ∷ 22 ∷ 23 ∷ 24 ∷ 25 ∷ 26 ∷ 50 ∷ 51 ∷ 52 ∷ (2 ^ 32) ∷ (2 ^ 32 + 21) ∷ (2 ^ 64 - 1) ∷ []
 
 -- "A deck that stops with anything but 21 is passed over", and one that has had no turn is not
 pub stopped-rows : map (λ s. stopped (record { machine = with []; stop = s })) stops
-    ≡ false ∷ true ∷ true ∷ true ∷ true ∷ true ∷ true ∷ true ∷ true ∷ true ∷ true ∷ true ∷ true ∷ true ∷ true ∷ true ∷ false ∷ true ∷ true ∷ true ∷ true ∷ true ∷ []
+    ≡ false ∷ true ∷ true ∷ true ∷ true ∷ true ∷ true ∷ true ∷ true ∷ true ∷ true ∷ true ∷ true ∷ true ∷ true ∷ true ∷ false ∷ true ∷ true ∷ true ∷ true ∷ true
+    ∷ true ∷ true ∷ true ∷ true ∷ true ∷ true ∷ []
 stopped-rows = refl
 
 -- ---- whose turn it is
@@ -86,13 +87,15 @@ pub next-rows :
     next allFresh 4 1 ∷ next allFresh 4 2 ∷ next allFresh 4 4
     -- "a place outside the deck count is taken as 1"
     ∷ next allFresh 4 0 ∷ next allFresh 4 5 ∷ next allFresh 3 4 ∷ next allFresh 1 2 ∷ next (four halted fresh fresh fresh) 3 4
+    -- however far outside
+    ∷ next allFresh 4 6 ∷ next allFresh 4 7 ∷ next allFresh 3 5 ∷ next allFresh 4 (2 ^ 64 - 1) ∷ next (four halted fresh fresh fresh) 3 6
     -- "the first deck not stopped", "and round to the first"
     ∷ next (four fresh halted spent fresh) 4 2 ∷ next (four fresh halted halted halted) 4 2 ∷ next (four halted spent halted halted) 4 3
     ∷ next (four spent fresh halted fresh) 3 3 ∷ next (four halted halted halted fresh) 4 1
     -- a slot above the count has no turn
     ∷ next (four halted halted halted fresh) 3 1 ∷ next (four halted halted fresh fresh) 2 3
     ∷ next (four halted halted halted halted) 4 2 ∷ []
-    ≡ 1 ∷ 2 ∷ 4 ∷ 1 ∷ 1 ∷ 1 ∷ 1 ∷ 2 ∷ 3 ∷ 1 ∷ 2 ∷ 1 ∷ 4 ∷ 0 ∷ 0 ∷ 0 ∷ []
+    ≡ 1 ∷ 2 ∷ 4 ∷ 1 ∷ 1 ∷ 1 ∷ 1 ∷ 2 ∷ 1 ∷ 1 ∷ 1 ∷ 1 ∷ 2 ∷ 3 ∷ 1 ∷ 2 ∷ 1 ∷ 4 ∷ 0 ∷ 0 ∷ 0 ∷ []
 unfolding firstUnstopped
 next-rows = refl
 
@@ -121,8 +124,18 @@ pub refusal-rows :
     ∷ refused (four fresh (unlocked 21) (illFormed 0) (exposing 0)) 4 0 1 ∷ refused (four fresh fresh (exposing 21) (illFormed 0)) 4 0 1
     ∷ refused (four fresh fresh spent (illFormed 21)) 4 0 1 ∷ refused (four fresh fresh spent (illFormed 21)) 3 0 1
     -- "stopped ones left out"
-    ∷ refused (four (illFormed 3) (exposing 4) (outside 20) (unlocked 25)) 4 0 1 ∷ refused (four (illFormed 19) fresh (outside 21) fresh) 4 0 1 ∷ []
-    ≡ 1 ∷ 50 ∷ 51 ∷ 3 ∷ 50 ∷ 0 ∷ 0 ∷ 50 ∷ 50 ∷ 51 ∷ 0 ∷ 51 ∷ 51 ∷ 3 ∷ 3 ∷ 4 ∷ 52 ∷ 52 ∷ 52 ∷ 52 ∷ 4 ∷ 3 ∷ 0 ∷ 0 ∷ 52 ∷ []
+    ∷ refused (four (illFormed 3) (exposing 4) (outside 20) (unlocked 25)) 4 0 1 ∷ refused (four (illFormed 19) fresh (outside 21) fresh) 4 0 1
+    -- a count above four is told before the allowance and the slots
+    ∷ refused (four (illFormed 0) fresh fresh fresh) 5 0 0 ∷ refused (four (illFormed 0) fresh fresh fresh) 5 0 1
+    -- with all slots stopped, 1, 50 and 51 are asked nevertheless
+    ∷ refused (four halted halted halted halted) 4 (longest + 1) 1 ∷ refused (four halted halted halted halted) 5 0 1 ∷ refused (four halted halted halted halted) 4 0 0
+    -- from slot 1, wherever the place is
+    ∷ refusal (scheduled (four fresh (unlocked 0) (illFormed 0) fresh) 4 3 0) 0 1 ∷ refusal (scheduled (four (exposing 0) fresh (illFormed 0) fresh) 4 9 0) 0 1
+    -- locked, whatever the other options
+    ∷ refused (four (slotWith ((options, 15) ∷ []) 0) fresh fresh fresh) 1 0 1 ∷ refused (four (slotWith ((base 1, 8) ∷ (options, 15) ∷ []) 0) fresh fresh fresh) 1 0 1
+    ∷ []
+    ≡ 1 ∷ 50 ∷ 51 ∷ 3 ∷ 50 ∷ 0 ∷ 0 ∷ 50 ∷ 50 ∷ 51 ∷ 0 ∷ 51 ∷ 51 ∷ 3 ∷ 3 ∷ 4 ∷ 52 ∷ 52 ∷ 52 ∷ 52 ∷ 4 ∷ 3 ∷ 0 ∷ 0 ∷ 52
+    ∷ 50 ∷ 50 ∷ 1 ∷ 50 ∷ 51 ∷ 52 ∷ 4 ∷ 0 ∷ 4 ∷ []
 unfolding refusal slotsRefusal slotRefusal count_trailing_zeros stateFits wellFormed matches explicitRule firstMatch implicitGrants explicitGrants explicitCovers writableCode exposesCode
 refusal-rows = refl
 
@@ -159,6 +172,8 @@ turns =
     turn allFresh 4 1 0 2
     ∷ turn allFresh 4 1 5 1
     ∷ turn allFresh 4 2 0 3
+    ∷ turn allFresh 4 3 0 3
+    ∷ turn allFresh 3 3 0 3
     -- "likewise round", and round the count, not the four
     ∷ turn allFresh 4 4 0 2
     ∷ turn allFresh 2 2 0 2
@@ -188,6 +203,8 @@ left =
     (1 ∷ 21 ∷ 2 ∷ 0 ∷ 4 ∷ 2 ∷ 2 ∷ 21 ∷ 0 ∷ 0 ∷ 0 ∷ 8 ∷ 0 ∷ 0 ∷ 0 ∷ afterwards)
     ∷ (1 ∷ 21 ∷ 1 ∷ 0 ∷ 4 ∷ 2 ∷ 6 ∷ 21 ∷ 0 ∷ 0 ∷ 0 ∷ 4 ∷ 0 ∷ 0 ∷ 0 ∷ before)
     ∷ (2 ∷ 21 ∷ 3 ∷ 0 ∷ 4 ∷ 3 ∷ 3 ∷ 0 ∷ 21 ∷ 0 ∷ 0 ∷ 0 ∷ 0 ∷ 0 ∷ 0 ∷ afterwards)
+    ∷ (3 ∷ 21 ∷ 3 ∷ 0 ∷ 4 ∷ 4 ∷ 3 ∷ 0 ∷ 0 ∷ 21 ∷ 0 ∷ 0 ∷ 0 ∷ 0 ∷ 0 ∷ afterwards)
+    ∷ (3 ∷ 21 ∷ 3 ∷ 0 ∷ 3 ∷ 1 ∷ 3 ∷ 0 ∷ 0 ∷ 21 ∷ 0 ∷ 0 ∷ 0 ∷ 0 ∷ 0 ∷ afterwards)
     ∷ (4 ∷ 21 ∷ 2 ∷ 0 ∷ 4 ∷ 1 ∷ 2 ∷ 0 ∷ 0 ∷ 0 ∷ 21 ∷ 0 ∷ 0 ∷ 0 ∷ 8 ∷ afterwards)
     ∷ (2 ∷ 21 ∷ 2 ∷ 0 ∷ 2 ∷ 1 ∷ 2 ∷ 0 ∷ 21 ∷ 0 ∷ 0 ∷ 0 ∷ 8 ∷ 0 ∷ 0 ∷ afterwards)
     ∷ (1 ∷ 21 ∷ 2 ∷ 0 ∷ 1 ∷ 1 ∷ 2 ∷ 21 ∷ 0 ∷ 0 ∷ 0 ∷ 8 ∷ 0 ∷ 0 ∷ 0 ∷ afterwards)
@@ -208,6 +225,78 @@ left =
 pub turn-rows : turns ≡ left
 unfolding turns left turnCall firstUnstopped refusal slotsRefusal slotRefusal count_trailing_zeros sext decodeWord expandHalf matches explicitRule firstMatch implicitGrants explicitGrants explicitCovers writableCode exposesCode scan firstRefused firstAbsent verdict value written allowed aligned settle stateFits wellFormed hfiStop hfiPerform load store perform executeInstruction executeWord fetching executeFetched step run_by runCall
 turn-rows = refl
+
+-- ---- whole turns once more, with all that they leave: every slot, stopped ones and those above the count too, every place of a machine, and the memory
+
+-- registers, reason, exit pc and fault record that no turn may lose
+abbrev marked : List (ℕ × ℕ) → ℕ → Slot
+marked ps stop = slotWith ((x 5, 5) ∷ (x 31, 6) ∷ (reason, 2) ∷ (epc, 8) ∷ (occurred, 1) ∷ (op, 3) ∷ (faulting, 64) ∷ ps) stop
+
+abbrev aside : List Slot
+aside = marked [] 18 ∷ marked [] 21 ∷ marked ((mode, 0) ∷ (pc, 4) ∷ []) 20 ∷ []
+
+-- slot 1 of three takes the turn; slot 4 is above the count
+abbrev first_of : Slot → ℕ → ℕ → Scheduler
+first_of d place total = scheduled (d ∷ aside) 3 place total
+
+-- slot 4 is above the count
+abbrev all_stopped : ℕ → Scheduler
+all_stopped place = scheduled (four (marked [] 18) (marked [] 13) (marked ((mode, 0) ∷ []) 20) (marked [] 0)) 3 place 5
+
+abbrev took : ℕ → ℕ → ℕ → Slot → ℕ → List ℕ → Left
+took stop count address d total mem = turnedWith (record { slot = 1; stop = stop; count = count; address = address; scheduler = first_of d 2 total }) mem
+
+-- addi x7, x0, 7; hsb x7, 0(x0); the word w; and five bytes more
+abbrev then : ℕ → List ℕ → List ℕ
+then w rest = bytes (0x00700393 ∷ 0x0070002b ∷ w ∷ []) ++ (0 ∷ 0 ∷ 0 ∷ 0 ∷ rest)
+
+abbrev stored : ℕ → List (ℕ × ℕ) → ℕ → Slot
+stored p ps stop = marked ((x 7, 7) ∷ (pc, p) ∷ ps) stop
+
+-- its code is at 64, where there is no memory
+abbrev absent : ℕ → Slot
+absent stop = marked ((base 3, 64) ∷ (pc, 64) ∷ []) stop
+
+unfoldable pub wholes : List Left
+wholes =
+    -- 21
+    turnCall (first_of (marked [] 0) 1 5) before 2
+    -- 20: its step is counted, its store stays, and its machine is the one that left
+    ∷ turnCall (first_of (marked [] 0) 1 5) (then 0x0400005b (9 ∷ [])) 9
+    -- 18 (ecall) and 13: what it did before stays
+    ∷ turnCall (first_of (marked [] 21) 1 5) (then 0x00000073 (9 ∷ [])) 9
+    ∷ turnCall (first_of (marked [] 21) 1 5) (then 0 (9 ∷ [])) 9
+    -- 12 and 17: the address too
+    ∷ turnCall (first_of (absent 0) 1 5) (then 0 (9 ∷ [])) 9
+    ∷ turnCall (first_of (marked [] 0) 1 5) (then 0 []) 9
+    -- 16: hsb x7, 8(x0), and the fault record stays
+    ∷ turnCall (first_of (marked [] 0) 1 5) (then 0x0070042b (9 ∷ [])) 9
+    -- many steps
+    ∷ turnCall (first_of (marked [] 0) 1 5) (bytes (0x0000006f ∷ [])) 100
+    -- no run: all stopped, and refused
+    ∷ turnCall (all_stopped 9) before 2
+    ∷ turnCall (first_of (marked [] 0) 9 5) before 0
+    ∷ turnCall (first_of (marked ((x 0, 1) ∷ []) 0) 9 5) before 2
+    ∷ []
+
+unfoldable pub whole_left : List Left
+whole_left =
+    took 21 2 0 (stored 8 [] 21) 7 afterwards
+    ∷ took 20 3 0 (stored 12 ((mode, 0) ∷ (reason, 1) ∷ (epc, 8) ∷ []) 20) 8 (then 0x0400005b (7 ∷ []))
+    ∷ took 18 2 0 (stored 8 [] 18) 7 (then 0x00000073 (7 ∷ []))
+    ∷ took 13 2 0 (stored 8 [] 13) 7 (then 0 (7 ∷ []))
+    ∷ took 12 0 64 (absent 12) 5 (then 0 (9 ∷ []))
+    ∷ took 17 1 16 (stored 4 [] 17) 6 (then 0 [])
+    ∷ took 16 2 0 (stored 8 ((occurred, 1) ∷ (faultRegion, 1) ∷ (op, 2) ∷ (faulting, 24) ∷ []) 16) 7 (then 0x0070042b (7 ∷ []))
+    ∷ took 21 100 0 (marked [] 21) 105 (bytes (0x0000006f ∷ []))
+    ∷ turnedWith (noTurn 0 (all_stopped 9)) before
+    ∷ turnedWith (noTurn 51 (first_of (marked [] 0) 9 5)) before
+    ∷ turnedWith (noTurn 3 (first_of (marked ((x 0, 1) ∷ []) 0) 9 5)) before
+    ∷ []
+
+pub whole-rows : wholes ≡ whole_left
+unfolding wholes whole_left turnCall firstUnstopped refusal slotsRefusal slotRefusal count_trailing_zeros sext decodeWord expandHalf matches explicitRule firstMatch implicitGrants explicitGrants explicitCovers writableCode exposesCode scan firstRefused firstAbsent verdict value written allowed aligned settle stateFits wellFormed hfiStop hfiPerform load store perform executeInstruction executeWord fetching executeFetched step run_by runCall
+whole-rows = refl
 
 -- ---- a machine put into a slot
 
@@ -233,3 +322,19 @@ put-rows = refl
 pub done-rows : map (λ n. (putCall (scheduled allFresh 2 9 5) n (with guest)).done) (0 ∷ 1 ∷ 2 ∷ 3 ∷ 4 ∷ 5 ∷ []) ≡ false ∷ true ∷ true ∷ true ∷ true ∷ false ∷ []
 unfolding putCall
 done-rows = refl
+
+-- whatever the machine and whatever was in the slot, a machine that was running there too: the slot has it as it is, and nothing else has changed
+abbrev bad : Machine
+bad = with ((x 0, 1) ∷ (x 5, 5) ∷ (pc, 8) ∷ (reason, 1) ∷ (epc, 8) ∷ (options, 16) ∷ (occurred, 1) ∷ [])
+
+abbrev whole_put : ℕ → Put
+whole_put n = putCall (first_of (marked [] 18) 2 7) n bad
+
+abbrev has : Bool → List Slot → Put
+has done ds = record { done = done; scheduler = scheduled ds 3 2 7 }
+
+pub whole-put-rows : map whole_put (0 ∷ 1 ∷ 2 ∷ 3 ∷ 4 ∷ 5 ∷ (2 ^ 64 - 1) ∷ [])
+    ≡ (let d : Slot = record { machine = bad; stop = 0 } in let a = marked [] 18 in let r = marked [] 21 in let o = marked ((mode, 0) ∷ (pc, 4) ∷ []) 20 in
+    has false (four a a r o) ∷ has true (four d a r o) ∷ has true (four a d r o) ∷ has true (four a a d o) ∷ has true (four a a r d) ∷ has false (four a a r o) ∷ has false (four a a r o) ∷ [])
+unfolding putCall stateFits wellFormed
+whole-put-rows = refl

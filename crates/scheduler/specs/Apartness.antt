@@ -2,17 +2,17 @@
 -- execute, each one's machine, stops and own bytes after its turns are as if it alone had made as many turns, with the same
 -- allowances, from the same memory."
 -- Assumes nothing.
-use Rattle.std.specs.Prelude.{◌≡◌, false, List, [], ◌∷◌, map, ℕ, ◌≤◌, get_or}
+use Rattle.std.specs.Prelude.{◌≡◌, false, List, [], ◌∷◌, map, ℕ, ◌≤◌, ◌<◌, length, get_or}
 use Rattle.model.specs.Reach.{Readable, Writable, Executable}
 use Rattle.model.specs.declared.Region.{Region}
 use Rattle.scheduler.specs.Turn.{slot, stopped}
 use Rattle.scheduler.specs.Turns.{Given, left, State, Follow, afterAll, turnsOf, in_turn}
-use Rattle.scheduler.specs.declared.Slot.{Slot}
 use Rattle.scheduler.specs.declared.Scheduler.{Scheduler}
 
--- "This holds while the main loop changes none of machines, stops, deck count and memory."; place, total and allowance may be any
+-- "This holds while the main loop changes none of machines, stops, deck count and memory."; place, total and allowance may be any, and what
+-- stands above the count
 pub record Untouched (p q : State) : Type 0 where
-  pub slots : q.scheduler.slots ≡ p.scheduler.slots
+  pub slots : (n : ℕ) → 1 ≤ n → n ≤ p.scheduler.count → slot q.scheduler.slots n ≡ slot p.scheduler.slots n
   pub count : q.scheduler.count ≡ p.scheduler.count
   pub memory : q.memory ≡ p.memory
 
@@ -32,9 +32,11 @@ pub record Taking (s : Scheduler) (n : ℕ) : Type 0 where
   pub last : n ≤ s.count
   pub unstopped : stopped (slot s.slots n) ≡ false
 
--- "none can write a byte that another of them can read, write or execute"
-abbrev pub Apart : Scheduler → Type 0
-Apart s = (n k b : ℕ) → Taking s n → Taking s k → (n ≡ k → ⊥) → Writable (regionsAt s k) b → Own (regionsAt s n) b → ⊥
+-- "none can write a byte that another of them can read, write or execute": no byte of the memory, whatever lies above it
+abbrev pub Apart : State → Type 0
+Apart p =
+    (n k b : ℕ) → b < length p.memory → Taking p.scheduler n → Taking p.scheduler k → (n ≡ k → ⊥)
+    → Writable (regionsAt p.scheduler k) b → Own (regionsAt p.scheduler n) b → ⊥
 
 -- "it alone": a scheduler of one slot, with slot n's machine, over the same memory
 abbrev pub alone : State → ℕ → State
@@ -69,5 +71,5 @@ pub record Alike (p q : State) (n : ℕ) (gs us : List Given) : Type 0 where
 
 -- for any turns, refused ones and stops among them
 abbrev pub Apartness : Type 0
-Apartness = (p : State) (gs : List Given) (n : ℕ) → Follow Untouched p gs → Apart p.scheduler → Taking p.scheduler n
+Apartness = (p : State) (gs : List Given) (n : ℕ) → Follow Untouched p gs → Apart p → Taking p.scheduler n
     → Alike p (alone p n) n gs (aloneTurns p n gs)
