@@ -310,3 +310,15 @@ in_turn-untouched p (a ∷ rest) =
 -- so of its turns, whatever their allowances
 pub apart-in_turn : (p : State) (allowances : List ℕ) (n : ℕ) → Apart p → Taking p.scheduler n → Alike p (alone p n) n (in_turn p allowances) (aloneTurns p n (in_turn p allowances))
 apart-in_turn p allowances n = apartness p (in_turn p allowances) n (in_turn-untouched p allowances)
+
+-- all that the main loop may change: place, total and allowance, and what stands above the count
+pub untouched_else : (p : State) (k place total : ℕ) (d : Slot) → p.scheduler.count < k → Untouched p (record {
+  scheduler = record { slots = set p.scheduler.slots (k - 1) d; count = p.scheduler.count; place = place; total = total };
+  memory = p.memory;
+})
+untouched_else p k place total d h =
+    record {
+      slots = λ n l u. slot-other p.scheduler.slots k n d (omega (arith, h)) l (λ e. omega (arith, e, h, u));
+      count = refl;
+      memory = refl;
+    }

@@ -13,6 +13,7 @@ use Rattle.scheduler.specs.Turn.{slot, stopped, place_in, following, nextSlot, L
 use Rattle.scheduler.specs.Turns.{Given, left, State, after, Follow, turnsOf, in_turn}
 use Rattle.scheduler.specs.Fairness.{SamePlace, StaysUnstopped, Fairness}
 use Rattle.scheduler.specs.declared.Scheduler.{Scheduler}
+use Rattle.scheduler.specs.declared.Slot.{Slot}
 use Rattle.scheduler.proofs.Round.{distance, Numbered, first_found, distance-below, distance-past, distance-one, distance-last, following-numbered, place-numbered, place_same}
 use Rattle.scheduler.proofs.Turn.{Turn, turn_is}
 use Rattle.scheduler.proofs.Turn.Turn.{none, took}
@@ -154,3 +155,10 @@ in_turn-same p (a ∷ rest) =
 pub fair-in_turn : (p : State) (allowances : List ℕ) (n k : ℕ) → StaysUnstopped n (in_turn p allowances) → 1 ≤ n → n ≤ p.scheduler.count → 1 ≤ k
     → turnsOf n (in_turn p allowances) ≡ [] → length (turnsOf k (in_turn p allowances)) ≤ 1
 fair-in_turn p allowances n k = fairness p (in_turn p allowances) n k (in_turn-same p allowances)
+
+-- all that the main loop may change: slots, total, memory and allowance
+pub same_place_else : (p : State) (ds : List Slot) (total : ℕ) (mem : List ℕ) → SamePlace p (record {
+  scheduler = record { slots = ds; count = p.scheduler.count; place = p.scheduler.place; total = total };
+  memory = mem;
+})
+same_place_else p ds total mem = record { place = refl; count = refl }

@@ -2,8 +2,9 @@
 -- in one slot.
 -- Assumes nothing.
 use mathlib.Core.Path.{◌≡◌, refl, ap, sym, ◌∙◌}
-use mathlib.Core.Bool.{true, false}
-use borrow.Author.Tests.{ne_eqb}
+use mathlib.Core.Bool.{Bool, true, false, false≢true}
+use borrow.Author.Tests.{eqb-false, eq-eqb, ne_eqb}
+use lib.Dec.{eqb}
 use mathlib.Core.List.{List}
 use Prim.Native.Nat.{ℕ, ◌-◌, ◌<◌, ◌≤◌}
 use native.Mathlib.Omega.{arith}
@@ -79,6 +80,22 @@ no-idle s mem allowance n r low high u e =
     let t = turn-runs s mem allowance (nextSlot s) r refl (λ z. omega (arith, z, one)) in
     let z = ap (λ (l : Left). l.result.slot) t in
     omega (arith, z, e, one)
+
+-- "With all decks stopped a turn makes no run, changes nothing and answers 0 for deck, stop, count and address."
+pub all-stopped : (s : Scheduler) (mem : List ℕ) (allowance : ℕ) → refusal s (length mem) allowance ≡ 0
+    → ((n : ℕ) → 1 ≤ n → n ≤ s.count → stopped (slot s.slots n) ≡ true)
+    → turnCall s mem allowance ≡ turnedWith (record { slot = 0; stop = 0; count = 0; address = 0; scheduler = s }) mem
+unfolding turnCall
+all-stopped s mem allowance r all = go (eqb (nextSlot s) 0) refl
+  where
+    go : (b : Bool) → eqb (nextSlot s) 0 ≡ b → turnCall s mem allowance ≡ turnedWith (record { slot = 0; stop = 0; count = 0; address = 0; scheduler = s }) mem
+    go true f = rw (eq-eqb _ 0 r, f) refl
+    go false f = taken (turn_is s mem allowance) (ap (λ (l : Left). l.result.slot) (turn-runs s mem allowance (nextSlot s) r refl (eqb-false _ 0 f)))
+      where
+        taken : Turn s mem allowance → (turnCall s mem allowance).result.slot ≡ nextSlot s
+            → turnCall s mem allowance ≡ turnedWith (record { slot = 0; stop = 0; count = 0; address = 0; scheduler = s }) mem
+        taken (none stop i) z = absurd (eqb-false _ 0 f (sym z ∙ ap (λ (l : Left). l.result.slot) i))
+        taken (took n t) z = absurd (false≢true (sym t.unstopped ∙ all n t.numbered.low t.numbered.high))
 
 -- what is refused changes nothing, and is told
 pub refused-turn : (s : Scheduler) (mem : List ℕ) (allowance : ℕ) → (refusal s (length mem) allowance ≡ 0 → ⊥)

@@ -133,9 +133,10 @@ pub refusal-rows :
     ∷ refusal (scheduled (four fresh (unlocked 0) (illFormed 0) fresh) 4 3 0) 0 1 ∷ refusal (scheduled (four (exposing 0) fresh (illFormed 0) fresh) 4 9 0) 0 1
     -- locked, whatever the other options
     ∷ refused (four (slotWith ((options, 15) ∷ []) 0) fresh fresh fresh) 1 0 1 ∷ refused (four (slotWith ((base 1, 8) ∷ (options, 15) ∷ []) 0) fresh fresh fresh) 1 0 1
-    ∷ []
+    -- where there is no slot
+    ∷ refused [] 1 0 1 ∷ []
     ≡ 1 ∷ 50 ∷ 51 ∷ 3 ∷ 50 ∷ 0 ∷ 0 ∷ 50 ∷ 50 ∷ 51 ∷ 0 ∷ 51 ∷ 51 ∷ 3 ∷ 3 ∷ 4 ∷ 52 ∷ 52 ∷ 52 ∷ 52 ∷ 4 ∷ 3 ∷ 0 ∷ 0 ∷ 52
-    ∷ 50 ∷ 50 ∷ 1 ∷ 50 ∷ 51 ∷ 52 ∷ 4 ∷ 0 ∷ 4 ∷ []
+    ∷ 50 ∷ 50 ∷ 1 ∷ 50 ∷ 51 ∷ 52 ∷ 4 ∷ 0 ∷ 4 ∷ 52 ∷ []
 unfolding refusal slotsRefusal slotRefusal count_trailing_zeros stateFits wellFormed matches explicitRule firstMatch implicitGrants explicitGrants explicitCovers writableCode exposesCode
 refusal-rows = refl
 
@@ -178,6 +179,8 @@ turns =
     ∷ turn allFresh 4 4 0 2
     ∷ turn allFresh 2 2 0 2
     ∷ turn allFresh 1 1 0 2
+    -- what stands above the count stays
+    ∷ turn (four halted spent (slotWith ((pc, 4) ∷ []) 18) (slotWith ((pc, 4) ∷ []) 21)) 2 1 0 2
     -- "a place outside the deck count is taken as 1"
     ∷ turn allFresh 4 0 0 2
     ∷ turn allFresh 3 4 0 2
@@ -208,6 +211,7 @@ left =
     ∷ (4 ∷ 21 ∷ 2 ∷ 0 ∷ 4 ∷ 1 ∷ 2 ∷ 0 ∷ 0 ∷ 0 ∷ 21 ∷ 0 ∷ 0 ∷ 0 ∷ 8 ∷ afterwards)
     ∷ (2 ∷ 21 ∷ 2 ∷ 0 ∷ 2 ∷ 1 ∷ 2 ∷ 0 ∷ 21 ∷ 0 ∷ 0 ∷ 0 ∷ 8 ∷ 0 ∷ 0 ∷ afterwards)
     ∷ (1 ∷ 21 ∷ 2 ∷ 0 ∷ 1 ∷ 1 ∷ 2 ∷ 21 ∷ 0 ∷ 0 ∷ 0 ∷ 8 ∷ 0 ∷ 0 ∷ 0 ∷ afterwards)
+    ∷ (2 ∷ 21 ∷ 2 ∷ 0 ∷ 2 ∷ 1 ∷ 2 ∷ 18 ∷ 21 ∷ 18 ∷ 21 ∷ 0 ∷ 8 ∷ 4 ∷ 4 ∷ afterwards)
     ∷ (1 ∷ 21 ∷ 2 ∷ 0 ∷ 4 ∷ 2 ∷ 2 ∷ 21 ∷ 0 ∷ 0 ∷ 0 ∷ 8 ∷ 0 ∷ 0 ∷ 0 ∷ afterwards)
     ∷ (1 ∷ 21 ∷ 2 ∷ 0 ∷ 3 ∷ 2 ∷ 2 ∷ 21 ∷ 0 ∷ 0 ∷ 0 ∷ 8 ∷ 0 ∷ 0 ∷ 0 ∷ afterwards)
     ∷ (2 ∷ 21 ∷ 2 ∷ 0 ∷ 4 ∷ 3 ∷ 2 ∷ 18 ∷ 21 ∷ 18 ∷ 0 ∷ 0 ∷ 8 ∷ 0 ∷ 0 ∷ afterwards)
@@ -275,6 +279,7 @@ wholes =
     ∷ turnCall (first_of (marked [] 0) 1 5) (bytes (0x0000006f ∷ [])) 100
     -- no run: all stopped, and refused
     ∷ turnCall (all_stopped 9) before 2
+    ∷ turnCall (all_stopped 9) before 0
     ∷ turnCall (first_of (marked [] 0) 9 5) before 0
     ∷ turnCall (first_of (marked ((x 0, 1) ∷ []) 0) 9 5) before 2
     ∷ []
@@ -290,6 +295,7 @@ whole_left =
     ∷ took 16 2 0 (stored 8 ((occurred, 1) ∷ (faultRegion, 1) ∷ (op, 2) ∷ (faulting, 24) ∷ []) 16) 7 (then 0x0070042b (7 ∷ []))
     ∷ took 21 100 0 (marked [] 21) 105 (bytes (0x0000006f ∷ []))
     ∷ turnedWith (noTurn 0 (all_stopped 9)) before
+    ∷ turnedWith (noTurn 51 (all_stopped 9)) before
     ∷ turnedWith (noTurn 51 (first_of (marked [] 0) 9 5)) before
     ∷ turnedWith (noTurn 3 (first_of (marked ((x 0, 1) ∷ []) 0) 9 5)) before
     ∷ []

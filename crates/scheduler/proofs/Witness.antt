@@ -103,7 +103,7 @@ both P f g n t = go (eqb n 1) refl
     go false e = let s : n ≡ 2 = let l = t.first in let u = t.last in let v = eqb-false n 1 e in omega (arith, l, u, v) in rw s g
 
 pub apart : Apart pair
-apart n k b l i j ne w o =
+apart n k b m i j ne w o =
     go (both (λ (m : ℕ). Writable (regionsAt pair.scheduler m) b → Inside (8 + 8 * m) b) (written-inside 16 9 b) (written-inside 24 1 b) k j w)
     (both (λ (m : ℕ). Own (regionsAt pair.scheduler m) b → (b < 16) ⊎ Inside (8 + 8 * m) b) (own-inside 16 9 b) (own-inside 24 1 b) n i o)
   where
@@ -157,11 +157,11 @@ done-rows = (refl, refl, refl)
 
 -- ---- two that are not apart: slot 1 writes byte 16, and slot 2 reads, writes or executes it. The word is hlb x7, 0(x0)
 
-abbrev clash : Slot → State
-clash d = two (guest 0 0 16 2 0) d (code 0x0000038b ++ bytes (9 ∷ []))
+abbrev overlapping : Slot → State
+overlapping d = two (guest 0 0 16 2 0) d (code 0x0000038b ++ bytes (9 ∷ []))
 
 abbrev AsAlone : Slot → Type 0
-AsAlone d = let gs = in_turn (clash d) (12 ∷ 3 ∷ 3 ∷ []) in Alike (clash d) (alone (clash d) 2) 2 gs (aloneTurns (clash d) 2 gs)
+AsAlone d = let gs = in_turn (overlapping d) (12 ∷ 3 ∷ 3 ∷ []) in Alike (overlapping d) (alone (overlapping d) 2) 2 gs (aloneTurns (overlapping d) 2 gs)
 
 -- what it read, what is left of what it wrote, and how far it came are not as if alone
 pub not-apart : (AsAlone (guest 12 0 16 1 0) → ⊥) × (AsAlone (guest 0 0 16 2 0) → ⊥) × (AsAlone (guest 16 16 32 2 0) → ⊥)

@@ -50,7 +50,7 @@ alone p n =
 abbrev pub aloneTurns : State → ℕ → List Given → List Given
 aloneTurns p n gs = in_turn (alone p n) (map (λ (g : Given). g.allowance) (turnsOf n gs))
 
--- what a turn tells of its run
+-- what a turn tells of its run: stop, count and address. That it was its slot's is turnsOf and, alone, its_own below
 pub record Told : Type 0 where
   pub stop : ℕ
   pub count : ℕ
