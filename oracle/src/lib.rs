@@ -23,6 +23,7 @@ pub mod run;
 pub mod scheduler;
 pub mod sheet;
 pub mod step;
+pub mod stored_turns;
 pub mod supply;
 pub mod ten_regions;
 pub mod turns;

@@ -6,6 +6,7 @@
 //! `oracle sheets FOLDER`: every sheet of a folder with its answer, by name.
 //! `oracle calls FOLDER`: writes the calls and their answers to FOLDER/data/calls-1, FOLDER/data/calls-2 and
 //! FOLDER/stdout.
+//! `oracle turns FOLDER`: writes the records of turns and their answers to FOLDER/data/turns and FOLDER/stdout.
 
 use std::io::{Read, Write};
 
@@ -51,8 +52,14 @@ fn main() {
             std::fs::write(format!("{}/stdout", file()), &printed).expect("stdout");
             println!("{} calls, {} bytes, {} bytes of answers", data.lines().count() / 5, data.len(), printed.len());
         }
+        "turns" => {
+            let (data, printed) = oracle::stored_turns::stored();
+            std::fs::write(format!("{}/data/turns", file()), &data).expect("data/turns");
+            std::fs::write(format!("{}/stdout", file()), &printed).expect("stdout");
+            println!("{} records, {} bytes, {} bytes of answers", data.lines().count(), data.len(), printed.len());
+        }
         _ => {
-            eprintln!("use: oracle sheet | llvm FILE | dart FILE | vectors FILE | words FILE | halves | sheets FOLDER | calls FOLDER");
+            eprintln!("use: oracle sheet | llvm FILE | dart FILE | vectors FILE | words FILE | halves | sheets FOLDER | calls FOLDER | turns FOLDER");
             std::process::exit(2);
         }
     }

@@ -107,6 +107,28 @@ fn calls() {
     }
 }
 
+/// The stored turns are those that the oracle writes, and it gives the directed
+/// ones to the slots, and ends them with the stops, that were worked out by hand.
+#[test]
+fn turns() {
+    let (data, printed) = oracle::stored_turns::stored();
+    assert_eq!(data, text("crates/turns/data/turns"));
+    assert_eq!(printed, text("crates/turns/stdout"));
+    assert!(oracle::stored_turns::directed().len() >= 167);
+    assert!(oracle::stored_turns::random().len() >= 50);
+    // Each stop of a run in a turn, and each refusal that can be had with a small memory.
+    let mut met = std::collections::BTreeSet::new();
+    for line in printed.lines().filter(|line| !line.starts_with("put,") && !line.starts_with("memory")) {
+        let fields: Vec<u64> = line.split(',').skip(1).take(2).map(|field| field.parse().unwrap()).collect();
+        met.insert((fields[0] != 0, fields[1]));
+    }
+    let stops = oracle::turns::RUN_STOPS.map(|stop| (true, stop));
+    let refusals = oracle::turns::REFUSALS.into_iter().filter(|number| *number != 1).map(|number| (false, number));
+    for seen in stops.into_iter().chain(refusals).chain([(false, 0)]) {
+        assert!(met.contains(&seen), "{seen:?}");
+    }
+}
+
 fn authored(name: &str) -> String {
     text(&format!("crates/values/authoring/{name}.columns"))
 }
