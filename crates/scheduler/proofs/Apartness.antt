@@ -28,7 +28,7 @@ use Rattle.scheduler.specs.declared.Scheduler.{Scheduler}
 use Rattle.scheduler.proofs.Round.{Numbered, within-numbered}
 use Rattle.scheduler.proofs.Turn.{Ready, ready-slot, accepting, Took, Turn, turn_is, turn-runs}
 use Rattle.scheduler.proofs.Turn.Turn.{none, took}
-use Rattle.scheduler.proofs.Turns.{mine, others}
+use Rattle.scheduler.proofs.Turns.{mine, others, in_turn-follows}
 
 -- ---- lists of slots
 
@@ -299,17 +299,9 @@ apartness p gs n f a i =
       apart = λ k b l j ne w o. a n k b l i j ne w o;
     })
 
--- a main loop that changes nothing between the turns leaves alone what the page asks for
-in_turn-untouched : (p : State) (allowances : List ℕ) → Follow Untouched p (in_turn p allowances)
-unfolding in_turn
-in_turn-untouched p [] = tt
-in_turn-untouched p (a ∷ rest) =
-    let g : Given = record { scheduler = p.scheduler; memory = p.memory; allowance = a } in
-    (record { slots = λ n l u. refl; count = refl; memory = refl }, in_turn-untouched (after g) rest)
-
--- so of its turns, whatever their allowances
+-- so of a main loop that changes nothing, whatever the allowances
 pub apart-in_turn : (p : State) (allowances : List ℕ) (n : ℕ) → Apart p → Taking p.scheduler n → Alike p (alone p n) n (in_turn p allowances) (aloneTurns p n (in_turn p allowances))
-apart-in_turn p allowances n = apartness p (in_turn p allowances) n (in_turn-untouched p allowances)
+apart-in_turn p allowances n = apartness p (in_turn p allowances) n (in_turn-follows Untouched (λ q. record { slots = λ k l u. refl; count = refl; memory = refl }) p allowances)
 
 -- all that the main loop may change: place, total and allowance, and what stands above the count
 pub untouched_else : (p : State) (k place total : ℕ) (d : Slot) → p.scheduler.count < k → Untouched p (record {

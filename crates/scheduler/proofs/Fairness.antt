@@ -17,7 +17,7 @@ use Rattle.scheduler.specs.declared.Slot.{Slot}
 use Rattle.scheduler.proofs.Round.{distance, Numbered, first_found, distance-below, distance-past, distance-one, distance-last, following-numbered, place-numbered, place_same}
 use Rattle.scheduler.proofs.Turn.{Turn, turn_is}
 use Rattle.scheduler.proofs.Turn.Turn.{none, took}
-use Rattle.scheduler.proofs.Turns.{count_kept, mine, others}
+use Rattle.scheduler.proofs.Turns.{count_kept, mine, others, in_turn-follows}
 
 -- where the next turn starts to look
 abbrev start : Scheduler → ℕ
@@ -144,17 +144,10 @@ fairness p (g ∷ gs) n k f u l h m e = go (eqb (left g).result.slot k) refl (fa
         rw (mine k g gs (eqb-true _ k q), z) (omega arith)
     go false q later = rw (others k g gs (eqb-false _ k q)) (later f.1 u.1 l kept.high m (rest-too n g gs e))
 
--- the turns of a main loop that changes nothing each get the place and count that the last one left
-in_turn-same : (p : State) (allowances : List ℕ) → Follow SamePlace p (in_turn p allowances)
-unfolding in_turn
-in_turn-same p [] = tt
-in_turn-same p (a ∷ rest) =
-    let g : Given = record { scheduler = p.scheduler; memory = p.memory; allowance = a } in
-    (record { place = refl; count = refl }, in_turn-same (after g) rest)
-
+-- so of a main loop that changes nothing, whatever the allowances
 pub fair-in_turn : (p : State) (allowances : List ℕ) (n k : ℕ) → StaysUnstopped n (in_turn p allowances) → 1 ≤ n → n ≤ p.scheduler.count → 1 ≤ k
     → turnsOf n (in_turn p allowances) ≡ [] → length (turnsOf k (in_turn p allowances)) ≤ 1
-fair-in_turn p allowances n k = fairness p (in_turn p allowances) n k (in_turn-same p allowances)
+fair-in_turn p allowances n k = fairness p (in_turn p allowances) n k (in_turn-follows SamePlace (λ q. record { place = refl; count = refl }) p allowances)
 
 -- all that the main loop may change: slots, total, memory and allowance
 pub same_place_else : (p : State) (ds : List Slot) (total : ℕ) (mem : List ℕ) → SamePlace p (record {

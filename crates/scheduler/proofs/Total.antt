@@ -6,9 +6,10 @@ use Prim.Native.Nat.{ℕ, ◌%◌, ◌<◌, ◌^◌}
 use native.Mathlib.Omega.{arith}
 use Rattle.model.specs.Machine.{sum}
 use Rattle.scheduler.specs.Turn.{Left}
-use Rattle.scheduler.specs.Turns.{Given, left, State, after, Follow, afterAll, in_turn}
+use Rattle.scheduler.specs.Turns.{Given, left, State, after, afterAll, in_turn}
 use Rattle.scheduler.specs.Total.{SameTotal, counts, Total}
 use Rattle.scheduler.specs.declared.Slot.{Slot}
+use Rattle.scheduler.proofs.Turns.{in_turn-follows}
 use Rattle.scheduler.proofs.Turn.{Turn, turn_is}
 use Rattle.scheduler.proofs.Turn.Turn.{none, took}
 
@@ -32,19 +33,11 @@ total p (g ∷ gs) h f =
     let rest = total (after g) gs (omega (arith, one)) f.1 in
     rest ∙ omega (arith, one, same)
 
--- the turns of a main loop that changes nothing each get the total that the last one left
-in_turn-totals : (p : State) (allowances : List ℕ) → Follow SameTotal p (in_turn p allowances)
-unfolding in_turn
-in_turn-totals p [] = tt
-in_turn-totals p (a ∷ rest) =
-    let g : Given = record { scheduler = p.scheduler; memory = p.memory; allowance = a } in
-    (record { total = refl }, in_turn-totals (after g) rest)
-
--- "The reported total starts at 0"
+-- "The reported total starts at 0": of a main loop that changes nothing, whatever the allowances
 pub total-in_turn : (p : State) (allowances : List ℕ) → p.scheduler.total ≡ 0
     → (afterAll p (in_turn p allowances)).scheduler.total ≡ counts (in_turn p allowances) % 2 ^ 64
 total-in_turn p allowances z =
-    let e = total p (in_turn p allowances) (omega (arith, z)) (in_turn-totals p allowances) in
+    let e = total p (in_turn p allowances) (omega (arith, z)) (in_turn-follows SameTotal (λ q. record { total = refl }) p allowances) in
     e ∙ omega (arith, z)
 
 -- all that the main loop may change: everything else

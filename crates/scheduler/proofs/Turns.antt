@@ -1,11 +1,11 @@
 -- Laws of turns one after another.
 -- Assumes nothing.
 use mathlib.Core.Path.{◌≡◌, refl, ap}
-use mathlib.Core.List.{List, ◌∷◌}
+use mathlib.Core.List.{List, [], ◌∷◌}
 use Prim.Native.Nat.{ℕ}
 use borrow.Author.Tests.{eq-eqb, ne_eqb}
 use Rattle.scheduler.specs.Turn.{Left}
-use Rattle.scheduler.specs.Turns.{Given, left, after, turnsOf}
+use Rattle.scheduler.specs.Turns.{Given, left, State, after, Follow, turnsOf, in_turn}
 use Rattle.scheduler.proofs.Turn.{Turn, turn_is}
 use Rattle.scheduler.proofs.Turn.Turn.{none, took}
 
@@ -25,3 +25,12 @@ mine n g gs e = rw (eq-eqb _ _ e) refl
 pub others : (n : ℕ) (g : Given) (gs : List Given) → ((left g).result.slot ≡ n → ⊥) → turnsOf n (g ∷ gs) ≡ turnsOf n gs
 unfolding turnsOf
 others n g gs e = rw (ne_eqb _ _ e) refl
+
+-- ---- a main loop that changes nothing between the turns
+
+-- it leaves alone whatever a page asks of a state and itself
+pub in_turn-follows : (Keeps : State → State → Type 0) → ((q : State) → Keeps q q) → (p : State) (allowances : List ℕ) → Follow Keeps p (in_turn p allowances)
+unfolding in_turn
+in_turn-follows Keeps same p [] = tt
+in_turn-follows Keeps same p (a ∷ rest) =
+    let g : Given = record { scheduler = p.scheduler; memory = p.memory; allowance = a } in (same p, in_turn-follows Keeps same (after g) rest)
