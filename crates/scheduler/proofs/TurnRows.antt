@@ -154,21 +154,21 @@ abbrev loop : List ℕ
 loop = 0x00700393 ∷ 0x0070002b ∷ 0xff9ff06f ∷ []
 
 -- with the byte at 16, which a guest writes
-abbrev before : List ℕ
-before = bytes loop ++ (0 ∷ 0 ∷ 0 ∷ 0 ∷ 9 ∷ [])
+abbrev loaded : List ℕ
+loaded = bytes loop ++ (0 ∷ 0 ∷ 0 ∷ 0 ∷ 9 ∷ [])
 
 abbrev afterwards : List ℕ
 afterwards = bytes loop ++ (0 ∷ 0 ∷ 0 ∷ 0 ∷ 7 ∷ [])
 
 abbrev turn : List Slot → ℕ → ℕ → ℕ → ℕ → List ℕ
-turn ds count place total allowance = seen (turnCall (scheduled ds count place total) before allowance)
+turn ds count place total allowance = seen (turnCall (scheduled ds count place total) loaded allowance)
 
 -- its fetch is refused
 abbrev astray : Slot
 astray = slotWith ((pc, 32) ∷ []) 0
 
-unfoldable pub turns : List (List ℕ)
-turns =
+unfoldable pub questions : List (List ℕ)
+questions =
     -- "one run, with the allowance as its budget"; "then the place becomes the deck after that one"; "adds its run's count"
     turn allFresh 4 1 0 2
     ∷ turn allFresh 4 1 5 1
@@ -201,10 +201,10 @@ turns =
     ∷ turn (four fresh fresh (illFormed 0) fresh) 4 9 5 2
     ∷ []
 
-unfoldable pub left : List (List ℕ)
-left =
+unfoldable pub answers : List (List ℕ)
+answers =
     (1 ∷ 21 ∷ 2 ∷ 0 ∷ 4 ∷ 2 ∷ 2 ∷ 21 ∷ 0 ∷ 0 ∷ 0 ∷ 8 ∷ 0 ∷ 0 ∷ 0 ∷ afterwards)
-    ∷ (1 ∷ 21 ∷ 1 ∷ 0 ∷ 4 ∷ 2 ∷ 6 ∷ 21 ∷ 0 ∷ 0 ∷ 0 ∷ 4 ∷ 0 ∷ 0 ∷ 0 ∷ before)
+    ∷ (1 ∷ 21 ∷ 1 ∷ 0 ∷ 4 ∷ 2 ∷ 6 ∷ 21 ∷ 0 ∷ 0 ∷ 0 ∷ 4 ∷ 0 ∷ 0 ∷ 0 ∷ loaded)
     ∷ (2 ∷ 21 ∷ 3 ∷ 0 ∷ 4 ∷ 3 ∷ 3 ∷ 0 ∷ 21 ∷ 0 ∷ 0 ∷ 0 ∷ 0 ∷ 0 ∷ 0 ∷ afterwards)
     ∷ (3 ∷ 21 ∷ 3 ∷ 0 ∷ 4 ∷ 4 ∷ 3 ∷ 0 ∷ 0 ∷ 21 ∷ 0 ∷ 0 ∷ 0 ∷ 0 ∷ 0 ∷ afterwards)
     ∷ (3 ∷ 21 ∷ 3 ∷ 0 ∷ 3 ∷ 1 ∷ 3 ∷ 0 ∷ 0 ∷ 21 ∷ 0 ∷ 0 ∷ 0 ∷ 0 ∷ 0 ∷ afterwards)
@@ -216,18 +216,18 @@ left =
     ∷ (1 ∷ 21 ∷ 2 ∷ 0 ∷ 3 ∷ 2 ∷ 2 ∷ 21 ∷ 0 ∷ 0 ∷ 0 ∷ 8 ∷ 0 ∷ 0 ∷ 0 ∷ afterwards)
     ∷ (2 ∷ 21 ∷ 2 ∷ 0 ∷ 4 ∷ 3 ∷ 2 ∷ 18 ∷ 21 ∷ 18 ∷ 0 ∷ 0 ∷ 8 ∷ 0 ∷ 0 ∷ afterwards)
     ∷ (1 ∷ 21 ∷ 2 ∷ 0 ∷ 4 ∷ 2 ∷ 2 ∷ 21 ∷ 18 ∷ 18 ∷ 18 ∷ 8 ∷ 0 ∷ 0 ∷ 0 ∷ afterwards)
-    ∷ (1 ∷ 11 ∷ 0 ∷ 0 ∷ 4 ∷ 2 ∷ 7 ∷ 11 ∷ 0 ∷ 0 ∷ 0 ∷ 32 ∷ 0 ∷ 0 ∷ 0 ∷ before)
-    ∷ (2 ∷ 13 ∷ 0 ∷ 0 ∷ 4 ∷ 3 ∷ 7 ∷ 0 ∷ 13 ∷ 0 ∷ 0 ∷ 0 ∷ 12 ∷ 0 ∷ 0 ∷ before)
+    ∷ (1 ∷ 11 ∷ 0 ∷ 0 ∷ 4 ∷ 2 ∷ 7 ∷ 11 ∷ 0 ∷ 0 ∷ 0 ∷ 32 ∷ 0 ∷ 0 ∷ 0 ∷ loaded)
+    ∷ (2 ∷ 13 ∷ 0 ∷ 0 ∷ 4 ∷ 3 ∷ 7 ∷ 0 ∷ 13 ∷ 0 ∷ 0 ∷ 0 ∷ 12 ∷ 0 ∷ 0 ∷ loaded)
     ∷ (1 ∷ 21 ∷ 2 ∷ 0 ∷ 4 ∷ 2 ∷ 1 ∷ 21 ∷ 0 ∷ 0 ∷ 0 ∷ 8 ∷ 0 ∷ 0 ∷ 0 ∷ afterwards)
-    ∷ (0 ∷ 0 ∷ 0 ∷ 0 ∷ 3 ∷ 9 ∷ 5 ∷ 18 ∷ 18 ∷ 18 ∷ 0 ∷ 0 ∷ 0 ∷ 0 ∷ 0 ∷ before)
-    ∷ (0 ∷ 50 ∷ 0 ∷ 0 ∷ 5 ∷ 3 ∷ 5 ∷ 0 ∷ 0 ∷ 0 ∷ 0 ∷ 0 ∷ 0 ∷ 0 ∷ 0 ∷ before)
-    ∷ (0 ∷ 51 ∷ 0 ∷ 0 ∷ 4 ∷ 3 ∷ 5 ∷ 0 ∷ 0 ∷ 0 ∷ 0 ∷ 0 ∷ 0 ∷ 0 ∷ 0 ∷ before)
-    ∷ (0 ∷ 52 ∷ 0 ∷ 0 ∷ 4 ∷ 1 ∷ 5 ∷ 0 ∷ 0 ∷ 0 ∷ 21 ∷ 0 ∷ 0 ∷ 0 ∷ 0 ∷ before)
-    ∷ (0 ∷ 3 ∷ 0 ∷ 0 ∷ 4 ∷ 9 ∷ 5 ∷ 0 ∷ 0 ∷ 0 ∷ 0 ∷ 0 ∷ 0 ∷ 0 ∷ 0 ∷ before)
+    ∷ (0 ∷ 0 ∷ 0 ∷ 0 ∷ 3 ∷ 9 ∷ 5 ∷ 18 ∷ 18 ∷ 18 ∷ 0 ∷ 0 ∷ 0 ∷ 0 ∷ 0 ∷ loaded)
+    ∷ (0 ∷ 50 ∷ 0 ∷ 0 ∷ 5 ∷ 3 ∷ 5 ∷ 0 ∷ 0 ∷ 0 ∷ 0 ∷ 0 ∷ 0 ∷ 0 ∷ 0 ∷ loaded)
+    ∷ (0 ∷ 51 ∷ 0 ∷ 0 ∷ 4 ∷ 3 ∷ 5 ∷ 0 ∷ 0 ∷ 0 ∷ 0 ∷ 0 ∷ 0 ∷ 0 ∷ 0 ∷ loaded)
+    ∷ (0 ∷ 52 ∷ 0 ∷ 0 ∷ 4 ∷ 1 ∷ 5 ∷ 0 ∷ 0 ∷ 0 ∷ 21 ∷ 0 ∷ 0 ∷ 0 ∷ 0 ∷ loaded)
+    ∷ (0 ∷ 3 ∷ 0 ∷ 0 ∷ 4 ∷ 9 ∷ 5 ∷ 0 ∷ 0 ∷ 0 ∷ 0 ∷ 0 ∷ 0 ∷ 0 ∷ 0 ∷ loaded)
     ∷ []
 
-pub turn-rows : turns ≡ left
-unfolding turns left turnCall firstUnstopped refusal slotsRefusal slotRefusal count_trailing_zeros sext decodeWord expandHalf matches explicitRule firstMatch implicitGrants explicitGrants explicitCovers writableCode exposesCode scan firstRefused firstAbsent verdict value written allowed aligned settle stateFits wellFormed hfiStop hfiPerform load store perform executeInstruction executeWord fetching executeFetched step run_by runCall
+pub turn-rows : questions ≡ answers
+unfolding questions answers turnCall firstUnstopped refusal slotsRefusal slotRefusal count_trailing_zeros sext decodeWord expandHalf matches explicitRule firstMatch implicitGrants explicitGrants explicitCovers writableCode exposesCode scan firstRefused firstAbsent verdict value written allowed aligned settle stateFits wellFormed hfiStop hfiPerform load store perform executeInstruction executeWord fetching executeFetched step run_by runCall
 turn-rows = refl
 
 -- ---- whole turns once more, with all that they leave: every slot, stopped ones and those above the count too, every place of a machine, and the memory
@@ -264,7 +264,7 @@ absent stop = marked ((base 3, 64) ∷ (pc, 64) ∷ []) stop
 unfoldable pub wholes : List Left
 wholes =
     -- 21
-    turnCall (first_of (marked [] 0) 1 5) before 2
+    turnCall (first_of (marked [] 0) 1 5) loaded 2
     -- 20: its step is counted, its store stays, and its machine is the one that left
     ∷ turnCall (first_of (marked [] 0) 1 5) (then 0x0400005b (9 ∷ [])) 9
     -- 18 (ecall) and 13: what it did before stays
@@ -278,10 +278,10 @@ wholes =
     -- many steps
     ∷ turnCall (first_of (marked [] 0) 1 5) (bytes (0x0000006f ∷ [])) 100
     -- no run: all stopped, and refused
-    ∷ turnCall (all_stopped 9) before 2
-    ∷ turnCall (all_stopped 9) before 0
-    ∷ turnCall (first_of (marked [] 0) 9 5) before 0
-    ∷ turnCall (first_of (marked ((x 0, 1) ∷ []) 0) 9 5) before 2
+    ∷ turnCall (all_stopped 9) loaded 2
+    ∷ turnCall (all_stopped 9) loaded 0
+    ∷ turnCall (first_of (marked [] 0) 9 5) loaded 0
+    ∷ turnCall (first_of (marked ((x 0, 1) ∷ []) 0) 9 5) loaded 2
     ∷ []
 
 unfoldable pub whole_left : List Left
@@ -294,10 +294,10 @@ whole_left =
     ∷ took 17 1 16 (stored 4 [] 17) 6 (then 0 [])
     ∷ took 16 2 0 (stored 8 ((occurred, 1) ∷ (faultRegion, 1) ∷ (op, 2) ∷ (faulting, 24) ∷ []) 16) 7 (then 0x0070042b (7 ∷ []))
     ∷ took 21 100 0 (marked [] 21) 105 (bytes (0x0000006f ∷ []))
-    ∷ turnedWith (noTurn 0 (all_stopped 9)) before
-    ∷ turnedWith (noTurn 51 (all_stopped 9)) before
-    ∷ turnedWith (noTurn 51 (first_of (marked [] 0) 9 5)) before
-    ∷ turnedWith (noTurn 3 (first_of (marked ((x 0, 1) ∷ []) 0) 9 5)) before
+    ∷ turnedWith (noTurn 0 (all_stopped 9)) loaded
+    ∷ turnedWith (noTurn 51 (all_stopped 9)) loaded
+    ∷ turnedWith (noTurn 51 (first_of (marked [] 0) 9 5)) loaded
+    ∷ turnedWith (noTurn 3 (first_of (marked ((x 0, 1) ∷ []) 0) 9 5)) loaded
     ∷ []
 
 pub whole-rows : wholes ≡ whole_left

@@ -68,6 +68,7 @@ pub fn turn_call(s: Scheduler, mem: &mut [u8], allowance: u64) -> Turned
 }
 
 // A machine put into slot n; a number that no slot has changes nothing.
+#[tactic(auto, unfolding(scheduler::specs::Turn::putCall))]
 pub fn put_call(s: Scheduler, n: u64, m: Machine) -> Put
     ensures { result ≡ putCall s n m }
 {

@@ -11,6 +11,7 @@ use scheduler::{LARGEST_ALLOWANCE, MOST_SLOTS, SLOTS, Scheduler, Slot};
 use writable_code::exposes_code;
 
 // Of one slot.
+#[tactic(auto, unfolding(scheduler::specs::Turn::slotRefusal))]
 fn slot_refusal(d: Slot) -> u64
     ensures { result ≡ slotRefusal d }
 {
@@ -51,6 +52,7 @@ fn slots_refusal(slots: [Slot; SLOTS], count: u64) -> u64
 }
 
 // Of a turn over a memory of `size` bytes.
+#[tactic(auto, unfolding(scheduler::specs::Turn::refusal))]
 pub fn refusal(s: Scheduler, size: usize, allowance: u64) -> u64
     ensures { result ≡ refusalOf s size allowance }
 {
