@@ -6,15 +6,15 @@ use Rattle.words.specs.Integer.{remainder}
 use Rattle.words.proofs.Quotients.{remainder_unsigned}
 
 -- a shift to the right keeps the bound
-pub shift-lt : (a n k : ℕ) → a < 2 ^ k → a / 2 ^ n < 2 ^ k
-shift-lt a n k h = lt_of_le_of_lt (div-le_self a (2 ^ n)) h
+pub shift_lt : (a n k : ℕ) → a < 2 ^ k → a / 2 ^ n < 2 ^ k
+shift_lt a n k h = lt_of_le_of_lt (div-le_self a (2 ^ n)) h
 
 -- the low 32 bits
 pub low : (n : ℕ) {r : ℕ} → r ≡ field n 0 32 → (r ≡ n % 2 ^ 32) × (r < 2 ^ 32)
 low n e = (omega (arith, e), omega (arith, e))
 
-pub low-of-wrapped : (n : ℕ) {r : ℕ} → r ≡ field (n % 2 ^ 64) 0 32 → (r ≡ n % 2 ^ 32) × (r < 2 ^ 32)
-low-of-wrapped n e = (omega (arith, e), omega (arith, e))
+pub low_of_wrapped : (n : ℕ) {r : ℕ} → r ≡ field (n % 2 ^ 64) 0 32 → (r ≡ n % 2 ^ 32) × (r < 2 ^ 32)
+low_of_wrapped n e = (omega (arith, e), omega (arith, e))
 
 -- the low 32 bits of a sum are the sum of the low 32 bits
 pub low_sum : (a b : ℕ) → field ((a + b) % 2 ^ 64) 0 32 ≡ (field a 0 32 + field b 0 32) % 2 ^ 32

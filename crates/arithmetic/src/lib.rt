@@ -4,8 +4,8 @@
 ghost use Rattle.std.specs.Prelude.{◌≡◌, ◌*◌, ◌^◌, ◌<◌};
 ghost use Rattle.instructions.specs.declared.kind.RegisterKind.TheVariants.{Add};
 ghost use Rattle.model.specs.Access.{load_width};
-ghost use Rattle.model.specs.Step.{jalrTarget};
-ghost use Rattle.model.specs.Arithmetic.{flag as flagOf, operate as operateAt, operateWord, ofRegisterWord, ofImmediate, ofShift, ofShiftWord, taken as is_taken, extended as extendedOf};
+ghost use Rattle.model.specs.Step.{jalr_target};
+ghost use Rattle.model.specs.Arithmetic.{flag as flag_of, operate as operate_at, operate_word, of_register_word, of_immediate, of_shift, of_shift_word, taken as is_taken, extended as extended_of};
 
 use instructions::kind::{
     BranchKind, ImmediateKind, LoadKind, RegisterKind, RegisterWordKind, ShiftKind, ShiftWordKind,
@@ -18,14 +18,14 @@ use words::integer::{
 use words::{bits, shift_right_signed, sign_extend, signed_less};
 
 fn flag(t: bool) -> u64
-    ensures { result ≡ flagOf t }
+    ensures { result ≡ flag_of t }
 {
     if t { 1 } else { 0 }
 }
 
 // An operation on 64 bits.
 pub fn operate(k: RegisterKind, a: u64, b: u64) -> u64
-    ensures { result ≡ operateAt 64 k a b }
+    ensures { result ≡ operate_at 64 k a b }
 {
     match k {
         RegisterKind::Add => wrapping_add_u64(a, b),
@@ -51,7 +51,7 @@ pub fn operate(k: RegisterKind, a: u64, b: u64) -> u64
 
 // The same with an immediate, or an amount. `operate` has one caller without them, and stays part of the run's loop.
 pub fn operate_immediate(k: ImmediateKind, a: u64, imm: u64) -> u64
-    ensures { result ≡ operateAt 64 (ofImmediate k) a imm }
+    ensures { result ≡ operate_at 64 (of_immediate k) a imm }
 {
     match k {
         ImmediateKind::Addi => wrapping_add_u64(a, imm),
@@ -64,7 +64,7 @@ pub fn operate_immediate(k: ImmediateKind, a: u64, imm: u64) -> u64
 }
 
 pub fn operate_shift(k: ShiftKind, a: u64, amount: u64) -> u64
-    ensures { result ≡ operateAt 64 (ofShift k) a amount }
+    ensures { result ≡ operate_at 64 (of_shift k) a amount }
 {
     match k {
         ShiftKind::Slli => a << (amount % 64),
@@ -76,7 +76,7 @@ pub fn operate_shift(k: ShiftKind, a: u64, amount: u64) -> u64
 // An operation on 32 bits, of the kinds that have a word form.
 fn operate_32(k: RegisterWordKind, a: u64, b: u64) -> u64
     requires { (a < 2 ^ 32) × (b < 2 ^ 32) }
-    ensures { (result ≡ operateAt 32 (ofRegisterWord k) a b) × (result < 2 ^ 32) }
+    ensures { (result ≡ operate_at 32 (of_register_word k) a b) × (result < 2 ^ 32) }
 {
     match k {
         RegisterWordKind::Addw => bits(a + b, 0, 32),
@@ -94,21 +94,21 @@ fn operate_32(k: RegisterWordKind, a: u64, b: u64) -> u64
 
 // A word form: on the low 32 bits, the result sign extended.
 pub fn operate_word(k: RegisterWordKind, a: u64, b: u64) -> u64
-    ensures { result ≡ operateWord (ofRegisterWord k) a b }
+    ensures { result ≡ operate_word (of_register_word k) a b }
 {
     sign_extend(operate_32(k, bits(a, 0, 32), bits(b, 0, 32)), 32)
 }
 
 // ADDIW: the word form of ADD with an immediate.
 pub fn add_word(a: u64, imm: u64) -> u64
-    ensures { result ≡ operateWord Add a imm }
+    ensures { result ≡ operate_word Add a imm }
 {
     sign_extend(bits(wrapping_add_u64(a, imm), 0, 32), 32)
 }
 
 // The operation that each shift of words is a form of.
 pub fn of_shift_word(k: ShiftWordKind) -> RegisterWordKind
-    ensures { ofRegisterWord result ≡ ofShiftWord k }
+    ensures { of_register_word result ≡ of_shift_word k }
 {
     match k {
         ShiftWordKind::Slliw => RegisterWordKind::Sllw,
@@ -119,7 +119,7 @@ pub fn of_shift_word(k: ShiftWordKind) -> RegisterWordKind
 
 // The target of JALR: the lowest bit of the sum is zero.
 pub fn jalr_target(a: u64, imm: u64) -> u64
-    ensures { result ≡ jalrTarget a imm }
+    ensures { result ≡ jalr_target a imm }
 {
     wrapping_add_u64(a, imm) / 2 * 2
 }
@@ -141,7 +141,7 @@ pub fn taken(k: BranchKind, a: u64, b: u64) -> bool
 // What a load puts in its register, from the number of its bytes.
 pub fn extended(k: LoadKind, v: u64) -> u64
     requires { v < 2 ^ (8 * load_width k) }
-    ensures { result ≡ extendedOf k v }
+    ensures { result ≡ extended_of k v }
 {
     match k {
         LoadKind::Lb => sign_extend(v, 8),

@@ -3,8 +3,8 @@
 #![tactic(auto)]
 
 ghost use Rattle.std.specs.Prelude.{◌≡◌, ◌≤◌, length, take, drop};
-ghost use Rattle.text.specs.Scan.{firstThat, is};
-ghost use Rattle.text.specs.Number.{number as Number·number};
+ghost use Rattle.text.specs.Scan.{first_that, is};
+ghost use Rattle.text.specs.Number.{number as number_of};
 
 use input::{fail, read_stored};
 use std::io;
@@ -21,14 +21,14 @@ pub fn column(s: &[u8], at: usize, n: usize) -> &[u8]
 
 // The number that a column of at most 16 hexadecimal digits spells.
 pub fn hexadecimal_at(s: &[u8], at: usize, n: usize) -> u64
-    ensures { result ≡ Number·number 16 (take n (drop at s.now)) }
+    ensures { result ≡ number_of 16 (take n (drop at s.now)) }
 {
     number(column(s, at, n), 16)
 }
 
 // What stands before the first space.
 pub fn unpadded(s: &[u8]) -> &[u8]
-    ensures { result.now ≡ take (firstThat (is 32) s.now) s.now }
+    ensures { result.now ≡ take (first_that (is 32) s.now) s.now }
 {
     front(s, position(s, b' '))
 }

@@ -3,13 +3,13 @@
 use mathlib.Core.Path.{◌≡◌, ap}
 use Prim.Native.Nat.{ℕ}
 use native.Mathlib.Omega.{arith}
-use Rattle.instructions.specs.Answers.{decodeNumber}
+use Rattle.instructions.specs.Answers.{decode_number}
 use Rattle.instructions.specs.declared.instruction.Instruction.{Instruction}
 use Rattle.instructions.specs.declared.instruction.Decoded.{Decoded}
 use Rattle.instructions.specs.declared.instruction.Decoded.TheVariants.{Legal, Illegal}
 
-pub not-legal : {i : Instruction} → ◌≡◌ {A = Decoded} Illegal (Legal i) → ⊥
-not-legal e = let z : ◌≡◌ {A = ℕ} 13 0 = ap decodeNumber e in omega arith
+pub not_legal : {i : Instruction} → ◌≡◌ {A = Decoded} Illegal (Legal i) → ⊥
+not_legal e = let z : ◌≡◌ {A = ℕ} 13 0 = ap decode_number e in omega arith
 
-pub legal-same : {i j : Instruction} → ◌≡◌ {A = Decoded} (Legal i) (Legal j) → i ≡ j
-legal-same e = cc
+pub legal_same : {i j : Instruction} → ◌≡◌ {A = Decoded} (Legal i) (Legal j) → i ≡ j
+legal_same e = cc

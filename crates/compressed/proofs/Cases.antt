@@ -8,16 +8,16 @@ use mathlib.Core.Path.{◌≡◌, refl}
 use mathlib.Core.List.{List, [], ◌∷◌, map}
 use Prim.Native.Nat.{ℕ}
 use Rattle.words.specs.Word.{sext}
-use Rattle.instructions.specs.Encode.{encodeWord}
+use Rattle.instructions.specs.Encode.{encode_word}
 use Rattle.instructions.specs.declared.instruction.Decoded.{Decoded}
 use Rattle.instructions.specs.declared.instruction.Decoded.TheVariants.{Legal, Illegal}
 use Rattle.instructions.specs.declared.instruction.Encoded.{Encoded}
 use Rattle.instructions.specs.declared.instruction.Encoded.TheVariants.{Word, OutOfRange}
-use Rattle.compressed.specs.Expand.{expandHalf}
+use Rattle.compressed.specs.Expand.{expand_half}
 
 -- the long word of an answer; none where it is illegal
 abbrev pub long : Decoded → Encoded
-long (Legal i) = encodeWord i
+long (Legal i) = encode_word i
 long Illegal = OutOfRange
 
 abbrev pub rows : List (ℕ × ℕ)
@@ -194,13 +194,13 @@ edges =
     ∷ (0xe07e, 0x01f13023)  -- c.sdsp x31, 0(x2): sd x31, 0(x2)
     ∷ []
 
-pub edges-held : map (λ (r : ℕ × ℕ). long (expandHalf r.0)) edges ≡ map (λ (r : ℕ × ℕ). Word r.1) edges
-unfolding expandHalf encodeWord sext
-edges-held = refl
+pub edges_held : map (λ (r : ℕ × ℕ). long (expand_half r.0)) edges ≡ map (λ (r : ℕ × ℕ). Word r.1) edges
+unfolding expand_half encode_word sext
+edges_held = refl
 
-pub long-words : map (λ (r : ℕ × ℕ). long (expandHalf r.0)) rows ≡ map (λ (r : ℕ × ℕ). Word r.1) rows
-unfolding expandHalf encodeWord sext
-long-words = refl
+pub long_words : map (λ (r : ℕ × ℕ). long (expand_half r.0)) rows ≡ map (λ (r : ℕ × ℕ). Word r.1) rows
+unfolding expand_half encode_word sext
+long_words = refl
 
 -- what has no effect is legal
 abbrev pub hints : List (ℕ × ℕ)
@@ -216,9 +216,9 @@ hints =
     ∷ (0x8481, 0x4004d493)  -- c.srai64 x9: srai x9, x9, 0
     ∷ []
 
-pub hints-legal : map (λ (r : ℕ × ℕ). long (expandHalf r.0)) hints ≡ map (λ (r : ℕ × ℕ). Word r.1) hints
-unfolding expandHalf encodeWord sext
-hints-legal = refl
+pub hints_legal : map (λ (r : ℕ × ℕ). long (expand_half r.0)) hints ≡ map (λ (r : ℕ × ℕ). Word r.1) hints
+unfolding expand_half encode_word sext
+hints_legal = refl
 
 -- "its floating-point loads and stores are illegal, as are reserved words"
 abbrev pub illegal : List ℕ
@@ -244,6 +244,6 @@ illegal =
     ∷ 0xffff  -- .2byte 0xffff
     ∷ []
 
-pub none-expanded : map expandHalf illegal ≡ map (λ (h : ℕ). Illegal) illegal
-unfolding expandHalf
-none-expanded = refl
+pub none_expanded : map expand_half illegal ≡ map (λ (h : ℕ). Illegal) illegal
+unfolding expand_half
+none_expanded = refl

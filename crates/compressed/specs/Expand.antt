@@ -10,13 +10,13 @@ use Rattle.instructions.specs.declared.instruction.Decoded.TheVariants.{Legal, I
 use Rattle.compressed.specs.Table.{Line, takes, table}
 
 -- by the line that takes it; no two do (proofs/OneLine.antt)
-abbrev pub expandBy : List Line → ℕ → Decoded
-expandBy [] h = Illegal
-expandBy (l ∷ ls) h = cond (takes h l) (Legal (l.expansion h)) (expandBy ls h)
+abbrev pub expand_by : List Line → ℕ → Decoded
+expand_by [] h = Illegal
+expand_by (l ∷ ls) h = cond (takes h l) (Legal (l.expansion h)) (expand_by ls h)
 
-unfoldable pub expandHalf : ℕ → Decoded
-expandHalf h = expandBy table h
+unfoldable pub expand_half : ℕ → Decoded
+expand_half h = expand_by table h
 
 -- "takes two more only if the low two bits are both ones": these are the first two bytes of a long word
-abbrev pub isLong : ℕ → Bool
-isLong h = eqb (field h 0 2) 3
+abbrev pub is_long : ℕ → Bool
+is_long h = eqb (field h 0 2) 3

@@ -1,7 +1,7 @@
 // The immediate of each format, from the fields of the word.
 ghost use Rattle.std.specs.Prelude.{◌≡◌};
 ghost use Rattle.instructions.specs.InWord.{InWord};
-ghost use Rattle.instructions.specs.Immediates.{iBits, iImmediate, sImmediate, bImmediate, uImmediate, jImmediate};
+ghost use Rattle.instructions.specs.Immediates.{i_bits, i_immediate, s_immediate, b_immediate, u_immediate, j_immediate};
 
 use instructions::fields::Fields;
 use words::{bits, put, sign_extend};
@@ -9,28 +9,28 @@ use words::{bits, put, sign_extend};
 // The 12 bits above rs1.
 pub fn i_bits(f: Fields) -> u64
     requires { InWord f }
-    ensures { result ≡ iBits f }
+    ensures { result ≡ i_bits f }
 {
     put(f.rs2, f.funct7, 5)
 }
 
 pub fn i_immediate(f: Fields) -> u64
     requires { InWord f }
-    ensures { result ≡ iImmediate f }
+    ensures { result ≡ i_immediate f }
 {
     sign_extend(put(f.rs2, f.funct7, 5), 12)
 }
 
 pub fn s_immediate(f: Fields) -> u64
     requires { InWord f }
-    ensures { result ≡ sImmediate f }
+    ensures { result ≡ s_immediate f }
 {
     sign_extend(put(f.rd, f.funct7, 5), 12)
 }
 
 pub fn b_immediate(f: Fields) -> u64
     requires { InWord f }
-    ensures { result ≡ bImmediate f }
+    ensures { result ≡ b_immediate f }
 {
     let low = put(put(0, bits(f.rd, 1, 4), 1), bits(f.funct7, 0, 6), 5);
     let all = put(put(low, bits(f.rd, 0, 1), 11), bits(f.funct7, 6, 1), 12);
@@ -39,7 +39,7 @@ pub fn b_immediate(f: Fields) -> u64
 
 pub fn u_immediate(f: Fields) -> u64
     requires { InWord f }
-    ensures { result ≡ uImmediate f }
+    ensures { result ≡ u_immediate f }
 {
     let low = put(put(0, f.funct3, 12), f.rs1, 15);
     sign_extend(put(put(low, f.rs2, 20), f.funct7, 25), 32)
@@ -47,7 +47,7 @@ pub fn u_immediate(f: Fields) -> u64
 
 pub fn j_immediate(f: Fields) -> u64
     requires { InWord f }
-    ensures { result ≡ jImmediate f }
+    ensures { result ≡ j_immediate f }
 {
     let low = put(put(0, bits(f.rs2, 1, 4), 1), bits(f.funct7, 0, 6), 5);
     let middle = put(put(low, bits(f.rs2, 0, 1), 11), f.funct3, 12);

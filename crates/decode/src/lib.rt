@@ -4,8 +4,8 @@
 ghost use Rattle.std.specs.Prelude.{◌≡◌};
 ghost use Rattle.instructions.specs.Fields.{fields_of};
 ghost use Rattle.instructions.specs.InWord.{InWord};
-ghost use Rattle.instructions.specs.HWords.{chosenRegion};
-ghost use Rattle.instructions.specs.Decode.{decodeJalr, decodeShift, decodeImmediate, decodeImmediateWord, decodeFence, decodeSystem, decodeHLoad, decodeHStore, decodeHfi, decodeFields, decodeWord};
+ghost use Rattle.instructions.specs.HWords.{chosen_region};
+ghost use Rattle.instructions.specs.Decode.{decode_jalr, decode_shift, decode_immediate, decode_immediate_word, decode_fence, decode_system, decode_h_load, decode_h_store, decode_hfi, decode_fields, decode_word};
 
 pub mod immediate;
 
@@ -32,7 +32,7 @@ fn split(w: u32) -> Fields
 
 fn decode_jalr(f: Fields) -> Decoded
     requires { InWord f }
-    ensures { result ≡ decodeJalr f }
+    ensures { result ≡ decode_jalr f }
 {
     if f.funct3 == 0 {
         Decoded::Legal(Instruction::Jalr(f.rd, f.rs1, i_immediate(f)))
@@ -43,7 +43,7 @@ fn decode_jalr(f: Fields) -> Decoded
 
 fn decode_shift(f: Fields) -> Decoded
     requires { InWord f }
-    ensures { result ≡ decodeShift f }
+    ensures { result ≡ decode_shift f }
 {
     let all = i_bits(f);
     let code = put(f.funct3, bits(all, 6, 6), 3);
@@ -52,7 +52,7 @@ fn decode_shift(f: Fields) -> Decoded
 
 fn decode_immediate(f: Fields) -> Decoded
     requires { InWord f }
-    ensures { result ≡ decodeImmediate f }
+    ensures { result ≡ decode_immediate f }
 {
     let d = listing::immediate(f.funct3, f.rd, f.rs1, i_immediate(f));
     match d {
@@ -63,7 +63,7 @@ fn decode_immediate(f: Fields) -> Decoded
 
 fn decode_immediate_word(f: Fields) -> Decoded
     requires { InWord f }
-    ensures { result ≡ decodeImmediateWord f }
+    ensures { result ≡ decode_immediate_word f }
 {
     if f.funct3 == 0 {
         Decoded::Legal(Instruction::Addiw(f.rd, f.rs1, i_immediate(f)))
@@ -74,7 +74,7 @@ fn decode_immediate_word(f: Fields) -> Decoded
 
 fn decode_fence(f: Fields) -> Decoded
     requires { InWord f }
-    ensures { result ≡ decodeFence f }
+    ensures { result ≡ decode_fence f }
 {
     if f.funct3 == 0 {
         let all = i_bits(f);
@@ -92,7 +92,7 @@ fn decode_fence(f: Fields) -> Decoded
 
 fn decode_system(f: Fields) -> Decoded
     requires { InWord f }
-    ensures { result ≡ decodeSystem f }
+    ensures { result ≡ decode_system f }
 {
     if (f.rd == 0) & ((f.funct3 == 0) & (f.rs1 == 0)) {
         listing::system(i_bits(f))
@@ -103,7 +103,7 @@ fn decode_system(f: Fields) -> Decoded
 
 // The explicit region that rs1's field and the other, rd's or rs2's, choose by their top bits.
 fn chosen_region(rs1: u64, other: u64) -> u64
-    ensures { result ≡ chosenRegion rs1 other }
+    ensures { result ≡ chosen_region rs1 other }
 {
     let choice = put(bits(other, 4, 1), bits(rs1, 4, 1), 1);
     match choice {
@@ -116,7 +116,7 @@ fn chosen_region(rs1: u64, other: u64) -> u64
 
 fn decode_h_load(f: Fields) -> Decoded
     requires { InWord f }
-    ensures { result ≡ decodeHLoad f }
+    ensures { result ≡ decode_h_load f }
 {
     let region = chosen_region(f.rs1, f.rd);
     let rd = bits(f.rd, 0, 4);
@@ -126,7 +126,7 @@ fn decode_h_load(f: Fields) -> Decoded
 
 fn decode_h_store(f: Fields) -> Decoded
     requires { InWord f }
-    ensures { result ≡ decodeHStore f }
+    ensures { result ≡ decode_h_store f }
 {
     let region = chosen_region(f.rs1, f.rs2);
     let rs1 = bits(f.rs1, 0, 4);
@@ -135,7 +135,7 @@ fn decode_h_store(f: Fields) -> Decoded
 }
 
 fn decode_hfi(f: Fields) -> Decoded
-    ensures { result ≡ decodeHfi f }
+    ensures { result ≡ decode_hfi f }
 {
     if (f.funct3 == 0) & fields_named(f.funct7, f.rd, f.rs1, f.rs2) {
         listing::hfi(f.funct7, f.rd, f.rs1, f.rs2)
@@ -146,7 +146,7 @@ fn decode_hfi(f: Fields) -> Decoded
 
 fn decode_fields(f: Fields) -> Decoded
     requires { InWord f }
-    ensures { result ≡ decodeFields f }
+    ensures { result ≡ decode_fields f }
 {
     let opcode = f.opcode;
     match opcode {
@@ -172,7 +172,7 @@ fn decode_fields(f: Fields) -> Decoded
 
 // The instruction of any word.
 pub fn decode(w: u32) -> Decoded
-    ensures { result ≡ decodeWord w }
+    ensures { result ≡ decode_word w }
 {
     decode_fields(split(w))
 }

@@ -3,7 +3,7 @@
 #![tactic(auto)]
 
 ghost use Rattle.std.specs.Prelude.{◌≡◌};
-ghost use Rattle.instructions.specs.Answers.{decodeNumber};
+ghost use Rattle.instructions.specs.Answers.{decode_number};
 
 use columns::{column, hexadecimal_at, print, print_decimal, print_hexadecimal, read_file};
 use decode::decode;
@@ -14,7 +14,7 @@ use std::rt::Files;
 
 // Document 01's number.
 fn number_of(d: Decoded) -> u64
-    ensures { result ≡ decodeNumber d }
+    ensures { result ≡ decode_number d }
 {
     match d {
         Decoded::Legal(_) => 0,

@@ -2,7 +2,7 @@
 ghost use Rattle.std.specs.Prelude.{◌≡◌, ◌^◌, ◌<◌};
 ghost use Rattle.instructions.specs.Fields.{word_of};
 ghost use Rattle.instructions.specs.InWord.{InWord};
-ghost use Rattle.instructions.specs.Encode.{rFields, iFields, sFields, bFields, uFields, jFields, shiftFields, fenceFields};
+ghost use Rattle.instructions.specs.Encode.{r_fields, i_fields, s_fields, b_fields, u_fields, j_fields, shift_fields, fence_fields};
 
 use instructions::fields::Fields;
 use instructions::kind::ShiftKind;
@@ -11,7 +11,7 @@ use words::{bits, put};
 
 // `code` is funct7 and funct3 as one number.
 pub fn r_fields(opcode: u64, code: u64, rd: u64, rs1: u64, rs2: u64) -> Fields
-    ensures { result ≡ rFields opcode code rd rs1 rs2 }
+    ensures { result ≡ r_fields opcode code rd rs1 rs2 }
 {
     Fields {
         opcode: opcode,
@@ -24,7 +24,7 @@ pub fn r_fields(opcode: u64, code: u64, rd: u64, rs1: u64, rs2: u64) -> Fields
 }
 
 pub fn i_fields(opcode: u64, funct3: u64, rd: u64, rs1: u64, imm: u64) -> Fields
-    ensures { result ≡ iFields opcode funct3 rd rs1 imm }
+    ensures { result ≡ i_fields opcode funct3 rd rs1 imm }
 {
     Fields {
         opcode: opcode,
@@ -37,7 +37,7 @@ pub fn i_fields(opcode: u64, funct3: u64, rd: u64, rs1: u64, imm: u64) -> Fields
 }
 
 pub fn s_fields(opcode: u64, funct3: u64, rs1: u64, rs2: u64, imm: u64) -> Fields
-    ensures { result ≡ sFields opcode funct3 rs1 rs2 imm }
+    ensures { result ≡ s_fields opcode funct3 rs1 rs2 imm }
 {
     Fields {
         opcode: opcode,
@@ -50,7 +50,7 @@ pub fn s_fields(opcode: u64, funct3: u64, rs1: u64, rs2: u64, imm: u64) -> Field
 }
 
 pub fn b_fields(opcode: u64, funct3: u64, rs1: u64, rs2: u64, imm: u64) -> Fields
-    ensures { result ≡ bFields opcode funct3 rs1 rs2 imm }
+    ensures { result ≡ b_fields opcode funct3 rs1 rs2 imm }
 {
     Fields {
         opcode: opcode,
@@ -63,7 +63,7 @@ pub fn b_fields(opcode: u64, funct3: u64, rs1: u64, rs2: u64, imm: u64) -> Field
 }
 
 pub fn u_fields(opcode: u64, rd: u64, imm: u64) -> Fields
-    ensures { result ≡ uFields opcode rd imm }
+    ensures { result ≡ u_fields opcode rd imm }
 {
     Fields {
         opcode: opcode,
@@ -76,7 +76,7 @@ pub fn u_fields(opcode: u64, rd: u64, imm: u64) -> Fields
 }
 
 pub fn j_fields(opcode: u64, rd: u64, imm: u64) -> Fields
-    ensures { result ≡ jFields opcode rd imm }
+    ensures { result ≡ j_fields opcode rd imm }
 {
     Fields {
         opcode: opcode,
@@ -90,7 +90,7 @@ pub fn j_fields(opcode: u64, rd: u64, imm: u64) -> Fields
 
 pub fn shift_fields(k: ShiftKind, rd: u64, rs1: u64, amount: u64) -> Fields
     requires { amount < 2 ^ 6 }
-    ensures { result ≡ shiftFields k rd rs1 amount }
+    ensures { result ≡ shift_fields k rd rs1 amount }
 {
     let code = k.code();
     i_fields(
@@ -104,7 +104,7 @@ pub fn shift_fields(k: ShiftKind, rd: u64, rs1: u64, amount: u64) -> Fields
 
 pub fn fence_fields(fm: u64, pred: u64, succ: u64, rs1: u64, rd: u64) -> Fields
     requires { (fm < 2 ^ 4) × (pred < 2 ^ 4) × (succ < 2 ^ 4) }
-    ensures { result ≡ fenceFields fm pred succ rs1 rd }
+    ensures { result ≡ fence_fields fm pred succ rs1 rd }
 {
     i_fields(MISC_MEM, 0, rd, rs1, put(succ, put(pred, fm, 4), 4))
 }

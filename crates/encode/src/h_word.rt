@@ -1,8 +1,8 @@
 // H-words: the two register fields hold the bits that choose the region above the numbers of the registers.
 ghost use Rattle.std.specs.Prelude.{◌≡◌, ◌^◌, ◌<◌};
-ghost use Rattle.words.specs.Word.{fitsSigned};
-ghost use Rattle.instructions.specs.HWords.{explicitRegions, place_in, rs1Field, otherField};
-ghost use Rattle.instructions.specs.Encode.{encodeFields, hWord};
+ghost use Rattle.words.specs.Word.{fits_signed};
+ghost use Rattle.instructions.specs.HWords.{explicit_regions, place_in, rs1_field, other_field};
+ghost use Rattle.instructions.specs.Encode.{encode_fields, h_word};
 ghost use Rattle.instructions.specs.declared.instruction.Instruction.TheVariants.{HLoad, HStore};
 
 use crate::format::{i_fields, s_fields};
@@ -13,7 +13,7 @@ use words::{bits, fits_signed, put};
 
 // The choice that means an explicit region. For any other it is 4, which two bits cannot hold.
 fn choice_of(region: u64) -> u64
-    ensures { result ≡ place_in explicitRegions region }
+    ensures { result ≡ place_in explicit_regions region }
 {
     match region {
         1 => 0,
@@ -25,14 +25,14 @@ fn choice_of(region: u64) -> u64
 }
 
 pub fn h_word_in_range(region: u64, a: u64, b: u64, imm: u64) -> bool
-    ensures { result ≡ hWord region a b (fitsSigned 12 imm) }
+    ensures { result ≡ h_word region a b (fits_signed 12 imm) }
 {
     (choice_of(region) < 4) & ((a < 16) & ((b < 16) & fits_signed(imm, 12)))
 }
 
 fn rs1_field(region: u64, register: u64) -> u64
     requires { register < 2 ^ 4 }
-    ensures { result ≡ rs1Field region register }
+    ensures { result ≡ rs1_field region register }
 {
     put(register, bits(choice_of(region), 1, 1), 4)
 }
@@ -40,14 +40,14 @@ fn rs1_field(region: u64, register: u64) -> u64
 // The field of rd, or of rs2 in a store.
 fn other_field(region: u64, register: u64) -> u64
     requires { register < 2 ^ 4 }
-    ensures { result ≡ otherField region register }
+    ensures { result ≡ other_field region register }
 {
     put(register, bits(choice_of(region), 0, 1), 4)
 }
 
 pub fn h_load_fields(k: LoadKind, region: u64, rd: u64, rs1: u64, imm: u64) -> Fields
     requires { (rd < 2 ^ 4) × (rs1 < 2 ^ 4) }
-    ensures { result ≡ encodeFields (HLoad k region rd rs1 imm) }
+    ensures { result ≡ encode_fields (HLoad k region rd rs1 imm) }
 {
     i_fields(
         H_LOAD,
@@ -60,7 +60,7 @@ pub fn h_load_fields(k: LoadKind, region: u64, rd: u64, rs1: u64, imm: u64) -> F
 
 pub fn h_store_fields(k: StoreKind, region: u64, rs1: u64, rs2: u64, imm: u64) -> Fields
     requires { (rs1 < 2 ^ 4) × (rs2 < 2 ^ 4) }
-    ensures { result ≡ encodeFields (HStore k region rs1 rs2 imm) }
+    ensures { result ≡ encode_fields (HStore k region rs1 rs2 imm) }
 {
     s_fields(
         H_STORE,

@@ -2,7 +2,7 @@
 #![tactic(auto)]
 
 ghost use Rattle.std.specs.Prelude.{◌≡◌, true, ◌<◌};
-ghost use Rattle.instructions.specs.Encode.{encodeFields, two, multiple as isMultiple, in_range, encodeWord};
+ghost use Rattle.instructions.specs.Encode.{encode_fields, two, multiple as is_multiple, in_range, encode_word};
 
 pub mod format;
 pub mod h_word;
@@ -28,7 +28,7 @@ fn two_registers(a: u64, b: u64, rest: bool) -> bool
 // Can a signed field of `width` bits express `x`, with its `low` lowest bits zero?
 fn multiple(x: u64, width: u64, low: u64) -> bool
     requires { (0 < width) × (width < 64) × (low < 64) }
-    ensures { result ≡ isMultiple width low x }
+    ensures { result ≡ is_multiple width low x }
 {
     fits_signed(x, width) & (bits(x, 0, low) == 0)
 }
@@ -67,7 +67,7 @@ fn in_range(i: Instruction) -> bool
 
 fn encode_fields(i: Instruction) -> Fields
     requires { in_range i ≡ true }
-    ensures { result ≡ encodeFields i }
+    ensures { result ≡ encode_fields i }
 {
     match i {
         Instruction::Upper(k, rd, imm) => u_fields(k.code(), rd, imm),
@@ -92,7 +92,7 @@ fn encode_fields(i: Instruction) -> Fields
 
 // The word of any instruction.
 pub fn encode(i: Instruction) -> Encoded
-    ensures { result ≡ encodeWord i }
+    ensures { result ≡ encode_word i }
 {
     if in_range(i) {
         Encoded::Word(join(encode_fields(i)))

@@ -3,12 +3,12 @@
 #![tactic(auto)]
 
 ghost use Rattle.std.specs.Prelude.{◌≡◌, ℕ, ◌<◌, true, List};
-ghost use Rattle.words.specs.Word.{fitsSigned};
+ghost use Rattle.words.specs.Word.{fits_signed};
 ghost use Rattle.instructions.specs.Encode.{in_range};
 ghost use Rattle.instructions.specs.declared.instruction.Instruction.TheVariants.{Upper, Branch, Load, Store, System, HLoad, HStore};
-ghost use Rattle.model.specs.Step.{perform, executeInstruction};
+ghost use Rattle.model.specs.Step.{perform, execute_instruction};
 ghost use Rattle.hart.specs.State.{hart};
-ghost use Rattle.hart.specs.Effect.{effectWith};
+ghost use Rattle.hart.specs.Effect.{effect_with};
 
 use arithmetic::{
     add_word, jalr_target, of_shift_word, operate, operate_immediate, operate_shift, operate_word,
@@ -33,7 +33,7 @@ fn upper(
     imm: u64,
 ) -> Effect
     requires { rd < 32 }
-    ensures { (numbers mem : List ℕ) → effectWith result x.new numbers mem ≡ perform (hart x.old pc hfi numbers) mem next (Upper k rd imm) }
+    ensures { (numbers mem : List ℕ) → effect_with result x.new numbers mem ≡ perform (hart x.old pc hfi numbers) mem next (Upper k rd imm) }
 {
     let v = match k {
         UpperKind::Lui => imm,
@@ -54,7 +54,7 @@ fn branch(
     offset: u64,
 ) -> Effect
     requires { (rs1 < 32) × (rs2 < 32) }
-    ensures { (numbers mem : List ℕ) → effectWith result x.now numbers mem ≡ perform (hart x.now pc hfi numbers) mem next (Branch k rs1 rs2 offset) }
+    ensures { (numbers mem : List ℕ) → effect_with result x.now numbers mem ≡ perform (hart x.now pc hfi numbers) mem next (Branch k rs1 rs2 offset) }
 {
     if !taken(k, register(x, rs1), register(x, rs2)) {
         return completed(next, hfi);
@@ -65,7 +65,7 @@ fn branch(
 // ECALL, which HFI may redirect to the handler, and EBREAK.
 #[tactic(auto, unfolding(model::specs::Step::perform))]
 fn system(pc: u64, hfi: Control, k: SystemKind) -> Effect
-    ensures { (x numbers mem : List ℕ) (next : ℕ) → effectWith result x numbers mem ≡ perform (hart x pc hfi numbers) mem next (System k) }
+    ensures { (x numbers mem : List ℕ) (next : ℕ) → effect_with result x numbers mem ≡ perform (hart x pc hfi numbers) mem next (System k) }
 {
     match k {
         SystemKind::Ecall => {
@@ -93,7 +93,7 @@ fn load(
     imm: u64,
 ) -> Effect
     requires { (rd < 32) × (rs1 < 32) }
-    ensures { effectWith result x.new rs.now mem.now ≡ perform (hart x.old pc hfi rs.now) mem.now next (Load k rd rs1 imm) }
+    ensures { effect_with result x.new rs.now mem.now ≡ perform (hart x.old pc hfi rs.now) mem.now next (Load k rd rs1 imm) }
 {
     let a = wrapping_add_u64(register(x, rs1), imm);
     load_store::load(x, pc, hfi, rs, mem, next, k, rd, a)
@@ -113,13 +113,13 @@ fn store(
     imm: u64,
 ) -> Effect
     requires { (rs1 < 32) × (rs2 < 32) }
-    ensures { effectWith result x.now rs.now mem.new ≡ perform (hart x.now pc hfi rs.now) mem.old next (Store k rs1 rs2 imm) }
+    ensures { effect_with result x.now rs.now mem.new ≡ perform (hart x.now pc hfi rs.now) mem.old next (Store k rs1 rs2 imm) }
 {
     let a = wrapping_add_u64(register(x, rs1), imm);
     load_store::store(pc, hfi, rs, mem, next, k, register(x, rs2), a)
 }
 
-#[tactic(auto, unfolding(model::specs::Step::perform, model::specs::Step::executeInstruction, model::specs::Outcome::allowed, model::specs::Hfi::hfiStop))]
+#[tactic(auto, unfolding(model::specs::Step::perform, model::specs::Step::execute_instruction, model::specs::Outcome::allowed, model::specs::Hfi::hfi_stop))]
 fn hload(
     x: &mut [u64; 32],
     pc: u64,
@@ -133,8 +133,8 @@ fn hload(
     rs1: u64,
     imm: u64,
 ) -> Effect
-    requires { (rd < 32) × (rs1 < 32) × (fitsSigned 12 imm ≡ true) }
-    ensures { effectWith result x.new rs.now mem.now ≡ executeInstruction (hart x.old pc hfi rs.now) mem.now next (HLoad k region rd rs1 imm) }
+    requires { (rd < 32) × (rs1 < 32) × (fits_signed 12 imm ≡ true) }
+    ensures { effect_with result x.new rs.now mem.now ≡ execute_instruction (hart x.old pc hfi rs.now) mem.now next (HLoad k region rd rs1 imm) }
 {
     let stop = h_word_stop(hfi);
     if stop != 0 {
@@ -144,7 +144,7 @@ fn hload(
     load_store::hload(x, pc, hfi, rs, mem, next, k, region, rd, operand, imm)
 }
 
-#[tactic(auto, unfolding(model::specs::Step::perform, model::specs::Step::executeInstruction, model::specs::Outcome::allowed, model::specs::Hfi::hfiStop))]
+#[tactic(auto, unfolding(model::specs::Step::perform, model::specs::Step::execute_instruction, model::specs::Outcome::allowed, model::specs::Hfi::hfi_stop))]
 fn hstore(
     x: &[u64; 32],
     pc: u64,
@@ -158,8 +158,8 @@ fn hstore(
     rs2: u64,
     imm: u64,
 ) -> Effect
-    requires { (rs1 < 32) × (rs2 < 32) × (fitsSigned 12 imm ≡ true) }
-    ensures { effectWith result x.now rs.now mem.new ≡ executeInstruction (hart x.now pc hfi rs.now) mem.old next (HStore k region rs1 rs2 imm) }
+    requires { (rs1 < 32) × (rs2 < 32) × (fits_signed 12 imm ≡ true) }
+    ensures { effect_with result x.now rs.now mem.new ≡ execute_instruction (hart x.now pc hfi rs.now) mem.old next (HStore k region rs1 rs2 imm) }
 {
     let stop = h_word_stop(hfi);
     if stop != 0 {
@@ -181,7 +181,7 @@ fn hstore(
 }
 
 // One instruction, question 8 first; `next` is the pc after it.
-#[tactic(auto, using(crate::proofs::Ranges::below), unfolding(model::specs::Step::perform, model::specs::Step::executeInstruction, model::specs::Outcome::allowed, model::specs::Hfi::hfiStop))]
+#[tactic(auto, using(crate::proofs::Ranges::below), unfolding(model::specs::Step::perform, model::specs::Step::execute_instruction, model::specs::Outcome::allowed, model::specs::Hfi::hfi_stop))]
 pub fn execute(
     x: &mut [u64; 32],
     pc: u64,
@@ -192,7 +192,7 @@ pub fn execute(
     i: Instruction,
 ) -> Effect
     requires { in_range i ≡ true }
-    ensures { effectWith result x.new rs.new mem.new ≡ executeInstruction (hart x.old pc hfi rs.old) mem.old next i }
+    ensures { effect_with result x.new rs.new mem.new ≡ execute_instruction (hart x.old pc hfi rs.old) mem.old next i }
 {
     match i {
         Instruction::Upper(k, rd, imm) => upper(x, pc, hfi, next, k, rd, imm),

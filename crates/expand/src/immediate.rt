@@ -1,18 +1,18 @@
 // The immediate of each format of half-words.
 ghost use Rattle.std.specs.Prelude.{◌≡◌};
-ghost use Rattle.compressed.specs.Immediates.{zeroExtended, signExtended, addi4spn, wordOffset, doubleOffset, sixBits, addi16sp, upper, jumpOffset, branchOffset, wordFromStack, doubleFromStack, wordToStack, doubleToStack};
+ghost use Rattle.compressed.specs.Immediates.{zero_extended, sign_extended, addi4spn, word_offset, double_offset, six_bits, addi16sp, upper, jump_offset, branch_offset, word_from_stack, double_from_stack, word_to_stack, double_to_stack};
 
 use words::{bits, put, sign_extend};
 
 pub fn addi4spn_immediate(h: u64) -> u64
-    ensures { result ≡ zeroExtended h addi4spn }
+    ensures { result ≡ zero_extended h addi4spn }
 {
     let low = put(put(0, bits(h, 6, 1), 2), bits(h, 5, 1), 3);
     put(put(low, bits(h, 11, 2), 4), bits(h, 7, 4), 6)
 }
 
 pub fn word_offset(h: u64) -> u64
-    ensures { result ≡ zeroExtended h wordOffset }
+    ensures { result ≡ zero_extended h word_offset }
 {
     put(
         put(put(0, bits(h, 6, 1), 2), bits(h, 10, 3), 3),
@@ -22,25 +22,25 @@ pub fn word_offset(h: u64) -> u64
 }
 
 pub fn double_offset(h: u64) -> u64
-    ensures { result ≡ zeroExtended h doubleOffset }
+    ensures { result ≡ zero_extended h double_offset }
 {
     put(put(0, bits(h, 10, 3), 3), bits(h, 5, 2), 6)
 }
 
 pub fn amount(h: u64) -> u64
-    ensures { result ≡ zeroExtended h sixBits }
+    ensures { result ≡ zero_extended h six_bits }
 {
     put(bits(h, 2, 5), bits(h, 12, 1), 5)
 }
 
 pub fn immediate(h: u64) -> u64
-    ensures { result ≡ signExtended h sixBits }
+    ensures { result ≡ sign_extended h six_bits }
 {
     sign_extend(amount(h), 6)
 }
 
 pub fn addi16sp_immediate(h: u64) -> u64
-    ensures { result ≡ signExtended h addi16sp }
+    ensures { result ≡ sign_extended h addi16sp }
 {
     let low = put(
         put(put(0, bits(h, 6, 1), 4), bits(h, 2, 1), 5),
@@ -51,13 +51,13 @@ pub fn addi16sp_immediate(h: u64) -> u64
 }
 
 pub fn lui_immediate(h: u64) -> u64
-    ensures { result ≡ signExtended h upper }
+    ensures { result ≡ sign_extended h upper }
 {
     sign_extend(put(put(0, bits(h, 2, 5), 12), bits(h, 12, 1), 17), 18)
 }
 
 pub fn jump_offset(h: u64) -> u64
-    ensures { result ≡ signExtended h jumpOffset }
+    ensures { result ≡ sign_extended h jump_offset }
 {
     let low = put(
         put(put(0, bits(h, 3, 3), 1), bits(h, 11, 1), 4),
@@ -70,7 +70,7 @@ pub fn jump_offset(h: u64) -> u64
 }
 
 pub fn branch_offset(h: u64) -> u64
-    ensures { result ≡ signExtended h branchOffset }
+    ensures { result ≡ sign_extended h branch_offset }
 {
     let low = put(
         put(put(0, bits(h, 3, 2), 1), bits(h, 10, 2), 3),
@@ -81,7 +81,7 @@ pub fn branch_offset(h: u64) -> u64
 }
 
 pub fn word_from_stack(h: u64) -> u64
-    ensures { result ≡ zeroExtended h wordFromStack }
+    ensures { result ≡ zero_extended h word_from_stack }
 {
     put(
         put(put(0, bits(h, 4, 3), 2), bits(h, 12, 1), 5),
@@ -91,7 +91,7 @@ pub fn word_from_stack(h: u64) -> u64
 }
 
 pub fn double_from_stack(h: u64) -> u64
-    ensures { result ≡ zeroExtended h doubleFromStack }
+    ensures { result ≡ zero_extended h double_from_stack }
 {
     put(
         put(put(0, bits(h, 5, 2), 3), bits(h, 12, 1), 5),
@@ -101,13 +101,13 @@ pub fn double_from_stack(h: u64) -> u64
 }
 
 pub fn word_to_stack(h: u64) -> u64
-    ensures { result ≡ zeroExtended h wordToStack }
+    ensures { result ≡ zero_extended h word_to_stack }
 {
     put(put(0, bits(h, 9, 4), 2), bits(h, 7, 2), 6)
 }
 
 pub fn double_to_stack(h: u64) -> u64
-    ensures { result ≡ zeroExtended h doubleToStack }
+    ensures { result ≡ zero_extended h double_to_stack }
 {
     put(put(0, bits(h, 10, 3), 3), bits(h, 7, 3), 6)
 }

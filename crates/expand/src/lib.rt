@@ -4,7 +4,7 @@
 ghost use Rattle.std.specs.Prelude.{◌≡◌, ◌<◌, ◌^◌};
 ghost use Rattle.words.specs.Word.{field};
 ghost use Rattle.compressed.specs.Immediates.{short as short_of};
-ghost use Rattle.compressed.specs.Expand.{expandHalf, isLong};
+ghost use Rattle.compressed.specs.Expand.{expand_half, is_long};
 
 pub mod immediate;
 pub mod legal;
@@ -32,10 +32,10 @@ fn short(h: u64, at: u64) -> u64
     put(bits(h, at, 3), 1, 3)
 }
 
-#[tactic(auto, unfolding(compressed::specs::Expand::expandHalf))]
+#[tactic(auto, unfolding(compressed::specs::Expand::expand_half))]
 fn quadrant_0(h: u64) -> Decoded
     requires { (h < 2 ^ 16) × (field h 0 2 ≡ 0) }
-    ensures { result ≡ expandHalf h }
+    ensures { result ≡ expand_half h }
 {
     let rs1 = short(h, 7);
     let rs2 = short(h, 2);
@@ -56,10 +56,10 @@ fn quadrant_0(h: u64) -> Decoded
 }
 
 // C.ADDI16SP and C.LUI.
-#[tactic(auto, unfolding(compressed::specs::Expand::expandHalf))]
+#[tactic(auto, unfolding(compressed::specs::Expand::expand_half))]
 fn upper(h: u64) -> Decoded
     requires { (h < 2 ^ 16) × (field h 0 2 ≡ 1) × (field h 13 3 ≡ 3) }
-    ensures { result ≡ expandHalf h }
+    ensures { result ≡ expand_half h }
 {
     if (bits(h, 12, 1) == 0) & (bits(h, 2, 5) == 0) {
         return Decoded::Illegal;
@@ -72,10 +72,10 @@ fn upper(h: u64) -> Decoded
 }
 
 // The C.xx between two of x8 to x15.
-#[tactic(auto, unfolding(compressed::specs::Expand::expandHalf))]
+#[tactic(auto, unfolding(compressed::specs::Expand::expand_half))]
 fn between_registers(h: u64) -> Decoded
     requires { (h < 2 ^ 16) × (field h 0 2 ≡ 1) × (field h 13 3 ≡ 4) × (field h 10 2 ≡ 3) }
-    ensures { result ≡ expandHalf h }
+    ensures { result ≡ expand_half h }
 {
     let rd = short(h, 7);
     let rs2 = short(h, 2);
@@ -92,10 +92,10 @@ fn between_registers(h: u64) -> Decoded
 }
 
 // What has the destination as its first source.
-#[tactic(auto, unfolding(compressed::specs::Expand::expandHalf))]
+#[tactic(auto, unfolding(compressed::specs::Expand::expand_half))]
 fn arithmetic(h: u64) -> Decoded
     requires { (h < 2 ^ 16) × (field h 0 2 ≡ 1) × (field h 13 3 ≡ 4) }
-    ensures { result ≡ expandHalf h }
+    ensures { result ≡ expand_half h }
 {
     let rd = short(h, 7);
     let group = bits(h, 10, 2);
@@ -107,10 +107,10 @@ fn arithmetic(h: u64) -> Decoded
     }
 }
 
-#[tactic(auto, unfolding(compressed::specs::Expand::expandHalf))]
+#[tactic(auto, unfolding(compressed::specs::Expand::expand_half))]
 fn quadrant_1(h: u64) -> Decoded
     requires { (h < 2 ^ 16) × (field h 0 2 ≡ 1) }
-    ensures { result ≡ expandHalf h }
+    ensures { result ≡ expand_half h }
 {
     let rd = bits(h, 7, 5);
     let rs1 = short(h, 7);
@@ -133,10 +133,10 @@ fn quadrant_1(h: u64) -> Decoded
 }
 
 // C.JR, C.MV, C.EBREAK, C.JALR and C.ADD.
-#[tactic(auto, unfolding(compressed::specs::Expand::expandHalf))]
+#[tactic(auto, unfolding(compressed::specs::Expand::expand_half))]
 fn jump_or_add(h: u64) -> Decoded
     requires { (h < 2 ^ 16) × (field h 0 2 ≡ 2) × (field h 13 3 ≡ 4) }
-    ensures { result ≡ expandHalf h }
+    ensures { result ≡ expand_half h }
 {
     let rd = bits(h, 7, 5);
     let rs2 = bits(h, 2, 5);
@@ -159,10 +159,10 @@ fn jump_or_add(h: u64) -> Decoded
     Decoded::Illegal
 }
 
-#[tactic(auto, unfolding(compressed::specs::Expand::expandHalf))]
+#[tactic(auto, unfolding(compressed::specs::Expand::expand_half))]
 fn quadrant_2(h: u64) -> Decoded
     requires { (h < 2 ^ 16) × (field h 0 2 ≡ 2) }
-    ensures { result ≡ expandHalf h }
+    ensures { result ≡ expand_half h }
 {
     let rd = bits(h, 7, 5);
     let rs2 = bits(h, 2, 5);
@@ -189,9 +189,9 @@ fn quadrant_2(h: u64) -> Decoded
 }
 
 // The instruction of any half-word.
-#[tactic(auto, unfolding(compressed::specs::Expand::expandHalf))]
+#[tactic(auto, unfolding(compressed::specs::Expand::expand_half))]
 pub fn expand(h: u16) -> Decoded
-    ensures { result ≡ expandHalf h }
+    ensures { result ≡ expand_half h }
 {
     let x = h as u64;
     let op = bits(x, 0, 2);
@@ -205,7 +205,7 @@ pub fn expand(h: u16) -> Decoded
 
 // Are these the first two bytes of a long word?
 pub fn is_long(h: u64) -> bool
-    ensures { result ≡ isLong h }
+    ensures { result ≡ is_long h }
 {
     bits(h, 0, 2) == 3
 }

@@ -7,5 +7,5 @@ use Rattle.hart.specs.State.{hart}
 use Rattle.hart.specs.declared.effect.Effect.{Effect}
 
 -- the answer, the registers, the numbers of the regions and the memory after it
-abbrev pub effectWith : Effect → List ℕ → List ℕ → List ℕ → Outcome
-effectWith e x numbers mem = outcome e.stop e.address (hart x e.pc e.hfi numbers) mem
+abbrev pub effect_with : Effect → List ℕ → List ℕ → List ℕ → Outcome
+effect_with e x numbers mem = outcome e.stop e.address (hart x e.pc e.hfi numbers) mem

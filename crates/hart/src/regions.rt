@@ -1,7 +1,7 @@
 // The regions as numbers, three for each: a step is lent these, so that no step copies the record's regions.
 ghost use Rattle.std.specs.Prelude.{◌≡◌, ◌-◌};
-ghost use Rattle.model.specs.Machine.{region, setRegion};
-ghost use Rattle.hart.specs.State.{regionsOf};
+ghost use Rattle.model.specs.Machine.{region, set_region};
+ghost use Rattle.hart.specs.State.{regions_of};
 
 use model::{LAST_REGION, REGIONS, Region};
 
@@ -18,7 +18,7 @@ fn region_index(n: u64) -> u64
 
 // Region `n`, zeros past the last.
 pub fn region_at(rs: &[u64; REGION_NUMBERS], n: u64) -> Region
-    ensures { result ≡ region (regionsOf rs.now) n }
+    ensures { result ≡ region (regions_of rs.now) n }
 {
     let i = region_index(n) as usize;
     if i < REGIONS {
@@ -38,7 +38,7 @@ pub fn region_at(rs: &[u64; REGION_NUMBERS], n: u64) -> Region
 
 // The regions with `to` as region `n`; past the last there is none.
 pub fn with_region(rs: [u64; REGION_NUMBERS], n: u64, to: Region) -> [u64; REGION_NUMBERS]
-    ensures { regionsOf result ≡ setRegion (regionsOf rs) n to }
+    ensures { regions_of result ≡ set_region (regions_of rs) n to }
 {
     let mut new = rs;
     let i = region_index(n) as usize;
@@ -52,7 +52,7 @@ pub fn with_region(rs: [u64; REGION_NUMBERS], n: u64, to: Region) -> [u64; REGIO
 
 // The record's regions as numbers.
 pub fn numbers_of(rs: [Region; REGIONS]) -> [u64; REGION_NUMBERS]
-    ensures { regionsOf result ≡ rs }
+    ensures { regions_of result ≡ rs }
 {
     let mut numbers = [0u64; REGION_NUMBERS];
     let mut i = 0;
@@ -68,7 +68,7 @@ pub fn numbers_of(rs: [Region; REGIONS]) -> [u64; REGION_NUMBERS]
 
 // The regions that the numbers stand for.
 pub fn regions_of(numbers: &[u64; REGION_NUMBERS]) -> [Region; REGIONS]
-    ensures { result ≡ regionsOf numbers.now }
+    ensures { result ≡ regions_of numbers.now }
 {
     let none = Region {
         base: 0,

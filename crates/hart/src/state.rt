@@ -1,8 +1,8 @@
 // Reading and changing the parts of the HFI state.
 ghost use Rattle.std.specs.Prelude.{◌≡◌, false, cond, List, [], ◌<◌};
-ghost use Rattle.model.specs.Machine.{inside as isInside, bit, locked as isLocked, redirectsCalls, redirectsExits, entered as entered_of, exited as exitedOf};
+ghost use Rattle.model.specs.Machine.{inside as is_inside, bit, locked as is_locked, redirects_calls, redirects_exits, entered as entered_of, exited as exited_of};
 ghost use Rattle.model.specs.declared.Region.{Region as RegionOf};
-ghost use Rattle.hart.specs.State.{regionsOf, stateWith};
+ghost use Rattle.hart.specs.State.{regions_of, state_with};
 
 use crate::regions::{REGION_NUMBERS, regions_of};
 use model::{Fault, HfiState};
@@ -21,7 +21,7 @@ pub struct Control {
 
 // The state without its regions.
 pub fn control_of(h: HfiState) -> Control
-    ensures { stateWith result h.regions ≡ h }
+    ensures { state_with result h.regions ≡ h }
 {
     let fault = h.fault;
     Control {
@@ -37,7 +37,7 @@ pub fn control_of(h: HfiState) -> Control
 
 // The state with the regions that the numbers stand for.
 pub fn state_of(h: Control, numbers: &[u64; REGION_NUMBERS]) -> HfiState
-    ensures { result ≡ stateWith h (regionsOf numbers.now) }
+    ensures { result ≡ state_with h (regions_of numbers.now) }
 {
     let regions = regions_of(numbers);
     let fault = h.fault;
@@ -55,7 +55,7 @@ pub fn state_of(h: Control, numbers: &[u64; REGION_NUMBERS]) -> HfiState
 
 // In HFI mode?
 pub fn inside(h: Control) -> bool
-    ensures { result ≡ isInside (stateWith h []) }
+    ensures { result ≡ is_inside (state_with h []) }
 {
     h.mode == 1
 }
@@ -63,7 +63,7 @@ pub fn inside(h: Control) -> bool
 // In HFI mode with option bit `n` set?
 fn inside_with(h: Control, n: u64) -> bool
     requires { n < 64 }
-    ensures { result ≡ cond (isInside (stateWith h [])) (bit n h.options) false }
+    ensures { result ≡ cond (is_inside (state_with h [])) (bit n h.options) false }
 {
     if inside(h) {
         words::bits(h.options, n, 1) == 1
@@ -74,28 +74,28 @@ fn inside_with(h: Control, n: u64) -> bool
 
 // Are the regions locked?
 pub fn locked(h: Control) -> bool
-    ensures { result ≡ isLocked (stateWith h []) }
+    ensures { result ≡ is_locked (state_with h []) }
 {
     inside_with(h, 0)
 }
 
 // Are system calls redirected?
 pub fn redirects_calls(h: Control) -> bool
-    ensures { result ≡ redirectsCalls (stateWith h []) }
+    ensures { result ≡ redirects_calls (state_with h []) }
 {
     inside_with(h, 1)
 }
 
 // Are exits redirected?
 pub fn redirects_exits(h: Control) -> bool
-    ensures { result ≡ redirectsExits (stateWith h []) }
+    ensures { result ≡ redirects_exits (state_with h []) }
 {
     words::bits(h.options, 2, 1) == 1
 }
 
 // In HFI mode with new options; the fault record keeps all but `occurred`.
 pub fn entered(h: Control, options: u64) -> Control
-    ensures { (rs : List RegionOf) → stateWith result rs ≡ entered_of (stateWith h rs) options }
+    ensures { (rs : List RegionOf) → state_with result rs ≡ entered_of (state_with h rs) options }
 {
     let mut n = h;
     n.mode = 1;
@@ -106,7 +106,7 @@ pub fn entered(h: Control, options: u64) -> Control
 
 // Out of HFI mode, for a reason, from this pc.
 pub fn exited(h: Control, reason: u64, pc: u64) -> Control
-    ensures { (rs : List RegionOf) → stateWith result rs ≡ exitedOf (stateWith h rs) reason pc }
+    ensures { (rs : List RegionOf) → state_with result rs ≡ exited_of (state_with h rs) reason pc }
 {
     let mut n = h;
     n.mode = 0;

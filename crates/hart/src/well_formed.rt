@@ -1,20 +1,20 @@
 // Question 3: is the machine well formed?
 ghost use Rattle.std.specs.Prelude.{◌≡◌};
-ghost use Rattle.model.specs.Regions.{regionKind, permissionBits, permissionFits};
-ghost use Rattle.model.specs.WellFormed.{clearHandler, permissionsFit, faultFits, stateFits, wellFormed};
+ghost use Rattle.model.specs.Regions.{region_kind, permission_bits, permission_fits};
+ghost use Rattle.model.specs.WellFormed.{clear_handler, permissions_fit, fault_fits, state_fits, well_formed};
 
 use model::{FETCH_OP, Fault, HfiState, LARGEST_OPTIONS, LAST_REGION, Machine, REGIONS, Region};
 
 // A handler with bits 0, 1, 62 and 63 cleared.
 pub fn clear_handler(v: u64) -> u64
-    ensures { result ≡ clearHandler v }
+    ensures { result ≡ clear_handler v }
 {
     v & 0x3fff_ffff_ffff_fffc
 }
 
 // The permission bits that region `n` has.
 fn permission_bits(n: u64) -> u64
-    ensures { result ≡ permissionBits (regionKind n) }
+    ensures { result ≡ permission_bits (region_kind n) }
 {
     match n {
         1 => 0b1011,
@@ -31,13 +31,13 @@ fn permission_bits(n: u64) -> u64
 
 // Has `permission` no bit that region `n` lacks?
 pub fn permission_fits(n: u64, permission: u64) -> bool
-    ensures { result ≡ permissionFits n permission }
+    ensures { result ≡ permission_fits n permission }
 {
     (permission & permission_bits(n)) == permission
 }
 
 fn permissions_fit(rs: [Region; REGIONS]) -> bool
-    ensures { result ≡ permissionsFit 1 rs }
+    ensures { result ≡ permissions_fit 1 rs }
 {
     let mut i: u64 = 0;
     while i < LAST_REGION {
@@ -51,13 +51,13 @@ fn permissions_fit(rs: [Region; REGIONS]) -> bool
 }
 
 fn fault_fits(f: Fault) -> bool
-    ensures { result ≡ faultFits f }
+    ensures { result ≡ fault_fits f }
 {
     (f.occurred <= 1) & ((f.region <= LAST_REGION) & (f.op <= FETCH_OP))
 }
 
 pub fn state_fits(h: HfiState) -> bool
-    ensures { result ≡ stateFits h }
+    ensures { result ≡ state_fits h }
 {
     let rs = h.regions;
     let fault = h.fault;
@@ -68,7 +68,7 @@ pub fn state_fits(h: HfiState) -> bool
 }
 
 pub fn well_formed(m: Machine) -> bool
-    ensures { result ≡ wellFormed m }
+    ensures { result ≡ well_formed m }
 {
     let h = m.hfi;
     (m.x[0] == 0) & state_fits(h)

@@ -2,14 +2,14 @@
 ghost use Rattle.std.specs.Prelude.{◌≡◌, List, [], cond, ℕ, ◌<◌};
 ghost use Rattle.instructions.specs.declared.kind.HfiKind.TheVariants.{Enter, SetBase, SetPermission};
 ghost use Rattle.instructions.specs.declared.instruction.Instruction.TheVariants.{Hfi};
-ghost use Rattle.model.specs.Machine.{redirectsExits, withBase, withBound, withPermission, zeroRegions, entered as entered_of, exited as exitedOf, withSelector, withRegions, withHandler, machine};
+ghost use Rattle.model.specs.Machine.{redirects_exits, with_base, with_bound, with_permission, zero_regions, entered as entered_of, exited as exited_of, with_selector, with_regions, with_handler, machine};
 ghost use Rattle.model.specs.declared.Region.{Region as RegionOf};
-ghost use Rattle.model.specs.WellFormed.{clearHandler};
-ghost use Rattle.model.specs.Outcome.{completed as completedOf, aligned};
-ghost use Rattle.model.specs.Hfi.{firstBroken, hWordRules, wordRules, selected as selectedOf, changed as changedOf, hfiPerform};
-ghost use Rattle.model.specs.Step.{executeInstruction};
-ghost use Rattle.hart.specs.State.{regionsOf, stateWith, hart};
-ghost use Rattle.hart.specs.Effect.{effectWith};
+ghost use Rattle.model.specs.WellFormed.{clear_handler};
+ghost use Rattle.model.specs.Outcome.{completed as completed_of, aligned};
+ghost use Rattle.model.specs.Hfi.{first_broken, h_word_rules, word_rules, selected as selected_of, changed as changed_of, hfi_perform};
+ghost use Rattle.model.specs.Step.{execute_instruction};
+ghost use Rattle.hart.specs.State.{regions_of, state_with, hart};
+ghost use Rattle.hart.specs.Effect.{effect_with};
 
 use hart::effect::{Effect, completed, register, stopped, write_back};
 use hart::regions::{REGION_NUMBERS, region_at, with_region};
@@ -28,14 +28,14 @@ fn rule(broken: bool, number: u64, later: u64) -> u64
 
 // The rule of an h-word.
 pub fn h_word_stop(h: Control) -> u64
-    ensures { result ≡ firstBroken (hWordRules (stateWith h [])) }
+    ensures { result ≡ first_broken (h_word_rules (state_with h [])) }
 {
     rule(!inside(h), 14, 0)
 }
 
 // The rules of either enter form.
 fn enter_stop(h: Control, rs: &[u64; REGION_NUMBERS], options: u64) -> u64
-    ensures { result ≡ firstBroken (wordRules (stateWith h (regionsOf rs.now)) Enter options) }
+    ensures { result ≡ first_broken (word_rules (state_with h (regions_of rs.now)) Enter options) }
 {
     if inside(h) {
         return 23;
@@ -48,7 +48,7 @@ fn enter_stop(h: Control, rs: &[u64; REGION_NUMBERS], options: u64) -> u64
 
 // The rules of a word for the selected region; they ask nothing of its operand.
 fn selected_stop(h: Control) -> u64
-    ensures { result ≡ firstBroken (wordRules (stateWith h []) SetBase 0) }
+    ensures { result ≡ first_broken (word_rules (state_with h []) SetBase 0) }
 {
     if locked(h) {
         return 25;
@@ -58,7 +58,7 @@ fn selected_stop(h: Control) -> u64
 
 // The rules of set permission: `p` is to fit the selected region.
 fn permission_stop(h: Control, p: u64) -> u64
-    ensures { result ≡ firstBroken (wordRules (stateWith h []) SetPermission p) }
+    ensures { result ≡ first_broken (word_rules (state_with h []) SetPermission p) }
 {
     if locked(h) {
         return 25;
@@ -72,7 +72,7 @@ fn permission_stop(h: Control, p: u64) -> u64
 
 // Question 8 of a word of opcode 5b: the number of the first rule that it breaks, or 0. `a` is the register rs1.
 pub fn hfi_stop(h: Control, rs: &[u64; REGION_NUMBERS], k: HfiKind, a: u64) -> u64
-    ensures { result ≡ firstBroken (wordRules (stateWith h (regionsOf rs.now)) k a) }
+    ensures { result ≡ first_broken (word_rules (state_with h (regions_of rs.now)) k a) }
 {
     match k {
         HfiKind::Enter => enter_stop(h, rs, a),
@@ -93,13 +93,13 @@ pub fn hfi_stop(h: Control, rs: &[u64; REGION_NUMBERS], k: HfiKind, a: u64) -> u
 
 // The selected region.
 fn selected(h: Control, rs: &[u64; REGION_NUMBERS]) -> Region
-    ensures { result ≡ selectedOf (stateWith h (regionsOf rs.now)) }
+    ensures { result ≡ selected_of (state_with h (regions_of rs.now)) }
 {
     region_at(rs, h.selector)
 }
 
 fn set_base(h: Control, rs: &mut [u64; REGION_NUMBERS], v: u64)
-    ensures { stateWith h (regionsOf rs.new) ≡ changedOf (stateWith h (regionsOf rs.old)) (withBase (selectedOf (stateWith h (regionsOf rs.old))) v) }
+    ensures { state_with h (regions_of rs.new) ≡ changed_of (state_with h (regions_of rs.old)) (with_base (selected_of (state_with h (regions_of rs.old))) v) }
 {
     let mut to = selected(h, rs);
     to.base = v;
@@ -107,7 +107,7 @@ fn set_base(h: Control, rs: &mut [u64; REGION_NUMBERS], v: u64)
 }
 
 fn set_bound(h: Control, rs: &mut [u64; REGION_NUMBERS], v: u64)
-    ensures { stateWith h (regionsOf rs.new) ≡ changedOf (stateWith h (regionsOf rs.old)) (withBound (selectedOf (stateWith h (regionsOf rs.old))) v) }
+    ensures { state_with h (regions_of rs.new) ≡ changed_of (state_with h (regions_of rs.old)) (with_bound (selected_of (state_with h (regions_of rs.old))) v) }
 {
     let mut to = selected(h, rs);
     to.bound = v;
@@ -115,7 +115,7 @@ fn set_bound(h: Control, rs: &mut [u64; REGION_NUMBERS], v: u64)
 }
 
 fn set_permission(h: Control, rs: &mut [u64; REGION_NUMBERS], v: u64)
-    ensures { stateWith h (regionsOf rs.new) ≡ changedOf (stateWith h (regionsOf rs.old)) (withPermission (selectedOf (stateWith h (regionsOf rs.old))) v) }
+    ensures { state_with h (regions_of rs.new) ≡ changed_of (state_with h (regions_of rs.old)) (with_permission (selected_of (state_with h (regions_of rs.old))) v) }
 {
     let mut to = selected(h, rs);
     to.permission = v;
@@ -123,7 +123,7 @@ fn set_permission(h: Control, rs: &mut [u64; REGION_NUMBERS], v: u64)
 }
 
 fn with_selector(h: Control, v: u64) -> Control
-    ensures { (rs : List RegionOf) → stateWith result rs ≡ withSelector (stateWith h rs) v }
+    ensures { (rs : List RegionOf) → state_with result rs ≡ with_selector (state_with h rs) v }
 {
     let mut n = h;
     n.selector = v;
@@ -131,7 +131,7 @@ fn with_selector(h: Control, v: u64) -> Control
 }
 
 fn with_handler(h: Control, v: u64) -> Control
-    ensures { (rs : List RegionOf) → stateWith result rs ≡ withHandler (stateWith h rs) (clearHandler v) }
+    ensures { (rs : List RegionOf) → state_with result rs ≡ with_handler (state_with h rs) (clear_handler v) }
 {
     let mut n = h;
     n.handler = clear_handler(v);
@@ -140,14 +140,14 @@ fn with_handler(h: Control, v: u64) -> Control
 
 // No region.
 fn clear_regions(rs: &mut [u64; REGION_NUMBERS])
-    ensures { regionsOf rs.new ≡ zeroRegions }
+    ensures { regions_of rs.new ≡ zero_regions }
 {
     *rs = [0u64; REGION_NUMBERS];
 }
 
 // Enter with a jump to `target`, which must be a multiple of 2.
 fn enter_jump(pc: u64, h: Control, options: u64, target: u64) -> Effect
-    ensures { (x numbers mem : List ℕ) → effectWith result x numbers mem ≡ aligned (hart x pc h numbers) mem target (completedOf (machine x target (entered_of (stateWith h (regionsOf numbers)) options)) mem) }
+    ensures { (x numbers mem : List ℕ) → effect_with result x numbers mem ≡ aligned (hart x pc h numbers) mem target (completed_of (machine x target (entered_of (state_with h (regions_of numbers)) options)) mem) }
 {
     if target % 2 != 0 {
         return stopped(15, pc, h);
@@ -157,7 +157,7 @@ fn enter_jump(pc: u64, h: Control, options: u64, target: u64) -> Effect
 
 // Exit to the handler where exits are redirected, else to the next instruction.
 fn exit(pc: u64, h: Control, next: u64) -> Effect
-    ensures { (x numbers mem : List ℕ) → effectWith result x numbers mem ≡ completedOf (machine x (cond (redirectsExits (stateWith h (regionsOf numbers))) h.handler next) (exitedOf (stateWith h (regionsOf numbers)) 1 pc)) mem }
+    ensures { (x numbers mem : List ℕ) → effect_with result x numbers mem ≡ completed_of (machine x (cond (redirects_exits (state_with h (regions_of numbers))) h.handler next) (exited_of (state_with h (regions_of numbers)) 1 pc)) mem }
 {
     if redirects_exits(h) {
         return completed(h.handler, exited(h, 1, pc));
@@ -178,7 +178,7 @@ fn perform(
     rs2: u64,
 ) -> Effect
     requires { (rd < 32) × (rs1 < 32) × (rs2 < 32) }
-    ensures { (mem : List ℕ) → effectWith result x.new rs.new mem ≡ hfiPerform (hart x.old pc h rs.old) mem next k rd rs1 rs2 }
+    ensures { (mem : List ℕ) → effect_with result x.new rs.new mem ≡ hfi_perform (hart x.old pc h rs.old) mem next k rd rs1 rs2 }
 {
     let a = register(x, rs1);
     match k {
@@ -223,7 +223,7 @@ pub fn hfi_word(
     rs2: u64,
 ) -> Effect
     requires { (rd < 32) × (rs1 < 32) × (rs2 < 32) }
-    ensures { (mem : List ℕ) → effectWith result x.new rs.new mem ≡ executeInstruction (hart x.old pc h rs.old) mem next (Hfi k rd rs1 rs2) }
+    ensures { (mem : List ℕ) → effect_with result x.new rs.new mem ≡ execute_instruction (hart x.old pc h rs.old) mem next (Hfi k rd rs1 rs2) }
 {
     let stop = hfi_stop(h, rs, k, register(x, rs1));
     if stop != 0 {

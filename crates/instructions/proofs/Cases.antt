@@ -8,8 +8,8 @@ use mathlib.Core.Path.{◌≡◌, refl}
 use mathlib.Core.List.{List, [], ◌∷◌, map}
 use Prim.Native.Nat.{ℕ, zero, suc, ◌+◌, ◌-◌, ◌*◌, ◌/◌, ◌%◌, ◌^◌}
 use Rattle.words.specs.Word.{sext}
-use Rattle.instructions.specs.Decode.{decodeWord}
-use Rattle.instructions.specs.Encode.{encodeWord}
+use Rattle.instructions.specs.Decode.{decode_word}
+use Rattle.instructions.specs.Encode.{encode_word}
 use Rattle.instructions.specs.declared.kind.UpperKind.TheVariants.{Lui, Auipc}
 use Rattle.instructions.specs.declared.kind.BranchKind.TheVariants.{Beq, Bne, Blt, Bge, Bltu, Bgeu}
 use Rattle.instructions.specs.declared.kind.LoadKind.TheVariants.{Lb, Lh, Lw, Ld, Lbu, Lhu, Lwu}
@@ -211,13 +211,13 @@ rows =
     ∷ []
 
 -- each word is decoded to the instruction beside it
-pub decoded : map (λ r. decodeWord r.0) rows ≡ map (λ r. Legal r.1) rows
-unfolding decodeWord sext
+pub decoded : map (λ r. decode_word r.0) rows ≡ map (λ r. Legal r.1) rows
+unfolding decode_word sext
 decoded = refl
 
 -- each instruction is encoded to the word beside it
-pub encoded : map (λ r. encodeWord r.1) rows ≡ map (λ r. Word r.0) rows
-unfolding encodeWord sext
+pub encoded : map (λ r. encode_word r.1) rows ≡ map (λ r. Word r.0) rows
+unfolding encode_word sext
 encoded = refl
 
 -- ---- words that are illegal, with the reason
@@ -283,9 +283,9 @@ illegal =
     ∷ 0x1940005b  -- reset regions: rs2
     ∷ []
 
-pub none-decoded : map decodeWord illegal ≡ map (λ w. Illegal) illegal
-unfolding decodeWord sext
-none-decoded = refl
+pub none_decoded : map decode_word illegal ≡ map (λ w. Illegal) illegal
+unfolding decode_word sext
+none_decoded = refl
 
 -- ---- every funct7 and funct3 of the opcodes of register operations, as one number: these are legal, and no others
 
@@ -293,17 +293,17 @@ abbrev kept : Decoded → ℕ → List ℕ → List ℕ
 kept (Legal i) n ns = n ∷ ns
 kept Illegal n ns = ns
 
-abbrev legalCodes : ℕ → ℕ → List ℕ → List ℕ
-legalCodes opcode zero ns = ns
-legalCodes opcode (suc n) ns = legalCodes opcode n (kept (decodeWord (n / 8 * 2 ^ 25 + n % 8 * 2 ^ 12 + opcode)) n ns)
+abbrev legal_codes : ℕ → ℕ → List ℕ → List ℕ
+legal_codes opcode zero ns = ns
+legal_codes opcode (suc n) ns = legal_codes opcode n (kept (decode_word (n / 8 * 2 ^ 25 + n % 8 * 2 ^ 12 + opcode)) n ns)
 
-pub register-codes : legalCodes 0x33 1024 [] ≡ 0 ∷ 1 ∷ 2 ∷ 3 ∷ 4 ∷ 5 ∷ 6 ∷ 7 ∷ 8 ∷ 9 ∷ 10 ∷ 11 ∷ 12 ∷ 13 ∷ 14 ∷ 15 ∷ 0x100 ∷ 0x105 ∷ []
-unfolding decodeWord sext
-register-codes = refl
+pub register_codes : legal_codes 0x33 1024 [] ≡ 0 ∷ 1 ∷ 2 ∷ 3 ∷ 4 ∷ 5 ∷ 6 ∷ 7 ∷ 8 ∷ 9 ∷ 10 ∷ 11 ∷ 12 ∷ 13 ∷ 14 ∷ 15 ∷ 0x100 ∷ 0x105 ∷ []
+unfolding decode_word sext
+register_codes = refl
 
-pub register-word-codes : legalCodes 0x3b 1024 [] ≡ 0 ∷ 1 ∷ 5 ∷ 8 ∷ 12 ∷ 13 ∷ 14 ∷ 15 ∷ 0x100 ∷ 0x105 ∷ []
-unfolding decodeWord sext
-register-word-codes = refl
+pub register_word_codes : legal_codes 0x3b 1024 [] ≡ 0 ∷ 1 ∷ 5 ∷ 8 ∷ 12 ∷ 13 ∷ 14 ∷ 15 ∷ 0x100 ∷ 0x105 ∷ []
+unfolding decode_word sext
+register_word_codes = refl
 
 -- ---- instructions that no word has
 
@@ -338,6 +338,6 @@ refused =
     ∷ Hfi GetBase 1 1 0  -- the row does not name rs1
     ∷ []
 
-pub none-encoded : map encodeWord refused ≡ map (λ i. OutOfRange) refused
-unfolding encodeWord sext
-none-encoded = refl
+pub none_encoded : map encode_word refused ≡ map (λ i. OutOfRange) refused
+unfolding encode_word sext
+none_encoded = refl

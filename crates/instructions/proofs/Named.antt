@@ -9,19 +9,19 @@ use lib.Dec.{eqb}
 use lib.ListN.{length, get_or}
 use Rattle.words.specs.Word.{field}
 use Rattle.instructions.specs.Table.{of_code}
-use Rattle.instructions.specs.Kinds.{HfiRow, hfiRow, hfiCode, hfiKinds, named}
+use Rattle.instructions.specs.Kinds.{HfiRow, hfi_row, hfi_code, hfi_kinds, named}
 use Rattle.instructions.specs.Decode.{named_at}
 use Rattle.instructions.specs.declared.kind.HfiKind.{HfiKind}
 use Rattle.instructions.proofs.Tests.{and_both}
-use Rattle.instructions.proofs.Tables.{code-told, code-past, hfi-code}
+use Rattle.instructions.proofs.Tables.{code_told, code_past, hfi_code_lem}
 
 -- a kind's own row
-pub named-row : (k : HfiKind) (rd rs1 rs2 : ℕ) → named_at (hfiCode k) rd rs1 rs2 ≡ named (hfiRow k) rd rs1 rs2
-named-row k rd rs1 rs2 = (hfi-code k).found Bool (λ (j : HfiKind). named (hfiRow j) rd rs1 rs2) false
+pub named_row : (k : HfiKind) (rd rs1 rs2 : ℕ) → named_at (hfi_code k) rd rs1 rs2 ≡ named (hfi_row k) rd rs1 rs2
+named_row k rd rs1 rs2 = (hfi_code_lem k).found Bool (λ (j : HfiKind). named (hfi_row j) rd rs1 rs2) false
 
 -- past the table
 pub named_past : (n rd rs1 rs2 : ℕ) → 13 ≤ n → named_at n rd rs1 rs2 ≡ false
-named_past n rd rs1 rs2 h = code-past hfiCode (λ (k : HfiKind). named (hfiRow k) rd rs1 rs2) false hfiKinds 13 n refl h
+named_past n rd rs1 rs2 h = code_past hfi_code (λ (k : HfiKind). named (hfi_row k) rd rs1 rs2) false hfi_kinds 13 n refl h
 
 -- ---- one check over all rows
 
@@ -30,15 +30,15 @@ abbrev pub every : (ℕ → ℕ → Bool) → ℕ → List ℕ → Bool
 every test i [] = true
 every test i (x ∷ xs) = test i x && every test (suc i) xs
 
-every-from : (test : ℕ → ℕ → Bool) (xs : List ℕ) (i : ℕ) → every test i xs ≡ true → (k : ℕ) → k < length xs → test (i + k) (get_or xs k 0) ≡ true
-every-from test [] i t k h = absurd (not-suc-le-zero h)
-every-from test (x ∷ xs) i t zero h = rw (add-zero i) (and_both (test i x) _ t).0
-every-from test (x ∷ xs) i t (suc k) h =
+every_from : (test : ℕ → ℕ → Bool) (xs : List ℕ) (i : ℕ) → every test i xs ≡ true → (k : ℕ) → k < length xs → test (i + k) (get_or xs k 0) ≡ true
+every_from test [] i t k h = absurd (not-suc-le-zero h)
+every_from test (x ∷ xs) i t zero h = rw (add-zero i) (and_both (test i x) _ t).0
+every_from test (x ∷ xs) i t (suc k) h =
     ap (λ (n : ℕ). test n (get_or xs k 0)) (add-suc i k ∙ sym (suc-add i k))
-    ∙ every-from test xs (suc i) (and_both (test i x) _ t).1 k (le_of_suc-le-suc h)
+    ∙ every_from test xs (suc i) (and_both (test i x) _ t).1 k (le_of_suc-le-suc h)
 
-pub every-at : (test : ℕ → ℕ → Bool) (xs : List ℕ) → every test 0 xs ≡ true → (k : ℕ) → k < length xs → test k (get_or xs k 0) ≡ true
-every-at test xs t k h = ap (λ (n : ℕ). test n (get_or xs k 0)) (sym (zero-add k)) ∙ every-from test xs 0 t k h
+pub every_at : (test : ℕ → ℕ → Bool) (xs : List ℕ) → every test 0 xs ≡ true → (k : ℕ) → k < length xs → test k (get_or xs k 0) ≡ true
+every_at test xs t k h = ap (λ (n : ℕ). test n (get_or xs k 0)) (sym (zero-add k)) ∙ every_from test xs 0 t k h
 
 abbrev same : Bool → Bool → Bool
 same a b = cond a b (not b)
@@ -55,14 +55,14 @@ agrees r x = same (eqb (field x 0 1) 1) r.rd && (same (eqb (field x 1 1) 1) r.rs
 
 -- there is a row with number n, and x agrees with it
 abbrev pub right : ℕ → ℕ → Bool
-right n x = of_code hfiCode (λ (k : HfiKind). agrees (hfiRow k) x) false hfiKinds n
+right n x = of_code hfi_code (λ (k : HfiKind). agrees (hfi_row k) x) false hfi_kinds n
 
 -- each register field is zero, or its bit in x is set
 abbrev pub named_by : ℕ → ℕ → ℕ → ℕ → Bool
 named_by x rd rs1 rs2 = (eqb (field x 0 1) 1 || eqb rd 0) && ((eqb (field x 1 1) 1 || eqb rs1 0) && (eqb (field x 2 1) 1 || eqb rs2 0))
 
-agrees-named : (r : HfiRow) (x rd rs1 rs2 : ℕ) → agrees r x ≡ true → named r rd rs1 rs2 ≡ named_by x rd rs1 rs2
-agrees-named r x rd rs1 rs2 t =
+agrees_named : (r : HfiRow) (x rd rs1 rs2 : ℕ) → agrees r x ≡ true → named r rd rs1 rs2 ≡ named_by x rd rs1 rs2
+agrees_named r x rd rs1 rs2 t =
     let p = and_both (same (eqb (field x 0 1) 1) r.rd) _ t in
     let q = and_both (same (eqb (field x 1 1) 1) r.rs1) _ p.1 in
     let d = same_true (eqb (field x 0 1) 1) r.rd p.0 in
@@ -75,5 +75,5 @@ pub named_rule : (xs : List ℕ) → every right 0 xs ≡ true → (n rd rs1 rs2
     → named_by (get_or xs n 0) rd rs1 rs2 ≡ named_at n rd rs1 rs2
 named_rule xs t n rd rs1 rs2 h =
     let x = get_or xs n 0 in
-    sym (code-told hfiCode (λ (k : HfiKind). agrees (hfiRow k) x) (λ (k : HfiKind). named (hfiRow k) rd rs1 rs2) false
-    (named_by x rd rs1 rs2) hfiKinds n (every-at right xs t n h) (λ k e. agrees-named (hfiRow k) x rd rs1 rs2 e))
+    sym (code_told hfi_code (λ (k : HfiKind). agrees (hfi_row k) x) (λ (k : HfiKind). named (hfi_row k) rd rs1 rs2) false
+    (named_by x rd rs1 rs2) hfi_kinds n (every_at right xs t n h) (λ k e. agrees_named (hfi_row k) x rd rs1 rs2 e))

@@ -9,8 +9,8 @@ use lib.Dec.{eqb, ltb, lit<}
 use borrow.Author.Tests.{eqb-true, ltb-true, ne_eqb}
 use Rattle.words.specs.Word.{field}
 use Rattle.instructions.specs.Table.{lookup, of_code}
-use Rattle.instructions.specs.Kinds.{upperCode, upperKinds, branchCode, branchKinds, loadCode, loadKinds, storeCode, storeKinds, immediateCode, immediateKinds, shiftCode, shiftKinds, shiftWordCode, shiftWordKinds, registerCode, registerKinds, registerWordCode, registerWordKinds, systemCode, systemKinds, hfiCode, hfiKinds}
-use Rattle.instructions.specs.Decode.{immediateAt, otherwise}
+use Rattle.instructions.specs.Kinds.{upper_code, upper_kinds, branch_code, branch_kinds, load_code, load_kinds, store_code, store_kinds, immediate_code, immediate_kinds, shift_code, shift_kinds, shift_word_code, shift_word_kinds, register_code, register_kinds, register_word_code, register_word_kinds, system_code, system_kinds, hfi_code, hfi_kinds}
+use Rattle.instructions.specs.Decode.{immediate_at, otherwise}
 use Rattle.instructions.specs.declared.kind.UpperKind.{UpperKind}
 use Rattle.instructions.specs.declared.kind.BranchKind.{BranchKind}
 use Rattle.instructions.specs.declared.kind.LoadKind.{LoadKind}
@@ -42,17 +42,17 @@ abbrev pub Rows : {X : Type 0} → (X → Type 0) → List (ℕ × X) → ℕ �
 Rows P [] n = Unit {0}
 Rows P (r ∷ rs) n = (n ≡ r.0 → P r.1) × Rows P rs n
 
-pub lookup-ind : {X : Type 0} (P : X → Type 0) (none : X) (rs : List (ℕ × X)) (n : ℕ) → P none → Rows P rs n → P (lookup none rs n)
-lookup-ind P none [] n p h = p
-lookup-ind P none (r ∷ rs) n p h =
-    cond_ind P (eqb n r.0) (λ e. h.0 (eqb-true n r.0 e)) (lookup-ind P none rs n p h.1)
+pub lookup_ind : {X : Type 0} (P : X → Type 0) (none : X) (rs : List (ℕ × X)) (n : ℕ) → P none → Rows P rs n → P (lookup none rs n)
+lookup_ind P none [] n p h = p
+lookup_ind P none (r ∷ rs) n p h =
+    cond_ind P (eqb n r.0) (λ e. h.0 (eqb-true n r.0 e)) (lookup_ind P none rs n p h.1)
 
 -- what holds of each kind whose code is n, and where there is none, holds of what is found under n
-pub code-ind : {K X : Type 0} (P : X → Type 0) (code : K → ℕ) (make : K → X) (none : X) (ks : List K) (n : ℕ)
+pub code_ind : {K X : Type 0} (P : X → Type 0) (code : K → ℕ) (make : K → X) (none : X) (ks : List K) (n : ℕ)
     → P none → ((k : K) → n ≡ code k → P (make k)) → P (of_code code make none ks n)
-code-ind P code make none [] n p h = p
-code-ind P code make none (k ∷ ks) n p h =
-    cond_ind P (eqb n (code k)) (λ e. h k (eqb-true n (code k) e)) (code-ind P code make none ks n p h)
+code_ind P code make none [] n p h = p
+code_ind P code make none (k ∷ ks) n p h =
+    cond_ind P (eqb n (code k)) (λ e. h k (eqb-true n (code k) e)) (code_ind P code make none ks n p h)
 
 -- each code is below a bound
 abbrev pub below : {K : Type 0} → (K → ℕ) → ℕ → List K → Bool
@@ -60,10 +60,10 @@ below code bound [] = true
 below code bound (k ∷ ks) = ltb (code k) bound && below code bound ks
 
 -- what is made of the kind that is found is y, where a test tells so and the kind that is found passes it
-pub code-told : {K X : Type 0} (code : K → ℕ) (test : K → Bool) (make : K → X) (none y : X) (ks : List K) (n : ℕ)
+pub code_told : {K X : Type 0} (code : K → ℕ) (test : K → Bool) (make : K → X) (none y : X) (ks : List K) (n : ℕ)
     → of_code code test false ks n ≡ true → ((k : K) → test k ≡ true → make k ≡ y) → of_code code make none ks n ≡ y
-code-told code test make none y [] n t h = let z : ◌≡◌ {A = ℕ} 0 1 = cc in absurd (omega arith)
-code-told code test make none y (k ∷ ks) n t h = go (eqb n (code k)) t (λ u. code-told code test make none y ks n u h)
+code_told code test make none y [] n t h = let z : ◌≡◌ {A = ℕ} 0 1 = cc in absurd (omega arith)
+code_told code test make none y (k ∷ ks) n t h = go (eqb n (code k)) t (λ u. code_told code test make none y ks n u h)
   where
     go : (b : Bool) → cond b (test k) (of_code code test false ks n) ≡ true
         → (of_code code test false ks n ≡ true → of_code code make none ks n ≡ y) → cond b (make k) (of_code code make none ks n) ≡ y
@@ -71,13 +71,13 @@ code-told code test make none y (k ∷ ks) n t h = go (eqb n (code k)) t (λ u. 
     go false t f = f t
 
 -- under a number past every code there is none
-pub code-past : {K X : Type 0} (code : K → ℕ) (make : K → X) (none : X) (ks : List K) (bound n : ℕ)
+pub code_past : {K X : Type 0} (code : K → ℕ) (make : K → X) (none : X) (ks : List K) (bound n : ℕ)
     → below code bound ks ≡ true → bound ≤ n → of_code code make none ks n ≡ none
-code-past code make none [] bound n t h = refl
-code-past code make none (k ∷ ks) bound n t h =
+code_past code make none [] bound n t h = refl
+code_past code make none (k ∷ ks) bound n t h =
     let p = and_both (ltb (code k) bound) (below code bound ks) t in
     let l = ltb-true (code k) bound p.0 in
-    rw (ne_eqb n (code k) (λ e. omega arith)) (code-past code make none ks bound n p.1 h)
+    rw (ne_eqb n (code k) (λ e. omega arith)) (code_past code make none ks bound n p.1 h)
 
 -- n is the code of none of the kinds, as the last arm of a match is told it
 abbrev pub Apart : {K : Type 0} → Type 0 → (K → ℕ) → List K → ℕ → Type 0
@@ -103,116 +103,116 @@ pub record Found {K : Type 0} (code : K → ℕ) (kinds : List K) (bits : ℕ) (
   pub found : (X : Type 0) (make : K → X) (none : X) → of_code code make none kinds (code k) ≡ make k
 
 -- .. with a value that is known to be another
-pub found-with : {K : Type 0} {code : K → ℕ} {kinds : List K} {bits : ℕ} {k : K} → Found code kinds bits k
+pub found_with : {K : Type 0} {code : K → ℕ} {kinds : List K} {bits : ℕ} {k : K} → Found code kinds bits k
     → {X : Type 0} (make : K → ℕ → X) (none : X) {y x : ℕ} → y ≡ x → of_code code (λ (j : K). make j y) none kinds (code k) ≡ make k x
-found-with {K} {k = k} h {X} make none {y} e = h.found X (λ (j : K). make j y) none ∙ ap (make k) e
+found_with {K} {k = k} h {X} make none {y} e = h.found X (λ (j : K). make j y) none ∙ ap (make k) e
 
-pub upper-code : (k : UpperKind) → Found upperCode upperKinds 7 k
-upper-code UpperKind.Lui = record { small = lit< tt; found = λ X make none. refl }
-upper-code UpperKind.Auipc = record { small = lit< tt; found = λ X make none. refl }
+pub upper_code_lem : (k : UpperKind) → Found upper_code upper_kinds 7 k
+upper_code_lem UpperKind.Lui = record { small = lit< tt; found = λ X make none. refl }
+upper_code_lem UpperKind.Auipc = record { small = lit< tt; found = λ X make none. refl }
 
-pub branch-code : (k : BranchKind) → Found branchCode branchKinds 3 k
-branch-code BranchKind.Beq = record { small = lit< tt; found = λ X make none. refl }
-branch-code BranchKind.Bne = record { small = lit< tt; found = λ X make none. refl }
-branch-code BranchKind.Blt = record { small = lit< tt; found = λ X make none. refl }
-branch-code BranchKind.Bge = record { small = lit< tt; found = λ X make none. refl }
-branch-code BranchKind.Bltu = record { small = lit< tt; found = λ X make none. refl }
-branch-code BranchKind.Bgeu = record { small = lit< tt; found = λ X make none. refl }
+pub branch_code_lem : (k : BranchKind) → Found branch_code branch_kinds 3 k
+branch_code_lem BranchKind.Beq = record { small = lit< tt; found = λ X make none. refl }
+branch_code_lem BranchKind.Bne = record { small = lit< tt; found = λ X make none. refl }
+branch_code_lem BranchKind.Blt = record { small = lit< tt; found = λ X make none. refl }
+branch_code_lem BranchKind.Bge = record { small = lit< tt; found = λ X make none. refl }
+branch_code_lem BranchKind.Bltu = record { small = lit< tt; found = λ X make none. refl }
+branch_code_lem BranchKind.Bgeu = record { small = lit< tt; found = λ X make none. refl }
 
-pub load_code : (k : LoadKind) → Found loadCode loadKinds 3 k
-load_code LoadKind.Lb = record { small = lit< tt; found = λ X make none. refl }
-load_code LoadKind.Lh = record { small = lit< tt; found = λ X make none. refl }
-load_code LoadKind.Lw = record { small = lit< tt; found = λ X make none. refl }
-load_code LoadKind.Ld = record { small = lit< tt; found = λ X make none. refl }
-load_code LoadKind.Lbu = record { small = lit< tt; found = λ X make none. refl }
-load_code LoadKind.Lhu = record { small = lit< tt; found = λ X make none. refl }
-load_code LoadKind.Lwu = record { small = lit< tt; found = λ X make none. refl }
+pub load_code_lem : (k : LoadKind) → Found load_code load_kinds 3 k
+load_code_lem LoadKind.Lb = record { small = lit< tt; found = λ X make none. refl }
+load_code_lem LoadKind.Lh = record { small = lit< tt; found = λ X make none. refl }
+load_code_lem LoadKind.Lw = record { small = lit< tt; found = λ X make none. refl }
+load_code_lem LoadKind.Ld = record { small = lit< tt; found = λ X make none. refl }
+load_code_lem LoadKind.Lbu = record { small = lit< tt; found = λ X make none. refl }
+load_code_lem LoadKind.Lhu = record { small = lit< tt; found = λ X make none. refl }
+load_code_lem LoadKind.Lwu = record { small = lit< tt; found = λ X make none. refl }
 
-pub store_code : (k : StoreKind) → Found storeCode storeKinds 3 k
-store_code StoreKind.Sb = record { small = lit< tt; found = λ X make none. refl }
-store_code StoreKind.Sh = record { small = lit< tt; found = λ X make none. refl }
-store_code StoreKind.Sw = record { small = lit< tt; found = λ X make none. refl }
-store_code StoreKind.Sd = record { small = lit< tt; found = λ X make none. refl }
+pub store_code_lem : (k : StoreKind) → Found store_code store_kinds 3 k
+store_code_lem StoreKind.Sb = record { small = lit< tt; found = λ X make none. refl }
+store_code_lem StoreKind.Sh = record { small = lit< tt; found = λ X make none. refl }
+store_code_lem StoreKind.Sw = record { small = lit< tt; found = λ X make none. refl }
+store_code_lem StoreKind.Sd = record { small = lit< tt; found = λ X make none. refl }
 
-pub immediate-code : (k : ImmediateKind) → Found immediateCode immediateKinds 3 k
-immediate-code ImmediateKind.Addi = record { small = lit< tt; found = λ X make none. refl }
-immediate-code ImmediateKind.Slti = record { small = lit< tt; found = λ X make none. refl }
-immediate-code ImmediateKind.Sltiu = record { small = lit< tt; found = λ X make none. refl }
-immediate-code ImmediateKind.Xori = record { small = lit< tt; found = λ X make none. refl }
-immediate-code ImmediateKind.Ori = record { small = lit< tt; found = λ X make none. refl }
-immediate-code ImmediateKind.Andi = record { small = lit< tt; found = λ X make none. refl }
+pub immediate_code_lem : (k : ImmediateKind) → Found immediate_code immediate_kinds 3 k
+immediate_code_lem ImmediateKind.Addi = record { small = lit< tt; found = λ X make none. refl }
+immediate_code_lem ImmediateKind.Slti = record { small = lit< tt; found = λ X make none. refl }
+immediate_code_lem ImmediateKind.Sltiu = record { small = lit< tt; found = λ X make none. refl }
+immediate_code_lem ImmediateKind.Xori = record { small = lit< tt; found = λ X make none. refl }
+immediate_code_lem ImmediateKind.Ori = record { small = lit< tt; found = λ X make none. refl }
+immediate_code_lem ImmediateKind.Andi = record { small = lit< tt; found = λ X make none. refl }
 
-pub shift-code : (k : ShiftKind) → Found shiftCode shiftKinds 9 k
-shift-code ShiftKind.Slli = record { small = lit< tt; found = λ X make none. refl }
-shift-code ShiftKind.Srli = record { small = lit< tt; found = λ X make none. refl }
-shift-code ShiftKind.Srai = record { small = lit< tt; found = λ X make none. refl }
+pub shift_code_lem : (k : ShiftKind) → Found shift_code shift_kinds 9 k
+shift_code_lem ShiftKind.Slli = record { small = lit< tt; found = λ X make none. refl }
+shift_code_lem ShiftKind.Srli = record { small = lit< tt; found = λ X make none. refl }
+shift_code_lem ShiftKind.Srai = record { small = lit< tt; found = λ X make none. refl }
 
-pub shift-word-code : (k : ShiftWordKind) → Found shiftWordCode shiftWordKinds 10 k
-shift-word-code ShiftWordKind.Slliw = record { small = lit< tt; found = λ X make none. refl }
-shift-word-code ShiftWordKind.Srliw = record { small = lit< tt; found = λ X make none. refl }
-shift-word-code ShiftWordKind.Sraiw = record { small = lit< tt; found = λ X make none. refl }
+pub shift_word_code_lem : (k : ShiftWordKind) → Found shift_word_code shift_word_kinds 10 k
+shift_word_code_lem ShiftWordKind.Slliw = record { small = lit< tt; found = λ X make none. refl }
+shift_word_code_lem ShiftWordKind.Srliw = record { small = lit< tt; found = λ X make none. refl }
+shift_word_code_lem ShiftWordKind.Sraiw = record { small = lit< tt; found = λ X make none. refl }
 
-pub register-code : (k : RegisterKind) → Found registerCode registerKinds 10 k
-register-code RegisterKind.Add = record { small = lit< tt; found = λ X make none. refl }
-register-code RegisterKind.Sub = record { small = lit< tt; found = λ X make none. refl }
-register-code RegisterKind.Sll = record { small = lit< tt; found = λ X make none. refl }
-register-code RegisterKind.Slt = record { small = lit< tt; found = λ X make none. refl }
-register-code RegisterKind.Sltu = record { small = lit< tt; found = λ X make none. refl }
-register-code RegisterKind.Xor = record { small = lit< tt; found = λ X make none. refl }
-register-code RegisterKind.Srl = record { small = lit< tt; found = λ X make none. refl }
-register-code RegisterKind.Sra = record { small = lit< tt; found = λ X make none. refl }
-register-code RegisterKind.Or = record { small = lit< tt; found = λ X make none. refl }
-register-code RegisterKind.And = record { small = lit< tt; found = λ X make none. refl }
-register-code RegisterKind.Mul = record { small = lit< tt; found = λ X make none. refl }
-register-code RegisterKind.Mulh = record { small = lit< tt; found = λ X make none. refl }
-register-code RegisterKind.Mulhsu = record { small = lit< tt; found = λ X make none. refl }
-register-code RegisterKind.Mulhu = record { small = lit< tt; found = λ X make none. refl }
-register-code RegisterKind.Div = record { small = lit< tt; found = λ X make none. refl }
-register-code RegisterKind.Divu = record { small = lit< tt; found = λ X make none. refl }
-register-code RegisterKind.Rem = record { small = lit< tt; found = λ X make none. refl }
-register-code RegisterKind.Remu = record { small = lit< tt; found = λ X make none. refl }
+pub register_code_lem : (k : RegisterKind) → Found register_code register_kinds 10 k
+register_code_lem RegisterKind.Add = record { small = lit< tt; found = λ X make none. refl }
+register_code_lem RegisterKind.Sub = record { small = lit< tt; found = λ X make none. refl }
+register_code_lem RegisterKind.Sll = record { small = lit< tt; found = λ X make none. refl }
+register_code_lem RegisterKind.Slt = record { small = lit< tt; found = λ X make none. refl }
+register_code_lem RegisterKind.Sltu = record { small = lit< tt; found = λ X make none. refl }
+register_code_lem RegisterKind.Xor = record { small = lit< tt; found = λ X make none. refl }
+register_code_lem RegisterKind.Srl = record { small = lit< tt; found = λ X make none. refl }
+register_code_lem RegisterKind.Sra = record { small = lit< tt; found = λ X make none. refl }
+register_code_lem RegisterKind.Or = record { small = lit< tt; found = λ X make none. refl }
+register_code_lem RegisterKind.And = record { small = lit< tt; found = λ X make none. refl }
+register_code_lem RegisterKind.Mul = record { small = lit< tt; found = λ X make none. refl }
+register_code_lem RegisterKind.Mulh = record { small = lit< tt; found = λ X make none. refl }
+register_code_lem RegisterKind.Mulhsu = record { small = lit< tt; found = λ X make none. refl }
+register_code_lem RegisterKind.Mulhu = record { small = lit< tt; found = λ X make none. refl }
+register_code_lem RegisterKind.Div = record { small = lit< tt; found = λ X make none. refl }
+register_code_lem RegisterKind.Divu = record { small = lit< tt; found = λ X make none. refl }
+register_code_lem RegisterKind.Rem = record { small = lit< tt; found = λ X make none. refl }
+register_code_lem RegisterKind.Remu = record { small = lit< tt; found = λ X make none. refl }
 
-pub register-word-code : (k : RegisterWordKind) → Found registerWordCode registerWordKinds 10 k
-register-word-code RegisterWordKind.Addw = record { small = lit< tt; found = λ X make none. refl }
-register-word-code RegisterWordKind.Subw = record { small = lit< tt; found = λ X make none. refl }
-register-word-code RegisterWordKind.Sllw = record { small = lit< tt; found = λ X make none. refl }
-register-word-code RegisterWordKind.Srlw = record { small = lit< tt; found = λ X make none. refl }
-register-word-code RegisterWordKind.Sraw = record { small = lit< tt; found = λ X make none. refl }
-register-word-code RegisterWordKind.Mulw = record { small = lit< tt; found = λ X make none. refl }
-register-word-code RegisterWordKind.Divw = record { small = lit< tt; found = λ X make none. refl }
-register-word-code RegisterWordKind.Divuw = record { small = lit< tt; found = λ X make none. refl }
-register-word-code RegisterWordKind.Remw = record { small = lit< tt; found = λ X make none. refl }
-register-word-code RegisterWordKind.Remuw = record { small = lit< tt; found = λ X make none. refl }
+pub register_word_code_lem : (k : RegisterWordKind) → Found register_word_code register_word_kinds 10 k
+register_word_code_lem RegisterWordKind.Addw = record { small = lit< tt; found = λ X make none. refl }
+register_word_code_lem RegisterWordKind.Subw = record { small = lit< tt; found = λ X make none. refl }
+register_word_code_lem RegisterWordKind.Sllw = record { small = lit< tt; found = λ X make none. refl }
+register_word_code_lem RegisterWordKind.Srlw = record { small = lit< tt; found = λ X make none. refl }
+register_word_code_lem RegisterWordKind.Sraw = record { small = lit< tt; found = λ X make none. refl }
+register_word_code_lem RegisterWordKind.Mulw = record { small = lit< tt; found = λ X make none. refl }
+register_word_code_lem RegisterWordKind.Divw = record { small = lit< tt; found = λ X make none. refl }
+register_word_code_lem RegisterWordKind.Divuw = record { small = lit< tt; found = λ X make none. refl }
+register_word_code_lem RegisterWordKind.Remw = record { small = lit< tt; found = λ X make none. refl }
+register_word_code_lem RegisterWordKind.Remuw = record { small = lit< tt; found = λ X make none. refl }
 
-pub system-code : (k : SystemKind) → Found systemCode systemKinds 12 k
-system-code SystemKind.Ecall = record { small = lit< tt; found = λ X make none. refl }
-system-code SystemKind.Ebreak = record { small = lit< tt; found = λ X make none. refl }
+pub system_code_lem : (k : SystemKind) → Found system_code system_kinds 12 k
+system_code_lem SystemKind.Ecall = record { small = lit< tt; found = λ X make none. refl }
+system_code_lem SystemKind.Ebreak = record { small = lit< tt; found = λ X make none. refl }
 
-pub hfi-code : (k : HfiKind) → Found hfiCode hfiKinds 7 k
-hfi-code HfiKind.Enter = record { small = lit< tt; found = λ X make none. refl }
-hfi-code HfiKind.EnterJump = record { small = lit< tt; found = λ X make none. refl }
-hfi-code HfiKind.Exit = record { small = lit< tt; found = λ X make none. refl }
-hfi-code HfiKind.SelectRegion = record { small = lit< tt; found = λ X make none. refl }
-hfi-code HfiKind.SetBase = record { small = lit< tt; found = λ X make none. refl }
-hfi-code HfiKind.GetBase = record { small = lit< tt; found = λ X make none. refl }
-hfi-code HfiKind.SetBound = record { small = lit< tt; found = λ X make none. refl }
-hfi-code HfiKind.GetBound = record { small = lit< tt; found = λ X make none. refl }
-hfi-code HfiKind.SetPermission = record { small = lit< tt; found = λ X make none. refl }
-hfi-code HfiKind.GetPermission = record { small = lit< tt; found = λ X make none. refl }
-hfi-code HfiKind.SetHandler = record { small = lit< tt; found = λ X make none. refl }
-hfi-code HfiKind.GetHandler = record { small = lit< tt; found = λ X make none. refl }
-hfi-code HfiKind.ResetRegions = record { small = lit< tt; found = λ X make none. refl }
+pub hfi_code_lem : (k : HfiKind) → Found hfi_code hfi_kinds 7 k
+hfi_code_lem HfiKind.Enter = record { small = lit< tt; found = λ X make none. refl }
+hfi_code_lem HfiKind.EnterJump = record { small = lit< tt; found = λ X make none. refl }
+hfi_code_lem HfiKind.Exit = record { small = lit< tt; found = λ X make none. refl }
+hfi_code_lem HfiKind.SelectRegion = record { small = lit< tt; found = λ X make none. refl }
+hfi_code_lem HfiKind.SetBase = record { small = lit< tt; found = λ X make none. refl }
+hfi_code_lem HfiKind.GetBase = record { small = lit< tt; found = λ X make none. refl }
+hfi_code_lem HfiKind.SetBound = record { small = lit< tt; found = λ X make none. refl }
+hfi_code_lem HfiKind.GetBound = record { small = lit< tt; found = λ X make none. refl }
+hfi_code_lem HfiKind.SetPermission = record { small = lit< tt; found = λ X make none. refl }
+hfi_code_lem HfiKind.GetPermission = record { small = lit< tt; found = λ X make none. refl }
+hfi_code_lem HfiKind.SetHandler = record { small = lit< tt; found = λ X make none. refl }
+hfi_code_lem HfiKind.GetHandler = record { small = lit< tt; found = λ X make none. refl }
+hfi_code_lem HfiKind.ResetRegions = record { small = lit< tt; found = λ X make none. refl }
 
 -- ---- codes that share an opcode
 
 -- the funct3 of a shift is that of no other immediate operation
-pub shift-apart : (k : ShiftKind) (rd rs1 imm : ℕ) (d : Decoded) → otherwise (immediateAt (field (shiftCode k) 0 3) rd rs1 imm) d ≡ d
-shift-apart ShiftKind.Slli rd rs1 imm d = refl
-shift-apart ShiftKind.Srli rd rs1 imm d = refl
-shift-apart ShiftKind.Srai rd rs1 imm d = refl
+pub shift_apart : (k : ShiftKind) (rd rs1 imm : ℕ) (d : Decoded) → otherwise (immediate_at (field (shift_code k) 0 3) rd rs1 imm) d ≡ d
+shift_apart ShiftKind.Slli rd rs1 imm d = refl
+shift_apart ShiftKind.Srli rd rs1 imm d = refl
+shift_apart ShiftKind.Srai rd rs1 imm d = refl
 
 -- a shift of words has not the funct3 of ADDIW
-pub shift-word-apart : (k : ShiftWordKind) → eqb (field (shiftWordCode k) 0 3) 0 ≡ false
-shift-word-apart ShiftWordKind.Slliw = refl
-shift-word-apart ShiftWordKind.Srliw = refl
-shift-word-apart ShiftWordKind.Sraiw = refl
+pub shift_word_apart : (k : ShiftWordKind) → eqb (field (shift_word_code k) 0 3) 0 ≡ false
+shift_word_apart ShiftWordKind.Slliw = refl
+shift_word_apart ShiftWordKind.Srliw = refl
+shift_word_apart ShiftWordKind.Sraiw = refl

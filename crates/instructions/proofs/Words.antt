@@ -4,7 +4,7 @@ use mathlib.Core.Path.{◌≡◌, ◌∙◌}
 use Prim.Native.Nat.{ℕ, ◌+◌, ◌*◌, ◌^◌, ◌<◌}
 use native.Mathlib.Omega.{arith}
 use Rattle.words.specs.Word.{field}
-use Rattle.words.proofs.Fields.{field-all, field_cut}
+use Rattle.words.proofs.Fields.{field_all, field_cut}
 use Rattle.instructions.specs.Fields.{fields_of, word_of}
 use Rattle.instructions.specs.InWord.{InWord}
 use Rattle.instructions.specs.declared.fields.Fields.{Fields}
@@ -16,18 +16,18 @@ pub same : {o o' d d' f f' a a' b b' s s' : ℕ} → o ≡ o' → d ≡ d' → f
 same o d f a b s = cc
 
 -- the fields of any word are in their places
-pub fields-in-word : (w : ℕ) → InWord (fields_of w)
-fields-in-word w = omega arith
+pub fields_in_word : (w : ℕ) → InWord (fields_of w)
+fields_in_word w = omega arith
 
 -- the fields of the word that they make
-pub fields-of-word : (f : Fields) → InWord f → fields_of (word_of f) ≡ f
-fields-of-word f r = same (omega arith) (omega arith) (omega arith) (omega arith) (omega arith) (omega arith)
+pub fields_of_word : (f : Fields) → InWord f → fields_of (word_of f) ≡ f
+fields_of_word f r = same (omega arith) (omega arith) (omega arith) (omega arith) (omega arith) (omega arith)
 
 -- the word of the fields that it is cut into: each cut in turn is undone
-pub word-of-fields : (w : ℕ) → w < 2 ^ 32 → word_of (fields_of w) ≡ w
-word-of-fields w h =
+pub word_of_fields : (w : ℕ) → w < 2 ^ 32 → word_of (fields_of w) ≡ w
+word_of_fields w h =
     glue (field w 0 7) (field w 7 5) (field w 12 3) (field w 15 5) (field w 20 5) (field w 25 7)
-    (field_cut w 0 7 5) (field_cut w 0 12 3) (field_cut w 0 15 5) (field_cut w 0 20 5) (field_cut w 0 25 7) ∙ field-all w 32 h
+    (field_cut w 0 7 5) (field_cut w 0 12 3) (field_cut w 0 15 5) (field_cut w 0 20 5) (field_cut w 0 25 7) ∙ field_all w 32 h
   where
     glue : (o d f a b s : ℕ) {w12 w15 w20 w25 w32 : ℕ} → d * 2 ^ 7 + o ≡ w12 → f * 2 ^ 12 + w12 ≡ w15 → a * 2 ^ 15 + w15 ≡ w20
         → b * 2 ^ 20 + w20 ≡ w25 → s * 2 ^ 25 + w25 ≡ w32 → s * 2 ^ 25 + b * 2 ^ 20 + a * 2 ^ 15 + f * 2 ^ 12 + d * 2 ^ 7 + o ≡ w32

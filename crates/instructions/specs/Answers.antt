@@ -7,15 +7,15 @@ use Rattle.instructions.specs.declared.instruction.Encoded.{Encoded}
 use Rattle.instructions.specs.declared.instruction.Encoded.TheVariants.{Word, OutOfRange}
 
 -- "Decoding answers 13 for an illegal word and only then."
-abbrev pub decodeNumber : Decoded → ℕ
-decodeNumber (Legal i) = 0
-decodeNumber Illegal = 13
+abbrev pub decode_number : Decoded → ℕ
+decode_number (Legal i) = 0
+decode_number Illegal = 13
 
 -- "Encoding answers 5, with word 0, if a field of the instruction is outside its range and only then."
-abbrev pub encodeNumber : Encoded → ℕ
-encodeNumber (Word w) = 0
-encodeNumber OutOfRange = 5
+abbrev pub encode_number : Encoded → ℕ
+encode_number (Word w) = 0
+encode_number OutOfRange = 5
 
-abbrev pub wordAnswered : Encoded → ℕ
-wordAnswered (Word w) = w
-wordAnswered OutOfRange = 0
+abbrev pub word_answered : Encoded → ℕ
+word_answered (Word w) = w
+word_answered OutOfRange = 0

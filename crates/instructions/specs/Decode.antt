@@ -6,10 +6,10 @@ use Rattle.std.specs.Prelude.{Bool, true, false, cond, ◌&&◌, List, [], ◌�
 use Rattle.words.specs.Word.{field}
 use Rattle.instructions.specs.Fields.{fields_of}
 use Rattle.instructions.specs.Table.{lookup, of_code}
-use Rattle.instructions.specs.Opcodes.{LUI, AUIPC, JAL, JALR, BRANCH, LOAD, STORE, OP-IMM, OP-IMM-32, OP, OP-32, MISC-MEM, SYSTEM, H-LOAD, H-STORE, HFI}
-use Rattle.instructions.specs.Kinds.{functs, upperCode, upperKinds, branchCode, branchKinds, loadCode, loadKinds, storeCode, storeKinds, immediateCode, immediateKinds, shiftCode, shiftKinds, shiftWordCode, shiftWordKinds, registerCode, registerKinds, registerWordCode, registerWordKinds, systemCode, systemKinds, hfiRow, hfiCode, hfiKinds, named}
-use Rattle.instructions.specs.Immediates.{iBits, iImmediate, sImmediate, bImmediate, uImmediate, jImmediate}
-use Rattle.instructions.specs.HWords.{lowRegister, chosenRegion}
+use Rattle.instructions.specs.Opcodes.{LUI, AUIPC, JAL, JALR, BRANCH, LOAD, STORE, OP_IMM, OP_IMM_32, OP, OP_32, MISC_MEM, SYSTEM, H_LOAD, H_STORE, HFI}
+use Rattle.instructions.specs.Kinds.{functs, upper_code, upper_kinds, branch_code, branch_kinds, load_code, load_kinds, store_code, store_kinds, immediate_code, immediate_kinds, shift_code, shift_kinds, shift_word_code, shift_word_kinds, register_code, register_kinds, register_word_code, register_word_kinds, system_code, system_kinds, hfi_row, hfi_code, hfi_kinds, named}
+use Rattle.instructions.specs.Immediates.{i_bits, i_immediate, s_immediate, b_immediate, u_immediate, j_immediate}
+use Rattle.instructions.specs.HWords.{low_register, chosen_region}
 use Rattle.instructions.specs.declared.fields.Fields.{Fields}
 use Rattle.instructions.specs.declared.kind.LoadKind.{LoadKind}
 use Rattle.instructions.specs.declared.kind.StoreKind.{StoreKind}
@@ -20,53 +20,53 @@ use Rattle.instructions.specs.declared.instruction.Decoded.TheVariants.{Legal, I
 
 -- ---- what stands under a code in the listing of a group
 
-abbrev pub upperAt : ℕ → ℕ → ℕ → Decoded
-upperAt code rd imm = of_code upperCode (λ k. Legal (Upper k rd imm)) Illegal upperKinds code
+abbrev pub upper_at : ℕ → ℕ → ℕ → Decoded
+upper_at code rd imm = of_code upper_code (λ k. Legal (Upper k rd imm)) Illegal upper_kinds code
 
-abbrev pub branchAt : ℕ → ℕ → ℕ → ℕ → Decoded
-branchAt code rs1 rs2 offset = of_code branchCode (λ k. Legal (Branch k rs1 rs2 offset)) Illegal branchKinds code
+abbrev pub branch_at : ℕ → ℕ → ℕ → ℕ → Decoded
+branch_at code rs1 rs2 offset = of_code branch_code (λ k. Legal (Branch k rs1 rs2 offset)) Illegal branch_kinds code
 
 -- "h-prefixed words .. have the field layout of ordinary loads and stores", which have no region
 abbrev pub load_of : Bool → LoadKind → ℕ → ℕ → ℕ → ℕ → Instruction
 load_of false k region = Load k
 load_of true k region = HLoad k region
 
-abbrev pub loadAt : Bool → ℕ → ℕ → ℕ → ℕ → ℕ → Decoded
-loadAt prefixed code region rd rs1 imm =
-    of_code loadCode (λ k. Legal (load_of prefixed k region rd rs1 imm)) Illegal loadKinds code
+abbrev pub load_at : Bool → ℕ → ℕ → ℕ → ℕ → ℕ → Decoded
+load_at prefixed code region rd rs1 imm =
+    of_code load_code (λ k. Legal (load_of prefixed k region rd rs1 imm)) Illegal load_kinds code
 
 abbrev pub store_of : Bool → StoreKind → ℕ → ℕ → ℕ → ℕ → Instruction
 store_of false k region = Store k
 store_of true k region = HStore k region
 
-abbrev pub storeAt : Bool → ℕ → ℕ → ℕ → ℕ → ℕ → Decoded
-storeAt prefixed code region rs1 rs2 imm =
-    of_code storeCode (λ k. Legal (store_of prefixed k region rs1 rs2 imm)) Illegal storeKinds code
+abbrev pub store_at : Bool → ℕ → ℕ → ℕ → ℕ → ℕ → Decoded
+store_at prefixed code region rs1 rs2 imm =
+    of_code store_code (λ k. Legal (store_of prefixed k region rs1 rs2 imm)) Illegal store_kinds code
 
-abbrev pub immediateAt : ℕ → ℕ → ℕ → ℕ → Decoded
-immediateAt code rd rs1 imm = of_code immediateCode (λ k. Legal (Immediate k rd rs1 imm)) Illegal immediateKinds code
+abbrev pub immediate_at : ℕ → ℕ → ℕ → ℕ → Decoded
+immediate_at code rd rs1 imm = of_code immediate_code (λ k. Legal (Immediate k rd rs1 imm)) Illegal immediate_kinds code
 
-abbrev pub shiftAt : ℕ → ℕ → ℕ → ℕ → Decoded
-shiftAt code rd rs1 amount = of_code shiftCode (λ k. Legal (Shift k rd rs1 amount)) Illegal shiftKinds code
+abbrev pub shift_at : ℕ → ℕ → ℕ → ℕ → Decoded
+shift_at code rd rs1 amount = of_code shift_code (λ k. Legal (Shift k rd rs1 amount)) Illegal shift_kinds code
 
-abbrev pub shiftWordAt : ℕ → ℕ → ℕ → ℕ → Decoded
-shiftWordAt code rd rs1 amount = of_code shiftWordCode (λ k. Legal (ShiftWord k rd rs1 amount)) Illegal shiftWordKinds code
+abbrev pub shift_word_at : ℕ → ℕ → ℕ → ℕ → Decoded
+shift_word_at code rd rs1 amount = of_code shift_word_code (λ k. Legal (ShiftWord k rd rs1 amount)) Illegal shift_word_kinds code
 
-abbrev pub registerAt : ℕ → ℕ → ℕ → ℕ → Decoded
-registerAt code rd rs1 rs2 = of_code registerCode (λ k. Legal (Register k rd rs1 rs2)) Illegal registerKinds code
+abbrev pub register_at : ℕ → ℕ → ℕ → ℕ → Decoded
+register_at code rd rs1 rs2 = of_code register_code (λ k. Legal (Register k rd rs1 rs2)) Illegal register_kinds code
 
-abbrev pub registerWordAt : ℕ → ℕ → ℕ → ℕ → Decoded
-registerWordAt code rd rs1 rs2 = of_code registerWordCode (λ k. Legal (RegisterWord k rd rs1 rs2)) Illegal registerWordKinds code
+abbrev pub register_word_at : ℕ → ℕ → ℕ → ℕ → Decoded
+register_word_at code rd rs1 rs2 = of_code register_word_code (λ k. Legal (RegisterWord k rd rs1 rs2)) Illegal register_word_kinds code
 
-abbrev pub systemAt : ℕ → Decoded
-systemAt code = of_code systemCode (λ k. Legal (System k)) Illegal systemKinds code
+abbrev pub system_at : ℕ → Decoded
+system_at code = of_code system_code (λ k. Legal (System k)) Illegal system_kinds code
 
-abbrev pub hfiAt : ℕ → ℕ → ℕ → ℕ → Decoded
-hfiAt code rd rs1 rs2 = of_code hfiCode (λ k. Legal (Hfi k rd rs1 rs2)) Illegal hfiKinds code
+abbrev pub hfi_at : ℕ → ℕ → ℕ → ℕ → Decoded
+hfi_at code rd rs1 rs2 = of_code hfi_code (λ k. Legal (Hfi k rd rs1 rs2)) Illegal hfi_kinds code
 
 -- the row with this funct7 names every field that is not zero
 abbrev pub named_at : ℕ → ℕ → ℕ → ℕ → Bool
-named_at funct7 rd rs1 rs2 = of_code hfiCode (λ k. named (hfiRow k) rd rs1 rs2) false hfiKinds funct7
+named_at funct7 rd rs1 rs2 = of_code hfi_code (λ k. named (hfi_row k) rd rs1 rs2) false hfi_kinds funct7
 
 -- ---- groups that ask more than a code
 
@@ -79,75 +79,75 @@ abbrev pub otherwise : Decoded → Decoded → Decoded
 otherwise (Legal i) d = Legal i
 otherwise Illegal d = d
 
-abbrev pub decodeJalr : Fields → Decoded
-decodeJalr f = provided (eqb f.funct3 0) (Legal (Jalr f.rd f.rs1 (iImmediate f)))
+abbrev pub decode_jalr : Fields → Decoded
+decode_jalr f = provided (eqb f.funct3 0) (Legal (Jalr f.rd f.rs1 (i_immediate f)))
 
 -- a shift has an amount in the low half of its 12 bits
-abbrev pub decodeShift : Fields → Decoded
-decodeShift f = shiftAt (functs (field (iBits f) 6 6) f.funct3) f.rd f.rs1 (field (iBits f) 0 6)
+abbrev pub decode_shift : Fields → Decoded
+decode_shift f = shift_at (functs (field (i_bits f) 6 6) f.funct3) f.rd f.rs1 (field (i_bits f) 0 6)
 
 -- a funct3 that no immediate operation has is a shift's, or illegal
-abbrev pub decodeImmediate : Fields → Decoded
-decodeImmediate f = otherwise (immediateAt f.funct3 f.rd f.rs1 (iImmediate f)) (decodeShift f)
+abbrev pub decode_immediate : Fields → Decoded
+decode_immediate f = otherwise (immediate_at f.funct3 f.rd f.rs1 (i_immediate f)) (decode_shift f)
 
 -- ADDIW has funct3 0
-abbrev pub decodeImmediateWord : Fields → Decoded
-decodeImmediateWord f =
-    cond (eqb f.funct3 0) (Legal (Addiw f.rd f.rs1 (iImmediate f)))
-    (shiftWordAt (functs f.funct7 f.funct3) f.rd f.rs1 f.rs2)
+abbrev pub decode_immediate_word : Fields → Decoded
+decode_immediate_word f =
+    cond (eqb f.funct3 0) (Legal (Addiw f.rd f.rs1 (i_immediate f)))
+    (shift_word_at (functs f.funct7 f.funct3) f.rd f.rs1 f.rs2)
 
 -- "FENCE carries its spare fields": fm, pred and succ, and rs1 and rd; FENCE.I has another funct3
-abbrev pub decodeFence : Fields → Decoded
-decodeFence f =
+abbrev pub decode_fence : Fields → Decoded
+decode_fence f =
     provided (eqb f.funct3 0)
-    (Legal (Fence (field (iBits f) 8 4) (field (iBits f) 4 4) (field (iBits f) 0 4) f.rs1 f.rd))
+    (Legal (Fence (field (i_bits f) 8 4) (field (i_bits f) 4 4) (field (i_bits f) 0 4) f.rs1 f.rd))
 
 -- ECALL and EBREAK have nothing but funct12; "No [..] CSRs"
-abbrev pub decodeSystem : Fields → Decoded
-decodeSystem f = provided (eqb f.rd 0 && (eqb f.funct3 0 && eqb f.rs1 0)) (systemAt (iBits f))
+abbrev pub decode_system : Fields → Decoded
+decode_system f = provided (eqb f.rd 0 && (eqb f.funct3 0 && eqb f.rs1 0)) (system_at (i_bits f))
 
 -- the top bits of two register fields choose the region, and the rest name registers
-abbrev pub decodeHLoad : Fields → Decoded
-decodeHLoad f =
-    loadAt true f.funct3 (chosenRegion f.rs1 f.rd) (lowRegister f.rd) (lowRegister f.rs1) (iImmediate f)
+abbrev pub decode_h_load : Fields → Decoded
+decode_h_load f =
+    load_at true f.funct3 (chosen_region f.rs1 f.rd) (low_register f.rd) (low_register f.rs1) (i_immediate f)
 
-abbrev pub decodeHStore : Fields → Decoded
-decodeHStore f =
-    storeAt true f.funct3 (chosenRegion f.rs1 f.rs2) (lowRegister f.rs1) (lowRegister f.rs2) (sImmediate f)
+abbrev pub decode_h_store : Fields → Decoded
+decode_h_store f =
+    store_at true f.funct3 (chosen_region f.rs1 f.rs2) (low_register f.rs1) (low_register f.rs2) (s_immediate f)
 
 -- "R-type words, opcode 5b, funct3 0. Fields not named in a row are zero, else the word is illegal."
-abbrev pub decodeHfi : Fields → Decoded
-decodeHfi f =
+abbrev pub decode_hfi : Fields → Decoded
+decode_hfi f =
     provided (eqb f.funct3 0 && named_at f.funct7 f.rd f.rs1 f.rs2)
-    (hfiAt f.funct7 f.rd f.rs1 f.rs2)
+    (hfi_at f.funct7 f.rd f.rs1 f.rs2)
 
 -- the groups by opcode
 abbrev pub groups : Fields → List (ℕ × Decoded)
 groups f =
-    (LUI, upperAt LUI f.rd (uImmediate f))
-    ∷ (AUIPC, upperAt AUIPC f.rd (uImmediate f))
-    ∷ (JAL, Legal (Jal f.rd (jImmediate f)))
-    ∷ (JALR, decodeJalr f)
-    ∷ (BRANCH, branchAt f.funct3 f.rs1 f.rs2 (bImmediate f))
-    ∷ (LOAD, loadAt false f.funct3 0 f.rd f.rs1 (iImmediate f))
-    ∷ (STORE, storeAt false f.funct3 0 f.rs1 f.rs2 (sImmediate f))
-    ∷ (OP-IMM, decodeImmediate f)
-    ∷ (OP-IMM-32, decodeImmediateWord f)
-    ∷ (OP, registerAt (functs f.funct7 f.funct3) f.rd f.rs1 f.rs2)
-    ∷ (OP-32, registerWordAt (functs f.funct7 f.funct3) f.rd f.rs1 f.rs2)
-    ∷ (MISC-MEM, decodeFence f)
-    ∷ (SYSTEM, decodeSystem f)
-    ∷ (H-LOAD, decodeHLoad f)
-    ∷ (H-STORE, decodeHStore f)
-    ∷ (HFI, decodeHfi f)
+    (LUI, upper_at LUI f.rd (u_immediate f))
+    ∷ (AUIPC, upper_at AUIPC f.rd (u_immediate f))
+    ∷ (JAL, Legal (Jal f.rd (j_immediate f)))
+    ∷ (JALR, decode_jalr f)
+    ∷ (BRANCH, branch_at f.funct3 f.rs1 f.rs2 (b_immediate f))
+    ∷ (LOAD, load_at false f.funct3 0 f.rd f.rs1 (i_immediate f))
+    ∷ (STORE, store_at false f.funct3 0 f.rs1 f.rs2 (s_immediate f))
+    ∷ (OP_IMM, decode_immediate f)
+    ∷ (OP_IMM_32, decode_immediate_word f)
+    ∷ (OP, register_at (functs f.funct7 f.funct3) f.rd f.rs1 f.rs2)
+    ∷ (OP_32, register_word_at (functs f.funct7 f.funct3) f.rd f.rs1 f.rs2)
+    ∷ (MISC_MEM, decode_fence f)
+    ∷ (SYSTEM, decode_system f)
+    ∷ (H_LOAD, decode_h_load f)
+    ∷ (H_STORE, decode_h_store f)
+    ∷ (HFI, decode_hfi f)
     ∷ []
 
 -- the fields f under an opcode
-abbrev pub decodeAt : Fields → ℕ → Decoded
-decodeAt f = lookup Illegal (groups f)
+abbrev pub decode_at : Fields → ℕ → Decoded
+decode_at f = lookup Illegal (groups f)
 
-abbrev pub decodeFields : Fields → Decoded
-decodeFields f = decodeAt f f.opcode
+abbrev pub decode_fields : Fields → Decoded
+decode_fields f = decode_at f f.opcode
 
-unfoldable pub decodeWord : ℕ → Decoded
-decodeWord w = decodeFields (fields_of w)
+unfoldable pub decode_word : ℕ → Decoded
+decode_word w = decode_fields (fields_of w)

@@ -5,8 +5,8 @@ use Rattle.std.specs.Prelude.{Bool, true, false, cond, List, [], ◌∷◌, ℕ,
 use Rattle.words.specs.Word.{field}
 
 -- "Explicit are 1, 4, 5, 6", by their choice from 0 on
-abbrev pub explicitRegions : List ℕ
-explicitRegions = 1 ∷ 4 ∷ 5 ∷ 6 ∷ []
+abbrev pub explicit_regions : List ℕ
+explicit_regions = 1 ∷ 4 ∷ 5 ∷ 6 ∷ []
 
 abbrev pub among : ℕ → List ℕ → Bool
 among n [] = false
@@ -21,19 +21,19 @@ place_in (k ∷ ks) n = cond (eqb n k) 0 (suc (place_in ks n))
 abbrev pub top_bit : ℕ → ℕ
 top_bit f = field f 4 1
 
-abbrev pub lowRegister : ℕ → ℕ
-lowRegister f = field f 0 4
+abbrev pub low_register : ℕ → ℕ
+low_register f = field f 0 4
 
-abbrev pub registerField : ℕ → ℕ → ℕ
-registerField top register = top * 2 ^ 4 + register
+abbrev pub register_field : ℕ → ℕ → ℕ
+register_field top register = top * 2 ^ 4 + register
 
 -- the region that two fields choose: that of rs1, and the other, which is rd's or rs2's
-abbrev pub chosenRegion : ℕ → ℕ → ℕ
-chosenRegion rs1 other = get_or explicitRegions (2 * top_bit rs1 + top_bit other) 0
+abbrev pub chosen_region : ℕ → ℕ → ℕ
+chosen_region rs1 other = get_or explicit_regions (2 * top_bit rs1 + top_bit other) 0
 
 -- and the two fields that choose it
-abbrev pub rs1Field : ℕ → ℕ → ℕ
-rs1Field region register = registerField (field (place_in explicitRegions region) 1 1) register
+abbrev pub rs1_field : ℕ → ℕ → ℕ
+rs1_field region register = register_field (field (place_in explicit_regions region) 1 1) register
 
-abbrev pub otherField : ℕ → ℕ → ℕ
-otherField region register = registerField (field (place_in explicitRegions region) 0 1) register
+abbrev pub other_field : ℕ → ℕ → ℕ
+other_field region register = register_field (field (place_in explicit_regions region) 0 1) register

@@ -33,127 +33,127 @@ abbrev pub functs : ℕ → ℕ → ℕ
 functs high funct3 = high * 2 ^ 3 + funct3
 
 -- opcode
-abbrev pub upperCode : UpperKind → ℕ
-upperCode Lui = LUI
-upperCode Auipc = AUIPC
+abbrev pub upper_code : UpperKind → ℕ
+upper_code Lui = LUI
+upper_code Auipc = AUIPC
 
-abbrev pub upperKinds : List UpperKind
-upperKinds = Lui ∷ Auipc ∷ []
+abbrev pub upper_kinds : List UpperKind
+upper_kinds = Lui ∷ Auipc ∷ []
 
 -- funct3 of opcode BRANCH
-abbrev pub branchCode : BranchKind → ℕ
-branchCode Beq = 0b000
-branchCode Bne = 0b001
-branchCode Blt = 0b100
-branchCode Bge = 0b101
-branchCode Bltu = 0b110
-branchCode Bgeu = 0b111
+abbrev pub branch_code : BranchKind → ℕ
+branch_code Beq = 0b000
+branch_code Bne = 0b001
+branch_code Blt = 0b100
+branch_code Bge = 0b101
+branch_code Bltu = 0b110
+branch_code Bgeu = 0b111
 
-abbrev pub branchKinds : List BranchKind
-branchKinds = Beq ∷ Bne ∷ Blt ∷ Bge ∷ Bltu ∷ Bgeu ∷ []
+abbrev pub branch_kinds : List BranchKind
+branch_kinds = Beq ∷ Bne ∷ Blt ∷ Bge ∷ Bltu ∷ Bgeu ∷ []
 
 -- funct3 of opcode LOAD, and of opcode 0b
-abbrev pub loadCode : LoadKind → ℕ
-loadCode Lb = 0b000
-loadCode Lh = 0b001
-loadCode Lw = 0b010
-loadCode Ld = 0b011
-loadCode Lbu = 0b100
-loadCode Lhu = 0b101
-loadCode Lwu = 0b110
+abbrev pub load_code : LoadKind → ℕ
+load_code Lb = 0b000
+load_code Lh = 0b001
+load_code Lw = 0b010
+load_code Ld = 0b011
+load_code Lbu = 0b100
+load_code Lhu = 0b101
+load_code Lwu = 0b110
 
-abbrev pub loadKinds : List LoadKind
-loadKinds = Lb ∷ Lh ∷ Lw ∷ Ld ∷ Lbu ∷ Lhu ∷ Lwu ∷ []
+abbrev pub load_kinds : List LoadKind
+load_kinds = Lb ∷ Lh ∷ Lw ∷ Ld ∷ Lbu ∷ Lhu ∷ Lwu ∷ []
 
 -- funct3 of opcode STORE, and of opcode 2b
-abbrev pub storeCode : StoreKind → ℕ
-storeCode Sb = 0b000
-storeCode Sh = 0b001
-storeCode Sw = 0b010
-storeCode Sd = 0b011
+abbrev pub store_code : StoreKind → ℕ
+store_code Sb = 0b000
+store_code Sh = 0b001
+store_code Sw = 0b010
+store_code Sd = 0b011
 
-abbrev pub storeKinds : List StoreKind
-storeKinds = Sb ∷ Sh ∷ Sw ∷ Sd ∷ []
+abbrev pub store_kinds : List StoreKind
+store_kinds = Sb ∷ Sh ∷ Sw ∷ Sd ∷ []
 
 -- funct3 of opcode OP-IMM
-abbrev pub immediateCode : ImmediateKind → ℕ
-immediateCode Addi = 0b000
-immediateCode Slti = 0b010
-immediateCode Sltiu = 0b011
-immediateCode Xori = 0b100
-immediateCode Ori = 0b110
-immediateCode Andi = 0b111
+abbrev pub immediate_code : ImmediateKind → ℕ
+immediate_code Addi = 0b000
+immediate_code Slti = 0b010
+immediate_code Sltiu = 0b011
+immediate_code Xori = 0b100
+immediate_code Ori = 0b110
+immediate_code Andi = 0b111
 
-abbrev pub immediateKinds : List ImmediateKind
-immediateKinds = Addi ∷ Slti ∷ Sltiu ∷ Xori ∷ Ori ∷ Andi ∷ []
+abbrev pub immediate_kinds : List ImmediateKind
+immediate_kinds = Addi ∷ Slti ∷ Sltiu ∷ Xori ∷ Ori ∷ Andi ∷ []
 
 -- the six bits above the amount, and funct3, of opcode OP-IMM
-abbrev pub shiftCode : ShiftKind → ℕ
-shiftCode Slli = functs 0b000000 0b001
-shiftCode Srli = functs 0b000000 0b101
-shiftCode Srai = functs 0b010000 0b101
+abbrev pub shift_code : ShiftKind → ℕ
+shift_code Slli = functs 0b000000 0b001
+shift_code Srli = functs 0b000000 0b101
+shift_code Srai = functs 0b010000 0b101
 
-abbrev pub shiftKinds : List ShiftKind
-shiftKinds = Slli ∷ Srli ∷ Srai ∷ []
+abbrev pub shift_kinds : List ShiftKind
+shift_kinds = Slli ∷ Srli ∷ Srai ∷ []
 
 -- funct7 and funct3 of opcode OP-IMM-32
-abbrev pub shiftWordCode : ShiftWordKind → ℕ
-shiftWordCode Slliw = functs 0b0000000 0b001
-shiftWordCode Srliw = functs 0b0000000 0b101
-shiftWordCode Sraiw = functs 0b0100000 0b101
+abbrev pub shift_word_code : ShiftWordKind → ℕ
+shift_word_code Slliw = functs 0b0000000 0b001
+shift_word_code Srliw = functs 0b0000000 0b101
+shift_word_code Sraiw = functs 0b0100000 0b101
 
-abbrev pub shiftWordKinds : List ShiftWordKind
-shiftWordKinds = Slliw ∷ Srliw ∷ Sraiw ∷ []
+abbrev pub shift_word_kinds : List ShiftWordKind
+shift_word_kinds = Slliw ∷ Srliw ∷ Sraiw ∷ []
 
 -- funct7 and funct3 of opcode OP
-abbrev pub registerCode : RegisterKind → ℕ
-registerCode Add = functs 0b0000000 0b000
-registerCode Sub = functs 0b0100000 0b000
-registerCode Sll = functs 0b0000000 0b001
-registerCode Slt = functs 0b0000000 0b010
-registerCode Sltu = functs 0b0000000 0b011
-registerCode Xor = functs 0b0000000 0b100
-registerCode Srl = functs 0b0000000 0b101
-registerCode Sra = functs 0b0100000 0b101
-registerCode Or = functs 0b0000000 0b110
-registerCode And = functs 0b0000000 0b111
-registerCode Mul = functs 0b0000001 0b000
-registerCode Mulh = functs 0b0000001 0b001
-registerCode Mulhsu = functs 0b0000001 0b010
-registerCode Mulhu = functs 0b0000001 0b011
-registerCode Div = functs 0b0000001 0b100
-registerCode Divu = functs 0b0000001 0b101
-registerCode Rem = functs 0b0000001 0b110
-registerCode Remu = functs 0b0000001 0b111
+abbrev pub register_code : RegisterKind → ℕ
+register_code Add = functs 0b0000000 0b000
+register_code Sub = functs 0b0100000 0b000
+register_code Sll = functs 0b0000000 0b001
+register_code Slt = functs 0b0000000 0b010
+register_code Sltu = functs 0b0000000 0b011
+register_code Xor = functs 0b0000000 0b100
+register_code Srl = functs 0b0000000 0b101
+register_code Sra = functs 0b0100000 0b101
+register_code Or = functs 0b0000000 0b110
+register_code And = functs 0b0000000 0b111
+register_code Mul = functs 0b0000001 0b000
+register_code Mulh = functs 0b0000001 0b001
+register_code Mulhsu = functs 0b0000001 0b010
+register_code Mulhu = functs 0b0000001 0b011
+register_code Div = functs 0b0000001 0b100
+register_code Divu = functs 0b0000001 0b101
+register_code Rem = functs 0b0000001 0b110
+register_code Remu = functs 0b0000001 0b111
 
-abbrev pub registerKinds : List RegisterKind
-registerKinds =
+abbrev pub register_kinds : List RegisterKind
+register_kinds =
     Add ∷ Sub ∷ Sll ∷ Slt ∷ Sltu ∷ Xor ∷ Srl ∷ Sra ∷ Or ∷ And
     ∷ Mul ∷ Mulh ∷ Mulhsu ∷ Mulhu ∷ Div ∷ Divu ∷ Rem ∷ Remu ∷ []
 
 -- funct7 and funct3 of opcode OP-32
-abbrev pub registerWordCode : RegisterWordKind → ℕ
-registerWordCode Addw = functs 0b0000000 0b000
-registerWordCode Subw = functs 0b0100000 0b000
-registerWordCode Sllw = functs 0b0000000 0b001
-registerWordCode Srlw = functs 0b0000000 0b101
-registerWordCode Sraw = functs 0b0100000 0b101
-registerWordCode Mulw = functs 0b0000001 0b000
-registerWordCode Divw = functs 0b0000001 0b100
-registerWordCode Divuw = functs 0b0000001 0b101
-registerWordCode Remw = functs 0b0000001 0b110
-registerWordCode Remuw = functs 0b0000001 0b111
+abbrev pub register_word_code : RegisterWordKind → ℕ
+register_word_code Addw = functs 0b0000000 0b000
+register_word_code Subw = functs 0b0100000 0b000
+register_word_code Sllw = functs 0b0000000 0b001
+register_word_code Srlw = functs 0b0000000 0b101
+register_word_code Sraw = functs 0b0100000 0b101
+register_word_code Mulw = functs 0b0000001 0b000
+register_word_code Divw = functs 0b0000001 0b100
+register_word_code Divuw = functs 0b0000001 0b101
+register_word_code Remw = functs 0b0000001 0b110
+register_word_code Remuw = functs 0b0000001 0b111
 
-abbrev pub registerWordKinds : List RegisterWordKind
-registerWordKinds = Addw ∷ Subw ∷ Sllw ∷ Srlw ∷ Sraw ∷ Mulw ∷ Divw ∷ Divuw ∷ Remw ∷ Remuw ∷ []
+abbrev pub register_word_kinds : List RegisterWordKind
+register_word_kinds = Addw ∷ Subw ∷ Sllw ∷ Srlw ∷ Sraw ∷ Mulw ∷ Divw ∷ Divuw ∷ Remw ∷ Remuw ∷ []
 
 -- funct12 of opcode SYSTEM
-abbrev pub systemCode : SystemKind → ℕ
-systemCode Ecall = 0b000000000000
-systemCode Ebreak = 0b000000000001
+abbrev pub system_code : SystemKind → ℕ
+system_code Ecall = 0b000000000000
+system_code Ebreak = 0b000000000001
 
-abbrev pub systemKinds : List SystemKind
-systemKinds = Ecall ∷ Ebreak ∷ []
+abbrev pub system_kinds : List SystemKind
+system_kinds = Ecall ∷ Ebreak ∷ []
 
 -- a row of document 01's table of opcode 5b: its funct7, and whether it names rd, rs1 and rs2
 pub record HfiRow : Type 0 where
@@ -166,26 +166,26 @@ abbrev row : ℕ → Bool → Bool → Bool → HfiRow
 row n d a b = record { funct7 = n; rd = d; rs1 = a; rs2 = b }
 
 -- the table itself ("4, 5 | set base, get base | rs1; rd": a set names rs1, a get rd)
-abbrev pub hfiRow : HfiKind → HfiRow
-hfiRow Enter = row 0 false true false
-hfiRow EnterJump = row 1 false true true
-hfiRow Exit = row 2 false false false
-hfiRow SelectRegion = row 3 false true false
-hfiRow SetBase = row 4 false true false
-hfiRow GetBase = row 5 true false false
-hfiRow SetBound = row 6 false true false
-hfiRow GetBound = row 7 true false false
-hfiRow SetPermission = row 8 false true false
-hfiRow GetPermission = row 9 true false false
-hfiRow SetHandler = row 10 false true false
-hfiRow GetHandler = row 11 true false false
-hfiRow ResetRegions = row 12 false false false
+abbrev pub hfi_row : HfiKind → HfiRow
+hfi_row Enter = row 0 false true false
+hfi_row EnterJump = row 1 false true true
+hfi_row Exit = row 2 false false false
+hfi_row SelectRegion = row 3 false true false
+hfi_row SetBase = row 4 false true false
+hfi_row GetBase = row 5 true false false
+hfi_row SetBound = row 6 false true false
+hfi_row GetBound = row 7 true false false
+hfi_row SetPermission = row 8 false true false
+hfi_row GetPermission = row 9 true false false
+hfi_row SetHandler = row 10 false true false
+hfi_row GetHandler = row 11 true false false
+hfi_row ResetRegions = row 12 false false false
 
-abbrev pub hfiCode : HfiKind → ℕ
-hfiCode k = (hfiRow k).funct7
+abbrev pub hfi_code : HfiKind → ℕ
+hfi_code k = (hfi_row k).funct7
 
-abbrev pub hfiKinds : List HfiKind
-hfiKinds =
+abbrev pub hfi_kinds : List HfiKind
+hfi_kinds =
     Enter ∷ EnterJump ∷ Exit ∷ SelectRegion ∷ SetBase ∷ GetBase ∷ SetBound ∷ GetBound ∷ SetPermission ∷ GetPermission
     ∷ SetHandler ∷ GetHandler ∷ ResetRegions ∷ []
 

@@ -23,31 +23,31 @@ LOAD = 0b0000011
 abbrev pub STORE : ℕ
 STORE = 0b0100011
 
-abbrev pub OP-IMM : ℕ
-OP-IMM = 0b0010011
+abbrev pub OP_IMM : ℕ
+OP_IMM = 0b0010011
 
-abbrev pub OP-IMM-32 : ℕ
-OP-IMM-32 = 0b0011011
+abbrev pub OP_IMM_32 : ℕ
+OP_IMM_32 = 0b0011011
 
 abbrev pub OP : ℕ
 OP = 0b0110011
 
-abbrev pub OP-32 : ℕ
-OP-32 = 0b0111011
+abbrev pub OP_32 : ℕ
+OP_32 = 0b0111011
 
-abbrev pub MISC-MEM : ℕ
-MISC-MEM = 0b0001111
+abbrev pub MISC_MEM : ℕ
+MISC_MEM = 0b0001111
 
 abbrev pub SYSTEM : ℕ
 SYSTEM = 0b1110011
 
 -- "opcode 0b, funct3 0 to 6 for hlb, hlh, hlw, hld, hlbu, hlhu, hlwu", in the specification's space custom-0
-abbrev pub H-LOAD : ℕ
-H-LOAD = 0x0b
+abbrev pub H_LOAD : ℕ
+H_LOAD = 0x0b
 
 -- "opcode 2b, funct3 0 to 3 for hsb, hsh, hsw, hsd", custom-1
-abbrev pub H-STORE : ℕ
-H-STORE = 0x2b
+abbrev pub H_STORE : ℕ
+H_STORE = 0x2b
 
 -- "The rest (ours) are R-type words, opcode 5b, funct3 0.", custom-2
 abbrev pub HFI : ℕ

@@ -1,7 +1,7 @@
 // The code of each kind: the number of its function fields, of its opcode, or document 01's funct7. Here alone it is
 // written out; decoding, encoding and the codec for C use these names.
 ghost use Rattle.std.specs.Prelude.{◌≡◌};
-ghost use Rattle.instructions.specs.Kinds.{upperCode, branchCode, loadCode, storeCode, immediateCode, shiftCode, shiftWordCode, registerCode, registerWordCode, systemCode, hfiCode};
+ghost use Rattle.instructions.specs.Kinds.{upper_code, branch_code, load_code, store_code, immediate_code, shift_code, shift_word_code, register_code, register_word_code, system_code, hfi_code};
 
 use crate::kind::{
     BranchKind, HfiKind, ImmediateKind, LoadKind, RegisterKind, RegisterWordKind, ShiftKind,
@@ -165,7 +165,7 @@ pub const RESET_REGIONS: u64 = 12;
 
 impl UpperKind {
     pub fn code(self) -> u64
-        ensures { result ≡ upperCode self }
+        ensures { result ≡ upper_code self }
     {
         match self {
             UpperKind::Lui => LUI,
@@ -176,7 +176,7 @@ impl UpperKind {
 
 impl BranchKind {
     pub fn code(self) -> u64
-        ensures { result ≡ branchCode self }
+        ensures { result ≡ branch_code self }
     {
         match self {
             BranchKind::Beq => BEQ,
@@ -191,7 +191,7 @@ impl BranchKind {
 
 impl LoadKind {
     pub fn code(self) -> u64
-        ensures { result ≡ loadCode self }
+        ensures { result ≡ load_code self }
     {
         match self {
             LoadKind::Lb => LB,
@@ -207,7 +207,7 @@ impl LoadKind {
 
 impl StoreKind {
     pub fn code(self) -> u64
-        ensures { result ≡ storeCode self }
+        ensures { result ≡ store_code self }
     {
         match self {
             StoreKind::Sb => SB,
@@ -220,7 +220,7 @@ impl StoreKind {
 
 impl ImmediateKind {
     pub fn code(self) -> u64
-        ensures { result ≡ immediateCode self }
+        ensures { result ≡ immediate_code self }
     {
         match self {
             ImmediateKind::Addi => ADDI,
@@ -235,7 +235,7 @@ impl ImmediateKind {
 
 impl ShiftKind {
     pub fn code(self) -> u64
-        ensures { result ≡ shiftCode self }
+        ensures { result ≡ shift_code self }
     {
         match self {
             ShiftKind::Slli => SLLI,
@@ -247,7 +247,7 @@ impl ShiftKind {
 
 impl ShiftWordKind {
     pub fn code(self) -> u64
-        ensures { result ≡ shiftWordCode self }
+        ensures { result ≡ shift_word_code self }
     {
         match self {
             ShiftWordKind::Slliw => SLLIW,
@@ -259,7 +259,7 @@ impl ShiftWordKind {
 
 impl RegisterKind {
     pub fn code(self) -> u64
-        ensures { result ≡ registerCode self }
+        ensures { result ≡ register_code self }
     {
         match self {
             RegisterKind::Add => ADD,
@@ -286,7 +286,7 @@ impl RegisterKind {
 
 impl RegisterWordKind {
     pub fn code(self) -> u64
-        ensures { result ≡ registerWordCode self }
+        ensures { result ≡ register_word_code self }
     {
         match self {
             RegisterWordKind::Addw => ADDW,
@@ -305,7 +305,7 @@ impl RegisterWordKind {
 
 impl SystemKind {
     pub fn code(self) -> u64
-        ensures { result ≡ systemCode self }
+        ensures { result ≡ system_code self }
     {
         match self {
             SystemKind::Ecall => ECALL,
@@ -316,7 +316,7 @@ impl SystemKind {
 
 impl HfiKind {
     pub fn code(self) -> u64
-        ensures { result ≡ hfiCode self }
+        ensures { result ≡ hfi_code self }
     {
         match self {
             HfiKind::Enter => ENTER,

@@ -12,15 +12,15 @@ use Rattle.scheduler.specs.declared.Turned.{Turned}
 use Rattle.scheduler.specs.declared.Put.{Put}
 use Rattle.koubospar.specs.declared.scheduled.TurnStop.{TurnStop}
 
-abbrev pub stopWith : Stop → Machine → Stepped
-stopWith r m = record { stop = r.stop; address = r.address; machine = m }
+abbrev pub stop_with : Stop → Machine → Stepped
+stop_with r m = record { stop = r.stop; address = r.address; machine = m }
 
-abbrev pub runStopWith : RunStop → Machine → Ran
-runStopWith r m = record { stop = r.stop; count = r.count; address = r.address; machine = m }
+abbrev pub run_stop_with : RunStop → Machine → Ran
+run_stop_with r m = record { stop = r.stop; count = r.count; address = r.address; machine = m }
 
 -- a turn's answer with the slots that it left, and whether a machine was put there
-abbrev pub turnStopWith : TurnStop → Scheduler → Turned
-turnStopWith r s = record { slot = r.slot; stop = r.stop; count = r.count; address = r.address; scheduler = s }
+abbrev pub turn_stop_with : TurnStop → Scheduler → Turned
+turn_stop_with r s = record { slot = r.slot; stop = r.stop; count = r.count; address = r.address; scheduler = s }
 
-abbrev pub putWith : Bool → Scheduler → Put
-putWith done s = record { done = done; scheduler = s }
+abbrev pub put_with : Bool → Scheduler → Put
+put_with done s = record { done = done; scheduler = s }

@@ -5,7 +5,7 @@ use Rattle.model.specs.declared.Stepped.{Stepped}
 use Rattle.model.specs.declared.Ran.{Ran}
 
 -- what a run of one step answers, as the step's own answer
-abbrev pub asStep : Ran → Stepped
-asStep r =
+abbrev pub as_step : Ran → Stepped
+as_step r =
     cond (eqb r.count 1) (record { stop = 0; address = 0; machine = r.machine })
     (record { stop = r.stop; address = r.address; machine = r.machine })

@@ -1,9 +1,9 @@
 // "The oven's main loop keeps one machine record and lends it to each call, which updates it there."
 ghost use Rattle.std.specs.Prelude.{◌≡◌};
-ghost use Rattle.model.specs.Outcome.{steppedWith};
-ghost use Rattle.model.specs.Step.{stepCall, resumeCall};
-ghost use Rattle.model.specs.Run.{ranWith, runCall};
-ghost use Rattle.koubospar.specs.Lent.{stopWith, runStopWith};
+ghost use Rattle.model.specs.Outcome.{stepped_with};
+ghost use Rattle.model.specs.Step.{step_call, resume_call};
+ghost use Rattle.model.specs.Run.{ran_with, run_call};
+ghost use Rattle.koubospar.specs.Lent.{stop_with, run_stop_with};
 
 use crate::single::single_step;
 use model::Machine;
@@ -28,7 +28,7 @@ pub struct RunStop {
 // One step.
 #[unsafe(no_mangle)]
 pub extern "C" fn koubospar_step(m: &mut Machine, mem: &mut [u8]) -> Stop
-    ensures { steppedWith (stopWith result m.new) mem.new ≡ stepCall m.old mem.old }
+    ensures { stepped_with (stop_with result m.new) mem.new ≡ step_call m.old mem.old }
 {
     let r = single_step(*m, mem);
     *m = r.machine;
@@ -41,7 +41,7 @@ pub extern "C" fn koubospar_step(m: &mut Machine, mem: &mut [u8]) -> Stop
 // A run of at most `budget` steps.
 #[unsafe(no_mangle)]
 pub extern "C" fn koubospar_run(m: &mut Machine, mem: &mut [u8], budget: u64) -> RunStop
-    ensures { ranWith (runStopWith result m.new) mem.new ≡ runCall m.old mem.old budget }
+    ensures { ran_with (run_stop_with result m.new) mem.new ≡ run_call m.old mem.old budget }
 {
     let r = run::run_call(*m, mem, budget);
     *m = r.machine;
@@ -55,7 +55,7 @@ pub extern "C" fn koubospar_run(m: &mut Machine, mem: &mut [u8], budget: u64) ->
 // `v` in x10, and pc past the word that it stands at: meant for stop 18.
 #[unsafe(no_mangle)]
 pub extern "C" fn koubospar_resume(m: &mut Machine, v: u64) -> Stop
-    ensures { stopWith result m.new ≡ resumeCall m.old v }
+    ensures { stop_with result m.new ≡ resume_call m.old v }
 {
     let r = step::call::resume_call(*m, v);
     *m = r.machine;

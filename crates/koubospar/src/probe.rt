@@ -1,7 +1,7 @@
 // Another number in each place of the machine's record, there and back, by which a controller tests its own declaration
 // of the record. No contract sees the order of a record's fields, so this test (c/try) is the only guard of the layout.
 ghost use Rattle.std.specs.Prelude.{◌≡◌, ◌+◌, ◌<◌};
-ghost use Rattle.koubospar.specs.Probe.{probe, inHart, inRegion, inFault, at_place};
+ghost use Rattle.koubospar.specs.Probe.{probe, in_hart, in_region, in_fault, at_place};
 ghost use Rattle.instructions.specs.Table.{lookup};
 
 use model::{Fault, HfiState, LAST_REGION, Machine, Region};
@@ -70,7 +70,7 @@ pub extern "C" fn koubospar_probe() -> Machine
 
 // What stands in place i of the registers, pc and the HFI state before its regions.
 fn in_hart(m: Machine, i: u64) -> u64
-    ensures { result ≡ lookup 0 (inHart m) i }
+    ensures { result ≡ lookup 0 (in_hart m) i }
 {
     let hfi = m.hfi;
     match i {
@@ -88,7 +88,7 @@ fn in_hart(m: Machine, i: u64) -> u64
 }
 
 fn in_region(r: Region, i: u64) -> u64
-    ensures { result ≡ lookup 0 (inRegion r) i }
+    ensures { result ≡ lookup 0 (in_region r) i }
 {
     match i {
         0 => r.base,
@@ -99,7 +99,7 @@ fn in_region(r: Region, i: u64) -> u64
 }
 
 fn in_fault(f: Fault, i: u64) -> u64
-    ensures { result ≡ lookup 0 (inFault f) i }
+    ensures { result ≡ lookup 0 (in_fault f) i }
 {
     match i {
         0 => f.occurred,

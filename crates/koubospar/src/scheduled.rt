@@ -1,7 +1,7 @@
 // Several machines in turn: the main loop keeps the slots and lends them to each turn, which updates them there.
 ghost use Rattle.std.specs.Prelude.{◌≡◌};
-ghost use Rattle.scheduler.specs.Turn.{turnedWith, turnCall, putCall};
-ghost use Rattle.koubospar.specs.Lent.{turnStopWith, putWith};
+ghost use Rattle.scheduler.specs.Turn.{turned_with, turn_call, put_call};
+ghost use Rattle.koubospar.specs.Lent.{turn_stop_with, put_with};
 
 use model::Machine;
 use scheduler::Scheduler;
@@ -19,7 +19,7 @@ pub struct TurnStop {
 // One turn.
 #[unsafe(no_mangle)]
 pub extern "C" fn koubospar_turn(s: &mut Scheduler, mem: &mut [u8], allowance: u64) -> TurnStop
-    ensures { turnedWith (turnStopWith result s.new) mem.new ≡ turnCall s.old mem.old allowance }
+    ensures { turned_with (turn_stop_with result s.new) mem.new ≡ turn_call s.old mem.old allowance }
 {
     let r = turn::turn_call(*s, mem, allowance);
     *s = r.scheduler;
@@ -34,7 +34,7 @@ pub extern "C" fn koubospar_turn(s: &mut Scheduler, mem: &mut [u8], allowance: u
 // A machine put into slot n; or there is no such slot, and nothing has changed.
 #[unsafe(no_mangle)]
 pub extern "C" fn koubospar_put(s: &mut Scheduler, n: u64, m: &Machine) -> bool
-    ensures { putWith result s.new ≡ putCall s.old n m.now }
+    ensures { put_with result s.new ≡ put_call s.old n m.now }
 {
     let r = turn::put_call(*s, n, *m);
     *s = r.scheduler;

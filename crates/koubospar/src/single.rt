@@ -1,15 +1,15 @@
 // One step by value, as a run of one step: the library then has one loop of steps and no second copy of what is in it,
 // which the compiler would otherwise keep apart from the loop (bench/README.md has what that costs).
 ghost use Rattle.std.specs.Prelude.{◌≡◌};
-ghost use Rattle.model.specs.Step.{stepCall};
-ghost use Rattle.model.specs.Outcome.{steppedWith};
-ghost use Rattle.koubospar.specs.Single.{asStep};
+ghost use Rattle.model.specs.Step.{step_call};
+ghost use Rattle.model.specs.Outcome.{stepped_with};
+ghost use Rattle.koubospar.specs.Single.{as_step};
 
 use model::{Machine, Ran, Stepped};
 
 // The answer of a run of one step as the step's own: a run that has counted its step answers 20 or 21, the step 0.
 fn as_step(r: Ran) -> Stepped
-    ensures { result ≡ asStep r }
+    ensures { result ≡ as_step r }
 {
     let m = r.machine;
     if r.count == 1 {
@@ -28,7 +28,7 @@ fn as_step(r: Ran) -> Stepped
 
 // One step of any machine over any memory.
 pub fn single_step(m: Machine, mem: &mut [u8]) -> Stepped
-    ensures { steppedWith result mem.new ≡ stepCall m mem.old }
+    ensures { stepped_with result mem.new ≡ step_call m mem.old }
 {
     as_step(run::run_call(m, mem, 1))
 }

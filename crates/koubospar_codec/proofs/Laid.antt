@@ -7,8 +7,8 @@ use Prim.Native.Nat.{ℕ, ◌^◌, ◌<◌}
 use native.Mathlib.Omega.{arith}
 use lib.Dec.{eqb}
 use borrow.Author.Tests.{eqb-true, eq-eqb}
-use Rattle.instructions.specs.Decode.{provided, decodeWord}
-use Rattle.instructions.specs.Encode.{encodeWord}
+use Rattle.instructions.specs.Decode.{provided, decode_word}
+use Rattle.instructions.specs.Encode.{encode_word}
 use Rattle.instructions.specs.declared.kind.UpperKind.{UpperKind}
 use Rattle.instructions.specs.declared.kind.BranchKind.{BranchKind}
 use Rattle.instructions.specs.declared.kind.LoadKind.{LoadKind}
@@ -26,31 +26,31 @@ use Rattle.instructions.specs.declared.instruction.Decoded.{Decoded}
 use Rattle.instructions.specs.declared.instruction.Decoded.TheVariants.{Legal, Illegal}
 use Rattle.instructions.specs.declared.instruction.Encoded.TheVariants.{Word}
 use Rattle.instructions.proofs.Tests.{and_both}
-use Rattle.instructions.proofs.Tables.{upper-code, branch-code, load_code, store_code, immediate-code, shift-code, shift-word-code, register-code, register-word-code, system-code, hfi-code}
-use Rattle.instructions.proofs.RoundTrip.{encode-of-decode}
-use Rattle.koubospar_codec.specs.Flat.{flatten, unflatten, same, laidOut, stands_for, encodeDecoded, encodeFlat}
+use Rattle.instructions.proofs.Tables.{upper_code_lem, branch_code_lem, load_code_lem, store_code_lem, immediate_code_lem, shift_code_lem, shift_word_code_lem, register_code_lem, register_word_code_lem, system_code_lem, hfi_code_lem}
+use Rattle.instructions.proofs.RoundTrip.{encode_of_decode}
+use Rattle.koubospar_codec.specs.Flat.{flatten, unflatten, same, laid_out, stands_for, encode_decoded, encode_flat}
 use Rattle.koubospar_codec.specs.declared.flat.Flat.{Flat}
 
 -- ---- what is laid out is read back: each kind is found under its code
 
-pub unflatten-flatten : (i : Instruction) → unflatten (flatten i) ≡ Legal i
-unflatten-flatten (Upper k rd imm) = (upper-code k).found Decoded (λ (j : UpperKind). Legal (Upper j rd imm)) Illegal
-unflatten-flatten (Jal rd offset) = refl
-unflatten-flatten (Jalr rd rs1 imm) = refl
-unflatten-flatten (Branch k rs1 rs2 offset) = (branch-code k).found Decoded (λ (j : BranchKind). Legal (Branch j rs1 rs2 offset)) Illegal
-unflatten-flatten (Load k rd rs1 imm) = (load_code k).found Decoded (λ (j : LoadKind). Legal (Load j rd rs1 imm)) Illegal
-unflatten-flatten (Store k rs1 rs2 imm) = (store_code k).found Decoded (λ (j : StoreKind). Legal (Store j rs1 rs2 imm)) Illegal
-unflatten-flatten (Immediate k rd rs1 imm) = (immediate-code k).found Decoded (λ (j : ImmediateKind). Legal (Immediate j rd rs1 imm)) Illegal
-unflatten-flatten (Shift k rd rs1 amount) = (shift-code k).found Decoded (λ (j : ShiftKind). Legal (Shift j rd rs1 amount)) Illegal
-unflatten-flatten (Addiw rd rs1 imm) = refl
-unflatten-flatten (ShiftWord k rd rs1 amount) = (shift-word-code k).found Decoded (λ (j : ShiftWordKind). Legal (ShiftWord j rd rs1 amount)) Illegal
-unflatten-flatten (Register k rd rs1 rs2) = (register-code k).found Decoded (λ (j : RegisterKind). Legal (Register j rd rs1 rs2)) Illegal
-unflatten-flatten (RegisterWord k rd rs1 rs2) = (register-word-code k).found Decoded (λ (j : RegisterWordKind). Legal (RegisterWord j rd rs1 rs2)) Illegal
-unflatten-flatten (Fence fm pred succ rs1 rd) = refl
-unflatten-flatten (System k) = (system-code k).found Decoded (λ (j : SystemKind). Legal (System j)) Illegal
-unflatten-flatten (HLoad k region rd rs1 imm) = (load_code k).found Decoded (λ (j : LoadKind). Legal (HLoad j region rd rs1 imm)) Illegal
-unflatten-flatten (HStore k region rs1 rs2 imm) = (store_code k).found Decoded (λ (j : StoreKind). Legal (HStore j region rs1 rs2 imm)) Illegal
-unflatten-flatten (Hfi k rd rs1 rs2) = (hfi-code k).found Decoded (λ (j : HfiKind). Legal (Hfi j rd rs1 rs2)) Illegal
+pub unflatten_flatten : (i : Instruction) → unflatten (flatten i) ≡ Legal i
+unflatten_flatten (Upper k rd imm) = (upper_code_lem k).found Decoded (λ (j : UpperKind). Legal (Upper j rd imm)) Illegal
+unflatten_flatten (Jal rd offset) = refl
+unflatten_flatten (Jalr rd rs1 imm) = refl
+unflatten_flatten (Branch k rs1 rs2 offset) = (branch_code_lem k).found Decoded (λ (j : BranchKind). Legal (Branch j rs1 rs2 offset)) Illegal
+unflatten_flatten (Load k rd rs1 imm) = (load_code_lem k).found Decoded (λ (j : LoadKind). Legal (Load j rd rs1 imm)) Illegal
+unflatten_flatten (Store k rs1 rs2 imm) = (store_code_lem k).found Decoded (λ (j : StoreKind). Legal (Store j rs1 rs2 imm)) Illegal
+unflatten_flatten (Immediate k rd rs1 imm) = (immediate_code_lem k).found Decoded (λ (j : ImmediateKind). Legal (Immediate j rd rs1 imm)) Illegal
+unflatten_flatten (Shift k rd rs1 amount) = (shift_code_lem k).found Decoded (λ (j : ShiftKind). Legal (Shift j rd rs1 amount)) Illegal
+unflatten_flatten (Addiw rd rs1 imm) = refl
+unflatten_flatten (ShiftWord k rd rs1 amount) = (shift_word_code_lem k).found Decoded (λ (j : ShiftWordKind). Legal (ShiftWord j rd rs1 amount)) Illegal
+unflatten_flatten (Register k rd rs1 rs2) = (register_code_lem k).found Decoded (λ (j : RegisterKind). Legal (Register j rd rs1 rs2)) Illegal
+unflatten_flatten (RegisterWord k rd rs1 rs2) = (register_word_code_lem k).found Decoded (λ (j : RegisterWordKind). Legal (RegisterWord j rd rs1 rs2)) Illegal
+unflatten_flatten (Fence fm pred succ rs1 rd) = refl
+unflatten_flatten (System k) = (system_code_lem k).found Decoded (λ (j : SystemKind). Legal (System j)) Illegal
+unflatten_flatten (HLoad k region rd rs1 imm) = (load_code_lem k).found Decoded (λ (j : LoadKind). Legal (HLoad j region rd rs1 imm)) Illegal
+unflatten_flatten (HStore k region rs1 rs2 imm) = (store_code_lem k).found Decoded (λ (j : StoreKind). Legal (HStore j region rs1 rs2 imm)) Illegal
+unflatten_flatten (Hfi k rd rs1 rs2) = (hfi_code_lem k).found Decoded (λ (j : HfiKind). Legal (Hfi j rd rs1 rs2)) Illegal
 
 -- ---- a record that stands for an instruction is that instruction laid out, and the other way
 
@@ -70,8 +70,8 @@ same_refl f =
       t f.region,
     ) refl
 
-same-equal : (a b : Flat) → same a b ≡ true → a ≡ b
-same-equal a b h =
+same_equal : (a b : Flat) → same a b ≡ true → a ≡ b
+same_equal a b h =
     let p = and_both _ _ h in
     let shape = and_both _ _ p.0 in
     let q = and_both _ _ p.1 in
@@ -94,31 +94,31 @@ same-equal a b h =
       region = eqb-true a.region b.region s.1 i;
     }
 
-pub stands-flatten : (i : Instruction) → stands_for (flatten i) ≡ Legal i
-stands-flatten i = rw (unflatten-flatten i, same_refl (flatten i)) refl
+pub stands_flatten : (i : Instruction) → stands_for (flatten i) ≡ Legal i
+stands_flatten i = rw (unflatten_flatten i, same_refl (flatten i)) refl
 
 -- what a record stands for is laid out as that record
-pub flatten-stands : (f : Flat) (i : Instruction) → stands_for f ≡ Legal i → flatten i ≡ f
-flatten-stands f i e = read (unflatten f) e
+pub flatten_stands : (f : Flat) (i : Instruction) → stands_for f ≡ Legal i → flatten i ≡ f
+flatten_stands f i e = read (unflatten f) e
   where
     told : (b : Bool) (j : Instruction) → provided b (Legal j) ≡ Legal i → (b ≡ true) × (j ≡ i)
     told true j e = (refl, cc)
     told false j e = let z : ◌≡◌ {A = ℕ} 0 1 = cc in absurd (omega arith)
 
-    read : (d : Decoded) → laidOut f d ≡ Legal i → flatten i ≡ f
+    read : (d : Decoded) → laid_out f d ≡ Legal i → flatten i ≡ f
     read (Legal j) e =
         let t = told (same (flatten j) f) j e in
-        ap flatten (sym t.1) ∙ same-equal (flatten j) f t.0
+        ap flatten (sym t.1) ∙ same_equal (flatten j) f t.0
     read Illegal e = let z : ◌≡◌ {A = ℕ} 0 1 = cc in absurd (omega arith)
 
-pub stands-exactly : (f : Flat) (i : Instruction) → (stands_for f ≡ Legal i) ↔ (flatten i ≡ f)
-stands-exactly f i = (flatten-stands f i, λ e. ap stands_for (sym e) ∙ stands-flatten i)
+pub stands_exactly : (f : Flat) (i : Instruction) → (stands_for f ≡ Legal i) ↔ (flatten i ≡ f)
+stands_exactly f i = (flatten_stands f i, λ e. ap stands_for (sym e) ∙ stands_flatten i)
 
 -- ---- so the codec by records is the codec by instructions
 
-pub encode-flatten : (i : Instruction) → encodeFlat (flatten i) ≡ encodeWord i
-encode-flatten i = ap encodeDecoded (stands-flatten i)
+pub encode_flatten : (i : Instruction) → encode_flat (flatten i) ≡ encode_word i
+encode_flatten i = ap encode_decoded (stands_flatten i)
 
 -- what a legal word is decoded to is encoded to that word again
-pub encode-decode : (w : ℕ) (i : Instruction) → w < 2 ^ 32 → decodeWord w ≡ Legal i → encodeFlat (flatten i) ≡ Word w
-encode-decode w i h e = encode-flatten i ∙ encode-of-decode w i h e
+pub encode_decode : (w : ℕ) (i : Instruction) → w < 2 ^ 32 → decode_word w ≡ Legal i → encode_flat (flatten i) ≡ Word w
+encode_decode w i h e = encode_flatten i ∙ encode_of_decode w i h e

@@ -5,8 +5,8 @@ use mathlib.Core.Path.{◌≡◌, refl}
 use mathlib.Core.List.{List, [], ◌∷◌, map}
 use Prim.Native.Nat.{ℕ, ◌-◌, ◌^◌}
 use Rattle.words.specs.Word.{sext}
-use Rattle.instructions.specs.Decode.{decodeWord}
-use Rattle.koubospar_codec.specs.Flat.{flatDecoded}
+use Rattle.instructions.specs.Decode.{decode_word}
+use Rattle.koubospar_codec.specs.Flat.{flat_decoded}
 use Rattle.koubospar_codec.specs.declared.flat.FlatDecoded.{FlatDecoded}
 
 -- group, kind, rd, rs1, rs2, imm
@@ -26,8 +26,8 @@ fence f p s a d =
     }
 
 -- an h-word: group, kind, region, rd, rs1, rs2, imm
-abbrev hWord : ℕ → ℕ → ℕ → ℕ → ℕ → ℕ → ℕ → FlatDecoded
-hWord g k r d a b i =
+abbrev h_word : ℕ → ℕ → ℕ → ℕ → ℕ → ℕ → ℕ → FlatDecoded
+h_word g k r d a b i =
     record {
       number = 0;
       instruction = record { group = g; kind = k; rd = d; rs1 = a; rs2 = b; imm = i; fm = 0; pred = 0; succ = 0; region = r };
@@ -49,8 +49,8 @@ rows =
     ∷ (0x41c807bb, legal 12 0x100 15 16 28 0)  -- subw x15, x16, x28
     ∷ (0xa6350a8f, fence 10 6 3 10 21)  -- .insn i 0x0f, 0, x21, x10, -0x59d
     ∷ (0x00100073, legal 14 1 0 0 0 0)  -- ebreak
-    ∷ (0xca56998b, hWord 15 1 4 3 13 0 (2 ^ 64 - 0x35b))  -- .insn i 0x0b, 1, x19, x13, -0x35b
-    ∷ (0x2e4313ab, hWord 16 1 1 0 6 4 0x2e7)  -- .insn s 0x2b, 1, x4, 0x2e7(x6)
+    ∷ (0xca56998b, h_word 15 1 4 3 13 0 (2 ^ 64 - 0x35b))  -- .insn i 0x0b, 1, x19, x13, -0x35b
+    ∷ (0x2e4313ab, h_word 16 1 1 0 6 4 0x2e7)  -- .insn s 0x2b, 1, x4, 0x2e7(x6)
     ∷ (0x026a805b, legal 17 1 0 21 6 0)  -- .insn r 0x5b, 0, 1, x0, x21, x6
     -- RV64M
     ∷ (0x02e806b3, legal 11 8 13 16 14 0)  -- mul x13, x16, x14
@@ -68,6 +68,6 @@ rows =
     ∷ (0x02fdfb3b, legal 12 15 22 27 15 0)  -- remuw x22, x27, x15
     ∷ []
 
-pub numbers : map (λ r. flatDecoded (decodeWord r.0)) rows ≡ map (λ r. r.1) rows
-unfolding decodeWord sext
+pub numbers : map (λ r. flat_decoded (decode_word r.0)) rows ≡ map (λ r. r.1) rows
+unfolding decode_word sext
 numbers = refl

@@ -3,10 +3,10 @@
 -- instructions/src/instruction.rt. Assumes nothing.
 use Rattle.std.specs.Prelude.{Bool, true, false, ◌&&◌, List, [], ◌∷◌, ℕ, eqb}
 use Rattle.instructions.specs.Table.{lookup}
-use Rattle.instructions.specs.Kinds.{upperCode, branchCode, loadCode, storeCode, immediateCode, shiftCode, shiftWordCode, registerCode, registerWordCode, systemCode, hfiCode}
-use Rattle.instructions.specs.Decode.{upperAt, branchAt, loadAt, storeAt, immediateAt, shiftAt, shiftWordAt, registerAt, registerWordAt, systemAt, hfiAt, provided}
-use Rattle.instructions.specs.Encode.{encodeWord}
-use Rattle.instructions.specs.Answers.{decodeNumber, encodeNumber, wordAnswered}
+use Rattle.instructions.specs.Kinds.{upper_code, branch_code, load_code, store_code, immediate_code, shift_code, shift_word_code, register_code, register_word_code, system_code, hfi_code}
+use Rattle.instructions.specs.Decode.{upper_at, branch_at, load_at, store_at, immediate_at, shift_at, shift_word_at, register_at, register_word_at, system_at, hfi_at, provided}
+use Rattle.instructions.specs.Encode.{encode_word}
+use Rattle.instructions.specs.Answers.{decode_number, encode_number, word_answered}
 use Rattle.instructions.specs.declared.instruction.Instruction.{Instruction}
 use Rattle.instructions.specs.declared.instruction.Instruction.TheVariants.{Upper, Jal, Jalr, Branch, Load, Store, Immediate, Shift, Addiw, ShiftWord, Register, RegisterWord, Fence, System, HLoad, HStore, Hfi}
 use Rattle.instructions.specs.declared.instruction.Decoded.{Decoded}
@@ -22,13 +22,13 @@ abbrev pub layout : ℕ → ℕ → ℕ → ℕ → ℕ → ℕ → Flat
 layout group kind rd rs1 rs2 imm =
     record { group = group; kind = kind; rd = rd; rs1 = rs1; rs2 = rs2; imm = imm; fm = 0; pred = 0; succ = 0; region = 0 }
 
-abbrev pub fenceLayout : ℕ → ℕ → ℕ → ℕ → ℕ → Flat
-fenceLayout fm pred succ rs1 rd =
+abbrev pub fence_layout : ℕ → ℕ → ℕ → ℕ → ℕ → Flat
+fence_layout fm pred succ rs1 rd =
     record { group = 13; kind = 0; rd = rd; rs1 = rs1; rs2 = 0; imm = 0; fm = fm; pred = pred; succ = succ; region = 0 }
 
 -- group, kind, region, rd, rs1, rs2, immediate
-abbrev pub hWordLayout : ℕ → ℕ → ℕ → ℕ → ℕ → ℕ → ℕ → Flat
-hWordLayout group kind region rd rs1 rs2 imm =
+abbrev pub h_word_layout : ℕ → ℕ → ℕ → ℕ → ℕ → ℕ → ℕ → Flat
+h_word_layout group kind region rd rs1 rs2 imm =
     record { group = group; kind = kind; rd = rd; rs1 = rs1; rs2 = rs2; imm = imm; fm = 0; pred = 0; succ = 0; region = region }
 
 -- what goes with 13
@@ -36,44 +36,44 @@ abbrev pub nothing : Flat
 nothing = layout 0 0 0 0 0 0
 
 abbrev pub flatten : Instruction → Flat
-flatten (Upper k rd imm) = layout 1 (upperCode k) rd 0 0 imm
+flatten (Upper k rd imm) = layout 1 (upper_code k) rd 0 0 imm
 flatten (Jal rd offset) = layout 2 0 rd 0 0 offset
 flatten (Jalr rd rs1 imm) = layout 3 0 rd rs1 0 imm
-flatten (Branch k rs1 rs2 offset) = layout 4 (branchCode k) 0 rs1 rs2 offset
-flatten (Load k rd rs1 imm) = layout 5 (loadCode k) rd rs1 0 imm
-flatten (Store k rs1 rs2 imm) = layout 6 (storeCode k) 0 rs1 rs2 imm
-flatten (Immediate k rd rs1 imm) = layout 7 (immediateCode k) rd rs1 0 imm
-flatten (Shift k rd rs1 amount) = layout 8 (shiftCode k) rd rs1 0 amount
+flatten (Branch k rs1 rs2 offset) = layout 4 (branch_code k) 0 rs1 rs2 offset
+flatten (Load k rd rs1 imm) = layout 5 (load_code k) rd rs1 0 imm
+flatten (Store k rs1 rs2 imm) = layout 6 (store_code k) 0 rs1 rs2 imm
+flatten (Immediate k rd rs1 imm) = layout 7 (immediate_code k) rd rs1 0 imm
+flatten (Shift k rd rs1 amount) = layout 8 (shift_code k) rd rs1 0 amount
 flatten (Addiw rd rs1 imm) = layout 9 0 rd rs1 0 imm
-flatten (ShiftWord k rd rs1 amount) = layout 10 (shiftWordCode k) rd rs1 0 amount
-flatten (Register k rd rs1 rs2) = layout 11 (registerCode k) rd rs1 rs2 0
-flatten (RegisterWord k rd rs1 rs2) = layout 12 (registerWordCode k) rd rs1 rs2 0
-flatten (Fence fm pred succ rs1 rd) = fenceLayout fm pred succ rs1 rd
-flatten (System k) = layout 14 (systemCode k) 0 0 0 0
-flatten (HLoad k region rd rs1 imm) = hWordLayout 15 (loadCode k) region rd rs1 0 imm
-flatten (HStore k region rs1 rs2 imm) = hWordLayout 16 (storeCode k) region 0 rs1 rs2 imm
-flatten (Hfi k rd rs1 rs2) = layout 17 (hfiCode k) rd rs1 rs2 0
+flatten (ShiftWord k rd rs1 amount) = layout 10 (shift_word_code k) rd rs1 0 amount
+flatten (Register k rd rs1 rs2) = layout 11 (register_code k) rd rs1 rs2 0
+flatten (RegisterWord k rd rs1 rs2) = layout 12 (register_word_code k) rd rs1 rs2 0
+flatten (Fence fm pred succ rs1 rd) = fence_layout fm pred succ rs1 rd
+flatten (System k) = layout 14 (system_code k) 0 0 0 0
+flatten (HLoad k region rd rs1 imm) = h_word_layout 15 (load_code k) region rd rs1 0 imm
+flatten (HStore k region rs1 rs2 imm) = h_word_layout 16 (store_code k) region 0 rs1 rs2 imm
+flatten (Hfi k rd rs1 rs2) = layout 17 (hfi_code k) rd rs1 rs2 0
 
 -- what is read under each group
 abbrev pub groups : Flat → List (ℕ × Decoded)
 groups f =
-    (1, upperAt f.kind f.rd f.imm)
+    (1, upper_at f.kind f.rd f.imm)
     ∷ (2, Legal (Jal f.rd f.imm))
     ∷ (3, Legal (Jalr f.rd f.rs1 f.imm))
-    ∷ (4, branchAt f.kind f.rs1 f.rs2 f.imm)
-    ∷ (5, loadAt false f.kind 0 f.rd f.rs1 f.imm)
-    ∷ (6, storeAt false f.kind 0 f.rs1 f.rs2 f.imm)
-    ∷ (7, immediateAt f.kind f.rd f.rs1 f.imm)
-    ∷ (8, shiftAt f.kind f.rd f.rs1 f.imm)
+    ∷ (4, branch_at f.kind f.rs1 f.rs2 f.imm)
+    ∷ (5, load_at false f.kind 0 f.rd f.rs1 f.imm)
+    ∷ (6, store_at false f.kind 0 f.rs1 f.rs2 f.imm)
+    ∷ (7, immediate_at f.kind f.rd f.rs1 f.imm)
+    ∷ (8, shift_at f.kind f.rd f.rs1 f.imm)
     ∷ (9, Legal (Addiw f.rd f.rs1 f.imm))
-    ∷ (10, shiftWordAt f.kind f.rd f.rs1 f.imm)
-    ∷ (11, registerAt f.kind f.rd f.rs1 f.rs2)
-    ∷ (12, registerWordAt f.kind f.rd f.rs1 f.rs2)
+    ∷ (10, shift_word_at f.kind f.rd f.rs1 f.imm)
+    ∷ (11, register_at f.kind f.rd f.rs1 f.rs2)
+    ∷ (12, register_word_at f.kind f.rd f.rs1 f.rs2)
     ∷ (13, Legal (Fence f.fm f.pred f.succ f.rs1 f.rd))
-    ∷ (14, systemAt f.kind)
-    ∷ (15, loadAt true f.kind f.region f.rd f.rs1 f.imm)
-    ∷ (16, storeAt true f.kind f.region f.rs1 f.rs2 f.imm)
-    ∷ (17, hfiAt f.kind f.rd f.rs1 f.rs2)
+    ∷ (14, system_at f.kind)
+    ∷ (15, load_at true f.kind f.region f.rd f.rs1 f.imm)
+    ∷ (16, store_at true f.kind f.region f.rs1 f.rs2 f.imm)
+    ∷ (17, hfi_at f.kind f.rd f.rs1 f.rs2)
     ∷ []
 
 -- the instruction that is read from the record, whatever the fields that its group lacks
@@ -88,30 +88,30 @@ same a b =
     && ((eqb a.fm b.fm && (eqb a.pred b.pred && eqb a.succ b.succ)) && eqb a.region b.region)))
 
 -- the instruction, where the record is that instruction laid out
-abbrev pub laidOut : Flat → Decoded → Decoded
-laidOut f (Legal i) = provided (same (flatten i) f) (Legal i)
-laidOut f Illegal = Illegal
+abbrev pub laid_out : Flat → Decoded → Decoded
+laid_out f (Legal i) = provided (same (flatten i) f) (Legal i)
+laid_out f Illegal = Illegal
 
 -- the instruction that the record stands for (proofs/Laid.antt: it is that instruction laid out, and exactly then)
 abbrev pub stands_for : Flat → Decoded
-stands_for f = laidOut f (unflatten f)
+stands_for f = laid_out f (unflatten f)
 
 -- ---- the codec
 
-abbrev pub decodedAs : Decoded → Flat
-decodedAs (Legal i) = flatten i
-decodedAs Illegal = nothing
+abbrev pub decoded_as : Decoded → Flat
+decoded_as (Legal i) = flatten i
+decoded_as Illegal = nothing
 
-abbrev pub flatDecoded : Decoded → FlatDecoded
-flatDecoded d = record { number = decodeNumber d; instruction = decodedAs d }
+abbrev pub flat_decoded : Decoded → FlatDecoded
+flat_decoded d = record { number = decode_number d; instruction = decoded_as d }
 
 -- a record that stands for no instruction is refused like a field out of range
-abbrev pub encodeDecoded : Decoded → Encoded
-encodeDecoded (Legal i) = encodeWord i
-encodeDecoded Illegal = OutOfRange
+abbrev pub encode_decoded : Decoded → Encoded
+encode_decoded (Legal i) = encode_word i
+encode_decoded Illegal = OutOfRange
 
-abbrev pub encodeFlat : Flat → Encoded
-encodeFlat f = encodeDecoded (stands_for f)
+abbrev pub encode_flat : Flat → Encoded
+encode_flat f = encode_decoded (stands_for f)
 
-abbrev pub flatEncoded : Encoded → FlatEncoded
-flatEncoded e = record { number = encodeNumber e; word = wordAnswered e }
+abbrev pub flat_encoded : Encoded → FlatEncoded
+flat_encoded e = record { number = encode_number e; word = word_answered e }

@@ -1,8 +1,8 @@
 // An instruction as numbers alone, since an enum cannot cross to C: laid out, read back, decoded and encoded.
 ghost use Rattle.std.specs.Prelude.{◌≡◌};
-ghost use Rattle.instructions.specs.Decode.{decodeWord};
-ghost use Rattle.compressed.specs.Expand.{expandHalf};
-ghost use Rattle.koubospar_codec.specs.Flat.{layout, fenceLayout, hWordLayout, flatten as flattenOf, unflatten as unflattenOf, same as sameAs, stands_for, flatDecoded, flatEncoded, encodeFlat};
+ghost use Rattle.instructions.specs.Decode.{decode_word};
+ghost use Rattle.compressed.specs.Expand.{expand_half};
+ghost use Rattle.koubospar_codec.specs.Flat.{layout, fence_layout, h_word_layout, flatten as flatten_of, unflatten as unflatten_of, same as same_as, stands_for, flat_decoded, flat_encoded, encode_flat};
 
 use decode::decode;
 use encode::encode;
@@ -61,7 +61,7 @@ fn lay_out(group: u64, kind: u64, rd: u64, rs1: u64, rs2: u64, imm: u64) -> Flat
 }
 
 fn lay_out_fence(fm: u64, pred: u64, succ: u64, rs1: u64, rd: u64) -> Flat
-    ensures { result ≡ fenceLayout fm pred succ rs1 rd }
+    ensures { result ≡ fence_layout fm pred succ rs1 rd }
 {
     Flat {
         group: 13,
@@ -78,7 +78,7 @@ fn lay_out_fence(fm: u64, pred: u64, succ: u64, rs1: u64, rd: u64) -> Flat
 }
 
 fn lay_out_h_word(group: u64, kind: u64, region: u64, rd: u64, rs1: u64, rs2: u64, imm: u64) -> Flat
-    ensures { result ≡ hWordLayout group kind region rd rs1 rs2 imm }
+    ensures { result ≡ h_word_layout group kind region rd rs1 rs2 imm }
 {
     Flat {
         group: group,
@@ -95,7 +95,7 @@ fn lay_out_h_word(group: u64, kind: u64, region: u64, rd: u64, rs1: u64, rs2: u6
 }
 
 pub fn flatten(i: Instruction) -> Flat
-    ensures { result ≡ flattenOf i }
+    ensures { result ≡ flatten_of i }
 {
     match i {
         Instruction::Upper(k, rd, imm) => lay_out(1, k.code(), rd, 0, 0, imm),
@@ -136,7 +136,7 @@ pub fn flatten(i: Instruction) -> Flat
 
 // The instruction that is read from the record; fields that its group lacks are not asked about.
 pub fn unflatten(f: Flat) -> Decoded
-    ensures { result ≡ unflattenOf f }
+    ensures { result ≡ unflatten_of f }
 {
     let group = f.group;
     match group {
@@ -162,7 +162,7 @@ pub fn unflatten(f: Flat) -> Decoded
 }
 
 fn same(a: Flat, b: Flat) -> bool
-    ensures { result ≡ sameAs a b }
+    ensures { result ≡ same_as a b }
 {
     let shape = (a.group == b.group) & (a.kind == b.kind);
     let registers = (a.rd == b.rd) & ((a.rs1 == b.rs1) & (a.rs2 == b.rs2));
@@ -186,7 +186,7 @@ pub fn stands_for(f: Flat) -> Decoded
 }
 
 fn answer_decoded(d: Decoded) -> FlatDecoded
-    ensures { result ≡ flatDecoded d }
+    ensures { result ≡ flat_decoded d }
 {
     match d {
         Decoded::Legal(i) => FlatDecoded {
@@ -203,7 +203,7 @@ fn answer_decoded(d: Decoded) -> FlatDecoded
 // The instruction of any word.
 #[unsafe(no_mangle)]
 pub extern "C" fn koubospar_decode(word: u32) -> FlatDecoded
-    ensures { result ≡ flatDecoded (decodeWord word) }
+    ensures { result ≡ flat_decoded (decode_word word) }
 {
     answer_decoded(decode(word))
 }
@@ -211,13 +211,13 @@ pub extern "C" fn koubospar_decode(word: u32) -> FlatDecoded
 // The instruction that any half-word stands for.
 #[unsafe(no_mangle)]
 pub extern "C" fn koubospar_expand(half: u16) -> FlatDecoded
-    ensures { result ≡ flatDecoded (expandHalf half) }
+    ensures { result ≡ flat_decoded (expand_half half) }
 {
     answer_decoded(expand(half))
 }
 
 fn answer_encoded(e: Encoded) -> FlatEncoded
-    ensures { result ≡ flatEncoded e }
+    ensures { result ≡ flat_encoded e }
 {
     match e {
         Encoded::Word(w) => FlatEncoded { number: 0, word: w },
@@ -228,7 +228,7 @@ fn answer_encoded(e: Encoded) -> FlatEncoded
 // The word of any record: one that stands for no instruction is refused like a field out of range.
 #[unsafe(no_mangle)]
 pub extern "C" fn koubospar_encode(f: Flat) -> FlatEncoded
-    ensures { result ≡ flatEncoded (encodeFlat f) }
+    ensures { result ≡ flat_encoded (encode_flat f) }
 {
     let d = stands_for(f);
     match d {

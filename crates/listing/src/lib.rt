@@ -3,7 +3,7 @@
 
 ghost use Rattle.std.specs.Prelude.{◌≡◌};
 ghost use Rattle.instructions.specs.declared.instruction.Decoded.TheVariants.{Legal};
-ghost use Rattle.instructions.specs.Decode.{upperAt, branchAt, load_of, loadAt, store_of, storeAt, immediateAt, shiftAt, shiftWordAt, registerAt, registerWordAt, systemAt, hfiAt};
+ghost use Rattle.instructions.specs.Decode.{upper_at, branch_at, load_of, load_at, store_of, store_at, immediate_at, shift_at, shift_word_at, register_at, register_word_at, system_at, hfi_at};
 
 use instructions::instruction::Decoded::{Illegal, Legal};
 use instructions::instruction::{Decoded, Instruction};
@@ -14,7 +14,7 @@ use instructions::kind::{
 use instructions::{code, opcode};
 
 pub fn upper(code: u64, rd: u64, imm: u64) -> Decoded
-    ensures { result ≡ upperAt code rd imm }
+    ensures { result ≡ upper_at code rd imm }
 {
     match code {
         opcode::LUI => Legal(Instruction::Upper(UpperKind::Lui, rd, imm)),
@@ -24,7 +24,7 @@ pub fn upper(code: u64, rd: u64, imm: u64) -> Decoded
 }
 
 pub fn branch(code: u64, rs1: u64, rs2: u64, offset: u64) -> Decoded
-    ensures { result ≡ branchAt code rs1 rs2 offset }
+    ensures { result ≡ branch_at code rs1 rs2 offset }
 {
     match code {
         code::BEQ => Legal(Instruction::Branch(BranchKind::Beq, rs1, rs2, offset)),
@@ -49,7 +49,7 @@ fn prefixed_load(prefixed: bool, k: LoadKind, region: u64, rd: u64, rs1: u64, im
 }
 
 pub fn load(prefixed: bool, code: u64, region: u64, rd: u64, rs1: u64, imm: u64) -> Decoded
-    ensures { result ≡ loadAt prefixed code region rd rs1 imm }
+    ensures { result ≡ load_at prefixed code region rd rs1 imm }
 {
     match code {
         code::LB => prefixed_load(prefixed, LoadKind::Lb, region, rd, rs1, imm),
@@ -81,7 +81,7 @@ fn prefixed_store(
 }
 
 pub fn store(prefixed: bool, code: u64, region: u64, rs1: u64, rs2: u64, imm: u64) -> Decoded
-    ensures { result ≡ storeAt prefixed code region rs1 rs2 imm }
+    ensures { result ≡ store_at prefixed code region rs1 rs2 imm }
 {
     match code {
         code::SB => prefixed_store(prefixed, StoreKind::Sb, region, rs1, rs2, imm),
@@ -93,7 +93,7 @@ pub fn store(prefixed: bool, code: u64, region: u64, rs1: u64, rs2: u64, imm: u6
 }
 
 pub fn immediate(code: u64, rd: u64, rs1: u64, imm: u64) -> Decoded
-    ensures { result ≡ immediateAt code rd rs1 imm }
+    ensures { result ≡ immediate_at code rd rs1 imm }
 {
     match code {
         code::ADDI => Legal(Instruction::Immediate(ImmediateKind::Addi, rd, rs1, imm)),
@@ -107,7 +107,7 @@ pub fn immediate(code: u64, rd: u64, rs1: u64, imm: u64) -> Decoded
 }
 
 pub fn shift(code: u64, rd: u64, rs1: u64, amount: u64) -> Decoded
-    ensures { result ≡ shiftAt code rd rs1 amount }
+    ensures { result ≡ shift_at code rd rs1 amount }
 {
     match code {
         code::SLLI => Legal(Instruction::Shift(ShiftKind::Slli, rd, rs1, amount)),
@@ -118,7 +118,7 @@ pub fn shift(code: u64, rd: u64, rs1: u64, amount: u64) -> Decoded
 }
 
 pub fn shift_word(code: u64, rd: u64, rs1: u64, amount: u64) -> Decoded
-    ensures { result ≡ shiftWordAt code rd rs1 amount }
+    ensures { result ≡ shift_word_at code rd rs1 amount }
 {
     match code {
         code::SLLIW => Legal(Instruction::ShiftWord(ShiftWordKind::Slliw, rd, rs1, amount)),
@@ -129,7 +129,7 @@ pub fn shift_word(code: u64, rd: u64, rs1: u64, amount: u64) -> Decoded
 }
 
 pub fn register(code: u64, rd: u64, rs1: u64, rs2: u64) -> Decoded
-    ensures { result ≡ registerAt code rd rs1 rs2 }
+    ensures { result ≡ register_at code rd rs1 rs2 }
 {
     match code {
         code::ADD => Legal(Instruction::Register(RegisterKind::Add, rd, rs1, rs2)),
@@ -155,7 +155,7 @@ pub fn register(code: u64, rd: u64, rs1: u64, rs2: u64) -> Decoded
 }
 
 pub fn register_word(code: u64, rd: u64, rs1: u64, rs2: u64) -> Decoded
-    ensures { result ≡ registerWordAt code rd rs1 rs2 }
+    ensures { result ≡ register_word_at code rd rs1 rs2 }
 {
     match code {
         code::ADDW => Legal(Instruction::RegisterWord(RegisterWordKind::Addw, rd, rs1, rs2)),
@@ -173,7 +173,7 @@ pub fn register_word(code: u64, rd: u64, rs1: u64, rs2: u64) -> Decoded
 }
 
 pub fn system(code: u64) -> Decoded
-    ensures { result ≡ systemAt code }
+    ensures { result ≡ system_at code }
 {
     match code {
         code::ECALL => Legal(Instruction::System(SystemKind::Ecall)),
@@ -183,7 +183,7 @@ pub fn system(code: u64) -> Decoded
 }
 
 pub fn hfi(code: u64, rd: u64, rs1: u64, rs2: u64) -> Decoded
-    ensures { result ≡ hfiAt code rd rs1 rs2 }
+    ensures { result ≡ hfi_at code rd rs1 rs2 }
 {
     match code {
         code::ENTER => Legal(Instruction::Hfi(HfiKind::Enter, rd, rs1, rs2)),

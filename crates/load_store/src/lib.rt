@@ -2,14 +2,14 @@
 #![tactic(auto)]
 
 ghost use Rattle.std.specs.Prelude.{◌≡◌, true, List, ℕ, ◌+◌, ◌<◌, ◌≤◌, length};
-ghost use Rattle.words.specs.Word.{fitsSigned};
-ghost use Rattle.model.specs.Regions.{read as readBit, write as writeBit};
-ghost use Rattle.model.specs.Access.{load_width, storeWidth, dataAccess, explicitAccess, offset};
+ghost use Rattle.words.specs.Word.{fits_signed};
+ghost use Rattle.model.specs.Regions.{read as read_bit, write as write_bit};
+ghost use Rattle.model.specs.Access.{load_width, store_width, data_access, explicit_access, offset};
 ghost use Rattle.model.specs.Step.{load as load_of, store as store_of};
 ghost use Rattle.model.specs.declared.Verdict.TheVariants.{Passed};
-ghost use Rattle.hart.specs.State.{regionsOf, hart};
-ghost use Rattle.hart.specs.Effect.{effectWith};
-ghost use Rattle.load_store.specs.Finish.{finishLoad, finishStore};
+ghost use Rattle.hart.specs.State.{regions_of, hart};
+ghost use Rattle.hart.specs.Effect.{effect_with};
+ghost use Rattle.load_store.specs.Finish.{finish_load, finish_store};
 
 use arithmetic::extended;
 use hart::effect::{Effect, absent, completed, faulted, write_back};
@@ -35,7 +35,7 @@ fn finish_load(
     a: u64,
 ) -> Effect
     requires { (rd < 32) × (v ≡ Passed → a + load_width k ≤ length mem.now) }
-    ensures { (numbers : List ℕ) → effectWith result x.new numbers mem.now ≡ finishLoad (hart x.old pc hfi numbers) mem.now next v k rd a }
+    ensures { (numbers : List ℕ) → effect_with result x.new numbers mem.now ≡ finish_load (hart x.old pc hfi numbers) mem.now next v k rd a }
 {
     match v {
         Verdict::Passed => write_back(x, hfi, next, rd, extended(k, read(mem, a, load_width(k)))),
@@ -57,7 +57,7 @@ pub fn load(
     a: u64,
 ) -> Effect
     requires { rd < 32 }
-    ensures { effectWith result x.new rs.now mem.now ≡ load_of (hart x.old pc hfi rs.now) mem.now next (dataAccess (regionsOf rs.now) readBit a (load_width k)) k rd }
+    ensures { effect_with result x.new rs.now mem.now ≡ load_of (hart x.old pc hfi rs.now) mem.now next (data_access (regions_of rs.now) read_bit a (load_width k)) k rd }
 {
     let v = check_data(hfi.mode, rs, READ, mem.len() as u64, a, load_width(k));
     finish_load(x, pc, hfi, mem, next, v, k, rd, a)
@@ -77,8 +77,8 @@ pub fn hload(
     operand: u64,
     imm: u64,
 ) -> Effect
-    requires { (rd < 32) × (fitsSigned 12 imm ≡ true) }
-    ensures { effectWith result x.new rs.now mem.now ≡ load_of (hart x.old pc hfi rs.now) mem.now next (explicitAccess (regionsOf rs.now) region readBit (offset operand imm) (load_width k)) k rd }
+    requires { (rd < 32) × (fits_signed 12 imm ≡ true) }
+    ensures { effect_with result x.new rs.now mem.now ≡ load_of (hart x.old pc hfi rs.now) mem.now next (explicit_access (regions_of rs.now) region read_bit (offset operand imm) (load_width k)) k rd }
 {
     let v = check_explicit(
         hfi.mode,
@@ -106,8 +106,8 @@ fn finish_store(
     value: u64,
     a: u64,
 ) -> Effect
-    requires { v ≡ Passed → a + storeWidth k ≤ length mem.old }
-    ensures { (x numbers : List ℕ) → effectWith result x numbers mem.new ≡ finishStore (hart x pc hfi numbers) mem.old next v k value a }
+    requires { v ≡ Passed → a + store_width k ≤ length mem.old }
+    ensures { (x numbers : List ℕ) → effect_with result x numbers mem.new ≡ finish_store (hart x pc hfi numbers) mem.old next v k value a }
 {
     match v {
         Verdict::Passed => {
@@ -130,7 +130,7 @@ pub fn store(
     value: u64,
     a: u64,
 ) -> Effect
-    ensures { (x : List ℕ) → effectWith result x rs.now mem.new ≡ store_of (hart x pc hfi rs.now) mem.old next (dataAccess (regionsOf rs.now) writeBit a (storeWidth k)) value }
+    ensures { (x : List ℕ) → effect_with result x rs.now mem.new ≡ store_of (hart x pc hfi rs.now) mem.old next (data_access (regions_of rs.now) write_bit a (store_width k)) value }
 {
     let v = check_data(hfi.mode, rs, WRITE, mem.len() as u64, a, store_width(k));
     finish_store(pc, hfi, mem, next, v, k, value, a)
@@ -149,8 +149,8 @@ pub fn hstore(
     operand: u64,
     imm: u64,
 ) -> Effect
-    requires { fitsSigned 12 imm ≡ true }
-    ensures { (x : List ℕ) → effectWith result x rs.now mem.new ≡ store_of (hart x pc hfi rs.now) mem.old next (explicitAccess (regionsOf rs.now) region writeBit (offset operand imm) (storeWidth k)) value }
+    requires { fits_signed 12 imm ≡ true }
+    ensures { (x : List ℕ) → effect_with result x rs.now mem.new ≡ store_of (hart x pc hfi rs.now) mem.old next (explicit_access (regions_of rs.now) region write_bit (offset operand imm) (store_width k)) value }
 {
     let v = check_explicit(
         hfi.mode,

@@ -4,11 +4,11 @@ use Rattle.std.proofs.Common.{◌≡◌, ℕ, ◌+◌, ◌^◌, ◌<◌, ◌≤�
 use Rattle.model.specs.Access.{Access, verdict}
 use Rattle.model.specs.declared.Verdict.{Verdict}
 use Rattle.model.specs.declared.Verdict.TheVariants.{Passed}
-use Rattle.model.proofs.Cleared.{cleared, fits-memory}
+use Rattle.model.proofs.Cleared.{cleared, fits_memory}
 use Rattle.memory.specs.Width.{IsWidth}
-use Rattle.memory.proofs.Widths.{width-bounds}
+use Rattle.memory.proofs.Widths.{width_bounds}
 
-pub passed-fits : (mode length : ℕ) (a : Access) {v : Verdict} → IsWidth a.count → a.first < 2 ^ 64 → length < 2 ^ 64
+pub passed_fits : (mode length : ℕ) (a : Access) {v : Verdict} → IsWidth a.count → a.first < 2 ^ 64 → length < 2 ^ 64
     → v ≡ verdict mode length a → v ≡ Passed → a.first + a.count ≤ length
-passed-fits mode length a w f l e p =
-    fits-memory length a.first a.count (width-bounds a.count w).0 f l (cleared mode length a (sym e ∙ p)).present
+passed_fits mode length a w f l e p =
+    fits_memory length a.first a.count (width_bounds a.count w).0 f l (cleared mode length a (sym e ∙ p)).present

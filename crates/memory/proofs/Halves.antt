@@ -5,32 +5,32 @@ use native.Mathlib.Nat.{pow-succ', div-div-eq-div-mul}
 use Rattle.model.specs.Bytes.{byte_of, value, written}
 
 -- byte i of the access at a + j is byte j + i of the access at a
-pub value-from : (mem : List ℕ) (a j n i : ℕ) → value mem (a + j) i n ≡ value mem a (j + i) n
+pub value_from : (mem : List ℕ) (a j n i : ℕ) → value mem (a + j) i n ≡ value mem a (j + i) n
 unfolding value
-value-from mem a j zero i = refl
-value-from mem a j (suc n) i =
+value_from mem a j zero i = refl
+value_from mem a j (suc n) i =
     let e : (a + j + i) % 2 ^ 64 ≡ (a + (j + i)) % 2 ^ 64 = omega arith in
     let s : j + suc i ≡ suc (j + i) = omega arith in
-    ap₂ (λ b v. get_or mem b 0 + 256 * v) e (value-from mem a j n (suc i) ∙ ap (λ k. value mem a k n) s)
+    ap₂ (λ b v. get_or mem b 0 + 256 * v) e (value_from mem a j n (suc i) ∙ ap (λ k. value mem a k n) s)
 
-pub value-cut : (mem : List ℕ) (a n m i : ℕ) → value mem a i (n + m) ≡ value mem a (i + n) m * 256 ^ n + value mem a i n
+pub value_cut : (mem : List ℕ) (a n m i : ℕ) → value mem a i (n + m) ≡ value mem a (i + n) m * 256 ^ n + value mem a i n
 unfolding value
-value-cut mem a zero m i =
+value_cut mem a zero m i =
     let e : 0 + m ≡ m = omega arith in
     let s : i + 0 ≡ i = omega arith in
     rw (e, s) (omega arith)
-value-cut mem a (suc n) m i =
+value_cut mem a (suc n) m i =
     let e : suc n + m ≡ suc (n + m) = omega arith in
     let s : i + suc n ≡ suc i + n = omega arith in
     let w = value mem a (suc i + n) m in
     let q : w * 256 ^ suc n ≡ 256 * (w * 256 ^ n) =
     ap (λ p. w * p) (pow-succ' 256 n) ∙ sym (mul_assoc w 256 (256 ^ n)) ∙ ap (λ p. p * 256 ^ n) (mul_comm w 256) ∙ mul_assoc 256 w (256 ^ n) in
-    rw (e, s) (omega (arith, q, value-cut mem a n m (suc i)))
+    rw (e, s) (omega (arith, q, value_cut mem a n m (suc i)))
 
-pub read-halves : (mem : List ℕ) (a n m : ℕ) → value mem (a + n) 0 m * 256 ^ n + value mem a 0 n ≡ value mem a 0 (n + m)
-read-halves mem a n m =
+pub read_halves : (mem : List ℕ) (a n m : ℕ) → value mem (a + n) 0 m * 256 ^ n + value mem a 0 n ≡ value mem a 0 (n + m)
+read_halves mem a n m =
     let s : n + 0 ≡ 0 + n = omega arith in
-    ap (λ v. v * 256 ^ n + value mem a 0 n) (value-from mem a n m 0 ∙ ap (λ k. value mem a k m) s) ∙ sym (value-cut mem a n m 0)
+    ap (λ v. v * 256 ^ n + value mem a 0 n) (value_from mem a n m 0 ∙ ap (λ k. value mem a k m) s) ∙ sym (value_cut mem a n m 0)
 
 pub written_from : (mem : List ℕ) (a j n i v : ℕ) → written mem (a + j) i n v ≡ written mem a (j + i) n v
 unfolding written
@@ -41,31 +41,31 @@ written_from mem a j (suc n) i v =
     written_from (set mem (byte_of (a + j) i) (v % 256)) a j n (suc i) (v / 256)
     ∙ ap₂ (λ b k. written (set mem b (v % 256)) a k n (v / 256)) e s
 
-pub written-cut : (mem : List ℕ) (a n m i v : ℕ) → written mem a i (n + m) v ≡ written (written mem a i n v) a (i + n) m (v / 256 ^ n)
+pub written_cut : (mem : List ℕ) (a n m i v : ℕ) → written mem a i (n + m) v ≡ written (written mem a i n v) a (i + n) m (v / 256 ^ n)
 unfolding written
-written-cut mem a zero m i v =
+written_cut mem a zero m i v =
     let e : 0 + m ≡ m = omega arith in
     let s : i ≡ i + 0 = omega arith in
     ap (λ k. written mem a i k v) e ∙ ap₂ (λ j x. written mem a j m x) s (sym (div-one v))
-written-cut mem a (suc n) m i v =
+written_cut mem a (suc n) m i v =
     let e : suc n + m ≡ suc (n + m) = omega arith in
     let s : suc i + n ≡ i + suc n = omega arith in
     let q : v / 256 / 256 ^ n ≡ v / 256 ^ suc n = div-div-eq-div-mul v 256 (256 ^ n) ∙ ap (λ p. v / p) (sym (pow-succ' 256 n)) in
     ap (λ k. written mem a i k v) e
-    ∙ written-cut (set mem (byte_of a i) (v % 256)) a n m (suc i) (v / 256)
+    ∙ written_cut (set mem (byte_of a i) (v % 256)) a n m (suc i) (v / 256)
     ∙ ap₂ (λ j x. written (written (set mem (byte_of a i) (v % 256)) a (suc i) n (v / 256)) a j m x) s q
 
-pub write-halves : (mem : List ℕ) (a n m v : ℕ) → written (written mem a 0 n v) (a + n) 0 m (v / 256 ^ n) ≡ written mem a 0 (n + m) v
-write-halves mem a n m v =
+pub write_halves : (mem : List ℕ) (a n m v : ℕ) → written (written mem a 0 n v) (a + n) 0 m (v / 256 ^ n) ≡ written mem a 0 (n + m) v
+write_halves mem a n m v =
     let s : n + 0 ≡ 0 + n = omega arith in
     written_from (written mem a 0 n v) a n m 0 (v / 256 ^ n)
-    ∙ ap (λ k. written (written mem a 0 n v) a k m (v / 256 ^ n)) s ∙ sym (written-cut mem a n m 0 v)
+    ∙ ap (λ k. written (written mem a 0 n v) a k m (v / 256 ^ n)) s ∙ sym (written_cut mem a n m 0 v)
 
 -- one byte
 pub read_one : (mem : List ℕ) (a : ℕ) → a + 1 ≤ 2 ^ 64 → get_or mem a 0 ≡ value mem a 0 1
 unfolding value
 read_one mem a h = let e : (a + 0) % 2 ^ 64 ≡ a = omega arith in rw e (omega arith)
 
-pub write-one : (mem : List ℕ) (a v : ℕ) → a + 1 ≤ 2 ^ 64 → set mem a (v % 256) ≡ written mem a 0 1 v
+pub write_one : (mem : List ℕ) (a v : ℕ) → a + 1 ≤ 2 ^ 64 → set mem a (v % 256) ≡ written mem a 0 1 v
 unfolding written
-write-one mem a v h = let e : a ≡ (a + 0) % 2 ^ 64 = omega arith in ap (λ b. set mem b (v % 256)) e
+write_one mem a v h = let e : a ≡ (a + 0) % 2 ^ 64 = omega arith in ap (λ b. set mem b (v % 256)) e

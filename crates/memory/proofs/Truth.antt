@@ -3,8 +3,8 @@
 use Rattle.std.proofs.Common.{◌≡◌, ℕ, ◌≤◌, Bool, true, false, cond, ◌&&◌, ◌||◌, leb, sym, refl, ◌∙◌, le-leb, leb-true}
 
 -- two orders that say the same
-pub same-order : (m n p q : ℕ) → (m ≤ n → p ≤ q) → (p ≤ q → m ≤ n) → leb m n ≡ leb p q
-same-order m n p q f g = go (leb m n) (leb p q) refl refl
+pub same_order : (m n p q : ℕ) → (m ≤ n → p ≤ q) → (p ≤ q → m ≤ n) → leb m n ≡ leb p q
+same_order m n p q f g = go (leb m n) (leb p q) refl refl
   where
     go : (a b : Bool) → leb m n ≡ a → leb p q ≡ b → leb m n ≡ leb p q
     go true b e d = e ∙ sym (le-leb p q (f (leb-true m n e)))
@@ -12,14 +12,14 @@ same-order m n p q f g = go (leb m n) (leb p q) refl refl
     go false false e d = e ∙ sym d
 
 -- the rule and the permission are asked once, before the loop over the bytes
-pub explicit-once : (m rule permitted near here inside : Bool) → (rule ≡ true → (near && here) ≡ inside)
+pub explicit_once : (m rule permitted near here inside : Bool) → (rule ≡ true → (near && here) ≡ inside)
     → (m || (((rule && permitted) && near) && here)) ≡ cond m true (rule && (permitted && inside))
-explicit-once true rule permitted near here inside h = refl
-explicit-once false false permitted near here inside h = refl
-explicit-once false true true near here inside h = h refl
-explicit-once false true false near here inside h = refl
+explicit_once true rule permitted near here inside h = refl
+explicit_once false false permitted near here inside h = refl
+explicit_once false true true near here inside h = h refl
+explicit_once false true false near here inside h = refl
 
 -- outside HFI mode nothing is asked
-pub mode-or : (m : Bool) {g h : Bool} → g ≡ h → (m || g) ≡ cond m true h
-mode-or true e = refl
-mode-or false e = e
+pub mode_or : (m : Bool) {g h : Bool} → g ≡ h → (m || g) ≡ cond m true h
+mode_or true e = refl
+mode_or false e = e

@@ -6,15 +6,15 @@ use lib.Bits.{bit_and}
 use borrow.Author.Tests.{lt-leb}
 use Rattle.instructions.proofs.Tests.{and_both}
 use Rattle.model.specs.Machine.{region}
-use Rattle.model.specs.Regions.{execute, codeRegions, permits, maskZeros, implicitRule, matches, firstMatch, implicitGrants}
+use Rattle.model.specs.Regions.{execute, code_regions, permits, mask_zeros, implicit_rule, matches, first_match, implicit_grants}
 use Rattle.model.specs.Bytes.{byte_of}
-use Rattle.model.specs.Access.{implicitAccess, fetchAccess, firstRefused, verdict}
+use Rattle.model.specs.Access.{implicit_access, fetch_access, first_refused, verdict}
 use Rattle.model.specs.declared.Verdict.TheVariants.{Passed}
 use Rattle.model.proofs.Cleared.{passes}
 use Rattle.model.specs.declared.Region.{Region}
-use Rattle.model.proofs.Scan.{scan-all}
-use Rattle.model.proofs.Intervals.{implicit-kept, matches-inside, inside-matches, matches-low, broken-matches-none}
-use Rattle.memory.specs.Loops.{hasWhole, touches, grantsWhole, passesWhole, fetchesWhole}
+use Rattle.model.proofs.Scan.{scan_all}
+use Rattle.model.proofs.Intervals.{implicit_kept, matches_inside, inside_matches, matches_low, broken_matches_none}
+use Rattle.memory.specs.Loops.{has_whole, touches, grants_whole, passes_whole, fetches_whole}
 
 -- ---- one region
 
@@ -23,19 +23,19 @@ asked true c e = (refl, e)
 asked false c e = absurd (false≢true e)
 
 -- a region that has the first byte and the last has those between
-between : (r : Region) (a n i : ℕ) → a < 2 ^ 64 → n ≤ 8 → i < n → matches r a ≡ true → matches r (byte_of a (n - 1)) ≡ true → implicitRule r ≡ true
+between : (r : Region) (a n i : ℕ) → a < 2 ^ 64 → n ≤ 8 → i < n → matches r a ≡ true → matches r (byte_of a (n - 1)) ≡ true → implicit_rule r ≡ true
     → matches r (byte_of a i) ≡ true
 between r a n i l s h p q k =
-    let low = matches-low r a l p in
-    let first = matches-inside r a l p in
-    let last = matches-inside r (byte_of a (n - 1)) (omega arith) q in
+    let low = matches_low r a l p in
+    let first = matches_inside r a l p in
+    let last = matches_inside r (byte_of a (n - 1)) (omega arith) q in
     let e : byte_of a i ≡ a + i = omega arith in
     let f : byte_of a (n - 1) ≡ a + (n - 1) = omega arith in
-    inside-matches r (byte_of a i) k (omega (arith, first.0, e)) (omega (arith, last.1, e, f))
+    inside_matches r (byte_of a i) k (omega (arith, first.0, e)) (omega (arith, last.1, e, f))
 
 -- the last byte stands as many places past byte i as there are bytes between
-last-after : (a n i : ℕ) → n ≤ 8 → i < n → byte_of a i < 2 ^ 48 → byte_of a (n - 1) ≡ byte_of a i + (n - 1 - i)
-last-after a n i s h l = omega arith
+last_after : (a n i : ℕ) → n ≤ 8 → i < n → byte_of a i < 2 ^ 48 → byte_of a (n - 1) ≡ byte_of a i + (n - 1 - i)
+last_after a n i s h l = omega arith
 
 distance : (base last : ℕ) → base ≤ last → last < 2 ^ 64 → (last + (2 ^ 64 - base)) % 2 ^ 64 ≡ last - base
 distance base last h l = omega arith
@@ -46,49 +46,49 @@ spread bound size n e l z y s = rw e (omega arith)
 
 -- a region that is not touched has none of the bytes
 untouched : (r : Region) (a n i : ℕ) → a < 2 ^ 64 → n ≤ 8 → i < n → touches r (byte_of a (n - 1)) n ≡ false → matches r (byte_of a i) ≡ false
-untouched r a n i l s h t = go (implicitRule r) refl (matches r (byte_of a i)) refl
+untouched r a n i l s h t = go (implicit_rule r) refl (matches r (byte_of a i)) refl
   where
-    far : implicitRule r ≡ true → matches r (byte_of a i) ≡ true → ⊥
+    far : implicit_rule r ≡ true → matches r (byte_of a i) ≡ true → ⊥
     far k m =
         let last = byte_of a (n - 1) in
-        let size = 2 ^ maskZeros r.bound in
-        let kept = implicit-kept r k in
-        let here = matches-inside r (byte_of a i) (omega arith) m in
-        let end = last-after a n i s h (omega (arith, kept.low, here.1)) in
+        let size = 2 ^ mask_zeros r.bound in
+        let kept = implicit_kept r k in
+        let here = matches_inside r (byte_of a i) (omega arith) m in
+        let end = last_after a n i s h (omega (arith, kept.low, here.1)) in
         let x = distance r.base last (omega (arith, end, here.0)) (omega arith) in
         let y = spread r.bound size n kept.shape (omega (arith, kept.low)) (omega (arith, here.0, here.1)) (omega arith) s in
         let z = le-leb ((last + (2 ^ 64 - r.base)) % 2 ^ 64) (((2 ^ 64 - 1) - r.bound + (n - 1)) % 2 ^ 64) (rw (x, y) (omega (arith, end, here.1))) in
         false≢true (sym t ∙ rw (z, k) refl)
 
-    go : (b : Bool) → implicitRule r ≡ b → (c : Bool) → matches r (byte_of a i) ≡ c → matches r (byte_of a i) ≡ false
-    go false k c m = broken-matches-none r (byte_of a i) k
+    go : (b : Bool) → implicit_rule r ≡ b → (c : Bool) → matches r (byte_of a i) ≡ c → matches r (byte_of a i) ≡ false
+    go false k c m = broken_matches_none r (byte_of a i) k
     go true k false m = m
     go true k true m = absurd (far k m)
 
 -- ---- the regions of a list
 
-granted-first : (rs : List Region) (m : ℕ) (ms : List ℕ) (wanted b : ℕ) → ltb 0 m ≡ true → matches (region rs m) b ≡ true → permits wanted (region rs m) ≡ true
-    → implicitGrants rs (m ∷ ms) wanted b ≡ true
-unfolding implicitGrants firstMatch
-granted-first rs m ms wanted b z h p = let l = ltb-true 0 m z in rw (h, ne_eqb m 0 (λ e. omega (arith, l, e))) p
+granted_first : (rs : List Region) (m : ℕ) (ms : List ℕ) (wanted b : ℕ) → ltb 0 m ≡ true → matches (region rs m) b ≡ true → permits wanted (region rs m) ≡ true
+    → implicit_grants rs (m ∷ ms) wanted b ≡ true
+unfolding implicit_grants first_match
+granted_first rs m ms wanted b z h p = let l = ltb-true 0 m z in rw (h, ne_eqb m 0 (λ e. omega (arith, l, e))) p
 
-granted-later : (rs : List Region) (m : ℕ) (ms : List ℕ) (wanted b : ℕ) → matches (region rs m) b ≡ false
-    → implicitGrants rs ms wanted b ≡ true → implicitGrants rs (m ∷ ms) wanted b ≡ true
-unfolding implicitGrants firstMatch
-granted-later rs m ms wanted b h g = rw h g
+granted_later : (rs : List Region) (m : ℕ) (ms : List ℕ) (wanted b : ℕ) → matches (region rs m) b ≡ false
+    → implicit_grants rs ms wanted b ≡ true → implicit_grants rs (m ∷ ms) wanted b ≡ true
+unfolding implicit_grants first_match
+granted_later rs m ms wanted b h g = rw h g
 
 -- the numbers of regions are not 0
 abbrev pub numbered : List ℕ → Bool
 numbered [] = true
 numbered (m ∷ ms) = ltb 0 m && numbered ms
 
-whole-granted : (rs : List Region) (ns : List ℕ) (wanted a n i : ℕ) → numbered ns ≡ true → a < 2 ^ 64 → n ≤ 8 → i < n
-    → grantsWhole rs ns wanted a n ≡ true → implicitGrants rs ns wanted (byte_of a i) ≡ true
-unfolding grantsWhole matches
-whole-granted rs [] wanted a n i z l s h g = absurd (false≢true g)
-whole-granted rs (m ∷ ms) wanted a n i z l s h g =
-    go (hasWhole r wanted a last) refl (touches r last n) refl g
-    (λ t w. granted-later rs m ms wanted (byte_of a i) (untouched r a n i l s h t) (whole-granted rs ms wanted a n i p.1 l s h w))
+whole_granted : (rs : List Region) (ns : List ℕ) (wanted a n i : ℕ) → numbered ns ≡ true → a < 2 ^ 64 → n ≤ 8 → i < n
+    → grants_whole rs ns wanted a n ≡ true → implicit_grants rs ns wanted (byte_of a i) ≡ true
+unfolding grants_whole matches
+whole_granted rs [] wanted a n i z l s h g = absurd (false≢true g)
+whole_granted rs (m ∷ ms) wanted a n i z l s h g =
+    go (has_whole r wanted a last) refl (touches r last n) refl g
+    (λ t w. granted_later rs m ms wanted (byte_of a i) (untouched r a n i l s h t) (whole_granted rs ms wanted a n i p.1 l s h w))
   where
     r : Region
     r = region rs m
@@ -99,49 +99,49 @@ whole-granted rs (m ∷ ms) wanted a n i z l s h g =
     p : (ltb 0 m ≡ true) × (numbered ms ≡ true)
     p = and_both (ltb 0 m) (numbered ms) z
 
-    has : hasWhole r wanted a last ≡ true → implicitGrants rs (m ∷ ms) wanted (byte_of a i) ≡ true
+    has : has_whole r wanted a last ≡ true → implicit_grants rs (m ∷ ms) wanted (byte_of a i) ≡ true
     has w =
-        let q = asked _ (implicitRule r) w in
+        let q = asked _ (implicit_rule r) w in
         let u = and_both (eqb (bit_and a r.bound) r.base) _ q.0 in
         let v = and_both (eqb (bit_and last r.bound) r.base) (permits wanted r) u.1 in
         let f : matches r a ≡ true = rw q.1 u.0 in
         let g : matches r last ≡ true = rw q.1 v.0 in
-        granted-first rs m ms wanted (byte_of a i) p.0 (between r a n i l s h f g q.1) v.1
+        granted_first rs m ms wanted (byte_of a i) p.0 (between r a n i l s h f g q.1) v.1
 
-    go : (b : Bool) → hasWhole r wanted a last ≡ b → (c : Bool) → touches r last n ≡ c → cond b true (cond c false (grantsWhole rs ms wanted a n)) ≡ true
-        → (touches r last n ≡ false → grantsWhole rs ms wanted a n ≡ true → implicitGrants rs (m ∷ ms) wanted (byte_of a i) ≡ true)
-        → implicitGrants rs (m ∷ ms) wanted (byte_of a i) ≡ true
+    go : (b : Bool) → has_whole r wanted a last ≡ b → (c : Bool) → touches r last n ≡ c → cond b true (cond c false (grants_whole rs ms wanted a n)) ≡ true
+        → (touches r last n ≡ false → grants_whole rs ms wanted a n ≡ true → implicit_grants rs (m ∷ ms) wanted (byte_of a i) ≡ true)
+        → implicit_grants rs (m ∷ ms) wanted (byte_of a i) ≡ true
     go true w c t g f = has w
     go false w true t g f = absurd (false≢true g)
     go false w false t g f = f t g
 
 -- so no byte is refused
-pub whole-passes : (mode : ℕ) (rs : List Region) (ns : List ℕ) (wanted a n : ℕ) → numbered ns ≡ true → a < 2 ^ 64 → n ≤ 8
-    → passesWhole mode rs ns wanted a n ≡ true → n ≡ firstRefused mode (implicitAccess rs ns wanted a n)
-unfolding firstRefused
-whole-passes mode rs ns wanted a n z l s g =
-    sym (scan-all _ n 0 (λ j p q. each j (omega arith) (eqb mode 0) g) ∙ zero-add n)
+pub whole_passes : (mode : ℕ) (rs : List Region) (ns : List ℕ) (wanted a n : ℕ) → numbered ns ≡ true → a < 2 ^ 64 → n ≤ 8
+    → passes_whole mode rs ns wanted a n ≡ true → n ≡ first_refused mode (implicit_access rs ns wanted a n)
+unfolding first_refused
+whole_passes mode rs ns wanted a n z l s g =
+    sym (scan_all _ n 0 (λ j p q. each j (omega arith) (eqb mode 0) g) ∙ zero-add n)
   where
-    each : (j : ℕ) → j < n → (b : Bool) → cond b true (grantsWhole rs ns wanted a n) ≡ true → cond b true (implicitGrants rs ns wanted (byte_of a j)) ≡ true
+    each : (j : ℕ) → j < n → (b : Bool) → cond b true (grants_whole rs ns wanted a n) ≡ true → cond b true (implicit_grants rs ns wanted (byte_of a j)) ≡ true
     each j h true e = refl
-    each j h false e = whole-granted rs ns wanted a n j z l s h e
+    each j h false e = whole_granted rs ns wanted a n j z l s h e
 
 -- and where the four bytes of a fetch pass so, either half does
-pub whole-fetched : (mode : ℕ) (rs : List Region) (size pc : ℕ) → pc < 2 ^ 64 → size < 2 ^ 64 → fetchesWhole mode rs size pc ≡ true
-    → (verdict mode size (fetchAccess rs pc) ≡ Passed) × (verdict mode size (fetchAccess rs (byte_of pc 2)) ≡ Passed)
-whole-fetched mode rs size pc l m g = (half 0 pc (λ i h. omega arith) (lit≤ tt), half 2 (byte_of pc 2) (λ i h. let e = leb-true (pc + 4) size q.0 in omega (arith, e)) (lit≤ tt))
+pub whole_fetched : (mode : ℕ) (rs : List Region) (size pc : ℕ) → pc < 2 ^ 64 → size < 2 ^ 64 → fetches_whole mode rs size pc ≡ true
+    → (verdict mode size (fetch_access rs pc) ≡ Passed) × (verdict mode size (fetch_access rs (byte_of pc 2)) ≡ Passed)
+whole_fetched mode rs size pc l m g = (half 0 pc (λ i h. omega arith) (lit≤ tt), half 2 (byte_of pc 2) (λ i h. let e = leb-true (pc + 4) size q.0 in omega (arith, e)) (lit≤ tt))
   where
-    q : (leb (pc + 4) size ≡ true) × (passesWhole mode rs codeRegions execute pc 4 ≡ true)
+    q : (leb (pc + 4) size ≡ true) × (passes_whole mode rs code_regions execute pc 4 ≡ true)
     q = asked _ _ g
 
-    each : (j : ℕ) → j < 4 → (b : Bool) → cond b true (grantsWhole rs codeRegions execute pc 4) ≡ true → cond b true (implicitGrants rs codeRegions execute (byte_of pc j)) ≡ true
+    each : (j : ℕ) → j < 4 → (b : Bool) → cond b true (grants_whole rs code_regions execute pc 4) ≡ true → cond b true (implicit_grants rs code_regions execute (byte_of pc j)) ≡ true
     each j h true e = refl
-    each j h false e = whole-granted rs codeRegions execute pc 4 j refl l (lit≤ tt) h e
+    each j h false e = whole_granted rs code_regions execute pc 4 j refl l (lit≤ tt) h e
 
     -- byte i of a half is byte k + i of the word
-    half : (k a : ℕ) → ((i : ℕ) → i < 2 → byte_of a i ≡ byte_of pc (k + i)) → k ≤ 2 → verdict mode size (fetchAccess rs a) ≡ Passed
+    half : (k a : ℕ) → ((i : ℕ) → i < 2 → byte_of a i ≡ byte_of pc (k + i)) → k ≤ 2 → verdict mode size (fetch_access rs a) ≡ Passed
     half k a same u =
-        passes mode size (fetchAccess rs a) (record {
+        passes mode size (fetch_access rs a) (record {
           granted = λ i h. rw (same i h) (each (k + i) (omega arith) (eqb mode 0) q.1);
           present = λ i h. let e = leb-true (pc + 4) size q.0 in rw (same i h) (omega (arith, e));
         })
@@ -155,8 +155,8 @@ difference a b d p q r e = omega (arith, e)
 -- the test of the addresses
 pub touched : (r : Region) (last n : ℕ) {d s : ℕ} → last < 2 ^ 64 → r.base < 2 ^ 64 → d < 2 ^ 64 → (d + r.base) % 2 ^ 64 ≡ last
     → s ≡ ((2 ^ 64 - 1) - r.bound + (n - 1)) % 2 ^ 64
-    → (t : Bool) → leb d s ≡ t → cond t (implicitRule r) false ≡ touches r last n
-touched r last n {d} {s} p q h e f t g = ap (λ b. cond b (implicitRule r) false) (sym g ∙ ap₂ leb (difference last r.base d p q h e) f)
+    → (t : Bool) → leb d s ≡ t → cond t (implicit_rule r) false ≡ touches r last n
+touched r last n {d} {s} p q h e f t g = ap (λ b. cond b (implicit_rule r) false) (sym g ∙ ap₂ leb (difference last r.base d p q h e) f)
 
 -- the test that four bytes are in memory
 pub in_memory : (size pc d : ℕ) → size < 2 ^ 64 → pc < 2 ^ 64 → d < 2 ^ 64 → (d + pc) % 2 ^ 64 ≡ size → (ltb pc size && leb 4 d) ≡ leb (pc + 4) size
@@ -170,33 +170,33 @@ in_memory size pc d p q r e = go (ltb pc size) refl (leb 4 d) refl
 -- ---- the loops over the numbers of a list, from index i on
 
 module _ (rs : List Region) (ns : List ℕ) (i : ℕ) where
-  pub match-here : (a : ℕ) → i < length ns → matches (region rs (get_or ns i 0)) a ≡ true → firstMatch rs (drop i ns) a ≡ get_or ns i 0
-  unfolding firstMatch
-  match-here a h e = rw (drop-cons ns i 0 h) (rw e refl)
+  pub match_here : (a : ℕ) → i < length ns → matches (region rs (get_or ns i 0)) a ≡ true → first_match rs (drop i ns) a ≡ get_or ns i 0
+  unfolding first_match
+  match_here a h e = rw (drop-cons ns i 0 h) (rw e refl)
 
-  pub match-next : (a : ℕ) → i < length ns → matches (region rs (get_or ns i 0)) a ≡ false → firstMatch rs (drop i ns) a ≡ firstMatch rs (drop (i + 1) ns) a
-  unfolding firstMatch
-  match-next a h e = let s : i + 1 ≡ suc i = omega arith in rw (drop-cons ns i 0 h, s) (rw e refl)
+  pub match_next : (a : ℕ) → i < length ns → matches (region rs (get_or ns i 0)) a ≡ false → first_match rs (drop i ns) a ≡ first_match rs (drop (i + 1) ns) a
+  unfolding first_match
+  match_next a h e = let s : i + 1 ≡ suc i = omega arith in rw (drop-cons ns i 0 h, s) (rw e refl)
 
-  pub match-end : (a : ℕ) → length ns ≤ i → firstMatch rs (drop i ns) a ≡ 0
-  unfolding firstMatch
-  match-end a h = rw (drop_of_length-le ns h) refl
+  pub match_end : (a : ℕ) → length ns ≤ i → first_match rs (drop i ns) a ≡ 0
+  unfolding first_match
+  match_end a h = rw (drop_of_length-le ns h) refl
 
   module _ (wanted a n : ℕ) where
-    pub whole_here : i < length ns → hasWhole (region rs (get_or ns i 0)) wanted a (byte_of a (n - 1)) ≡ true → grantsWhole rs (drop i ns) wanted a n ≡ true
-    unfolding grantsWhole
+    pub whole_here : i < length ns → has_whole (region rs (get_or ns i 0)) wanted a (byte_of a (n - 1)) ≡ true → grants_whole rs (drop i ns) wanted a n ≡ true
+    unfolding grants_whole
     whole_here h e = rw (drop-cons ns i 0 h) (rw e refl)
 
-    pub whole-touched : i < length ns → hasWhole (region rs (get_or ns i 0)) wanted a (byte_of a (n - 1)) ≡ false
-        → touches (region rs (get_or ns i 0)) (byte_of a (n - 1)) n ≡ true → grantsWhole rs (drop i ns) wanted a n ≡ false
-    unfolding grantsWhole
-    whole-touched h e t = rw (drop-cons ns i 0 h) (rw (e, t) refl)
+    pub whole_touched : i < length ns → has_whole (region rs (get_or ns i 0)) wanted a (byte_of a (n - 1)) ≡ false
+        → touches (region rs (get_or ns i 0)) (byte_of a (n - 1)) n ≡ true → grants_whole rs (drop i ns) wanted a n ≡ false
+    unfolding grants_whole
+    whole_touched h e t = rw (drop-cons ns i 0 h) (rw (e, t) refl)
 
-    pub whole-next : i < length ns → hasWhole (region rs (get_or ns i 0)) wanted a (byte_of a (n - 1)) ≡ false
-        → touches (region rs (get_or ns i 0)) (byte_of a (n - 1)) n ≡ false → grantsWhole rs (drop i ns) wanted a n ≡ grantsWhole rs (drop (i + 1) ns) wanted a n
-    unfolding grantsWhole
-    whole-next h e t = let s : i + 1 ≡ suc i = omega arith in rw (drop-cons ns i 0 h, s) (rw (e, t) refl)
+    pub whole_next : i < length ns → has_whole (region rs (get_or ns i 0)) wanted a (byte_of a (n - 1)) ≡ false
+        → touches (region rs (get_or ns i 0)) (byte_of a (n - 1)) n ≡ false → grants_whole rs (drop i ns) wanted a n ≡ grants_whole rs (drop (i + 1) ns) wanted a n
+    unfolding grants_whole
+    whole_next h e t = let s : i + 1 ≡ suc i = omega arith in rw (drop-cons ns i 0 h, s) (rw (e, t) refl)
 
-    pub whole-end : length ns ≤ i → grantsWhole rs (drop i ns) wanted a n ≡ false
-    unfolding grantsWhole
-    whole-end h = rw (drop_of_length-le ns h) refl
+    pub whole_end : length ns ≤ i → grants_whole rs (drop i ns) wanted a n ≡ false
+    unfolding grants_whole
+    whole_end h = rw (drop_of_length-le ns h) refl

@@ -5,36 +5,36 @@ use Rattle.instructions.specs.declared.kind.LoadKind.{LoadKind}
 use Rattle.instructions.specs.declared.kind.LoadKind.TheVariants.{Lb, Lh, Lw, Ld, Lbu, Lhu, Lwu}
 use Rattle.instructions.specs.declared.kind.StoreKind.{StoreKind}
 use Rattle.instructions.specs.declared.kind.StoreKind.TheVariants.{Sb, Sh, Sw, Sd}
-use Rattle.model.specs.Access.{load_width, storeWidth}
+use Rattle.model.specs.Access.{load_width, store_width}
 use Rattle.memory.specs.Width.{IsWidth}
 
 -- a width that is not 1, 2 or 4 is 8
-pub only-eight : (n : ℕ) → IsWidth n → (n ≡ 1 → ⊥) → (n ≡ 2 → ⊥) → (n ≡ 4 → ⊥) → n ≡ 8
-only-eight n h p q r = eqb-true n 8 (yes (eqb n 8) (rw (ne_eqb n 1 p, ne_eqb n 2 q, ne_eqb n 4 r) at h))
+pub only_eight : (n : ℕ) → IsWidth n → (n ≡ 1 → ⊥) → (n ≡ 2 → ⊥) → (n ≡ 4 → ⊥) → n ≡ 8
+only_eight n h p q r = eqb-true n 8 (yes (eqb n 8) (rw (ne_eqb n 1 p, ne_eqb n 2 q, ne_eqb n 4 r) at h))
   where
     yes : (b : Bool) → cond b true false ≡ true → b ≡ true
     yes true e = e
     yes false e = e
 
 -- every load and store has one of the widths
-pub load-is-width : (k : LoadKind) → IsWidth (load_width k)
-load-is-width Lb = refl
-load-is-width Lh = refl
-load-is-width Lw = refl
-load-is-width Ld = refl
-load-is-width Lbu = refl
-load-is-width Lhu = refl
-load-is-width Lwu = refl
+pub load_is_width : (k : LoadKind) → IsWidth (load_width k)
+load_is_width Lb = refl
+load_is_width Lh = refl
+load_is_width Lw = refl
+load_is_width Ld = refl
+load_is_width Lbu = refl
+load_is_width Lhu = refl
+load_is_width Lwu = refl
 
-pub store-is-width : (k : StoreKind) → IsWidth (storeWidth k)
-store-is-width Sb = refl
-store-is-width Sh = refl
-store-is-width Sw = refl
-store-is-width Sd = refl
+pub store_is_width : (k : StoreKind) → IsWidth (store_width k)
+store_is_width Sb = refl
+store_is_width Sh = refl
+store_is_width Sw = refl
+store_is_width Sd = refl
 
 -- a width is 1 to 8
-pub width-bounds : (n : ℕ) → IsWidth n → (0 < n) × (n ≤ 8)
-width-bounds n h = go (eqb n 1) (eqb n 2) (eqb n 4) (eqb n 8) refl refl refl refl h
+pub width_bounds : (n : ℕ) → IsWidth n → (0 < n) × (n ≤ 8)
+width_bounds n h = go (eqb n 1) (eqb n 2) (eqb n 4) (eqb n 8) refl refl refl refl h
   where
     go : (a b c d : Bool) → eqb n 1 ≡ a → eqb n 2 ≡ b → eqb n 4 ≡ c → eqb n 8 ≡ d
         → cond a true (cond b true (cond c true (cond d true false))) ≡ true → (0 < n) × (n ≤ 8)

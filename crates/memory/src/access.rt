@@ -1,12 +1,12 @@
 // The questions that every byte of an access is asked before any is touched. `wanted` is a permission by its bit number, `ns` the
 // numbers of the implicit regions that decide, in their order, and `rs` the regions as numbers.
 ghost use Rattle.std.specs.Prelude.{◌≡◌, ◌<◌, ◌≤◌, true, length};
-ghost use Rattle.words.specs.Word.{fitsSigned};
+ghost use Rattle.words.specs.Word.{fits_signed};
 ghost use Rattle.model.specs.Machine.{region};
-ghost use Rattle.model.specs.Regions.{firstMatch, implicitGrants};
-ghost use Rattle.model.specs.Access.{fetchAccess, dataAccess, implicitAccess, explicitAccess, offset, firstRefused, firstAbsent, verdict};
-ghost use Rattle.hart.specs.State.{regionsOf};
-ghost use Rattle.memory.specs.Loops.{explicitRefused, presenceOf, explicitFirst, hasWhole, touches as isTouched, grantsWhole, passesWhole, fetchesWhole};
+ghost use Rattle.model.specs.Regions.{first_match, implicit_grants};
+ghost use Rattle.model.specs.Access.{fetch_access, data_access, implicit_access, explicit_access, offset, first_refused, first_absent, verdict};
+ghost use Rattle.hart.specs.State.{regions_of};
+ghost use Rattle.memory.specs.Loops.{explicit_refused, presence_of, explicit_first, has_whole, touches as is_touched, grants_whole, passes_whole, fetches_whole};
 
 use crate::region::{explicit_rule, implicit_rule, matches, permits};
 use hart::regions::{REGION_NUMBERS, region_at};
@@ -15,7 +15,7 @@ use std::num::{wrapping_add_u64, wrapping_sub_u64};
 
 // The lowest-numbered implicit region that matches the byte at `a`, or 0.
 pub fn first_match(rs: &[u64; REGION_NUMBERS], ns: &[u64], a: u64) -> u64
-    ensures { result ≡ firstMatch (regionsOf rs.now) ns.now a }
+    ensures { result ≡ first_match (regions_of rs.now) ns.now a }
 {
     let mut i = 0;
     while i < ns.len() {
@@ -31,7 +31,7 @@ pub fn first_match(rs: &[u64; REGION_NUMBERS], ns: &[u64], a: u64) -> u64
 // Does the region that decides grant the byte at `a`?
 pub fn grants(rs: &[u64; REGION_NUMBERS], ns: &[u64], wanted: u64, a: u64) -> bool
     requires { wanted < 64 }
-    ensures { result ≡ implicitGrants (regionsOf rs.now) ns.now wanted a }
+    ensures { result ≡ implicit_grants (regions_of rs.now) ns.now wanted a }
 {
     let n = first_match(rs, ns, a);
     (n != 0) & permits(wanted, region_at(rs, n))
@@ -47,7 +47,7 @@ fn first_refused_implicit(
     n: u64,
 ) -> u64
     requires { wanted < 64 }
-    ensures { result ≡ firstRefused mode (implicitAccess (regionsOf rs.now) ns.now wanted a n) }
+    ensures { result ≡ first_refused mode (implicit_access (regions_of rs.now) ns.now wanted a n) }
 {
     let mut i: u64 = 0;
     loop {
@@ -64,7 +64,7 @@ fn first_refused_implicit(
 // Does the implicit region keep its rule and have the bytes at `a` and `last`, with the permission? Then it has those between.
 fn has_whole(r: Region, wanted: u64, a: u64, last: u64) -> bool
     requires { wanted < 64 }
-    ensures { result ≡ hasWhole r wanted a last }
+    ensures { result ≡ has_whole r wanted a last }
 {
     if ((a & r.bound) == r.base) & (((last & r.bound) == r.base) & permits(wanted, r)) {
         implicit_rule(r)
@@ -77,7 +77,7 @@ fn has_whole(r: Region, wanted: u64, a: u64, last: u64) -> bool
 // then before its end, or up to n - 1 places past it.
 fn touches(r: Region, last: u64, n: u64) -> bool
     requires { 0 < n }
-    ensures { result ≡ isTouched r last n }
+    ensures { result ≡ is_touched r last n }
 {
     if wrapping_sub_u64(last, r.base) <= wrapping_add_u64(!r.bound, n - 1) {
         implicit_rule(r)
@@ -90,7 +90,7 @@ fn touches(r: Region, last: u64, n: u64) -> bool
 // asked where the addresses do not tell, and not for each byte.
 fn grants_whole(rs: &[u64; REGION_NUMBERS], ns: &[u64], wanted: u64, a: u64, n: u64) -> bool
     requires { (wanted < 64) × (0 < n) }
-    ensures { result ≡ grantsWhole (regionsOf rs.now) ns.now wanted a n }
+    ensures { result ≡ grants_whole (regions_of rs.now) ns.now wanted a n }
 {
     let last = wrapping_add_u64(a, n - 1);
     let mut i = 0;
@@ -113,8 +113,8 @@ const FAR: u64 = 0x4000_0000_0000_0000;
 
 // The first byte that the explicit region does not grant, or `n`; `operand` is the value of rs1.
 fn first_refused_explicit(mode: u64, r: Region, wanted: u64, operand: u64, imm: u64, n: u64) -> u64
-    requires { (wanted < 64) × (fitsSigned 12 imm ≡ true) × (n ≤ 8) }
-    ensures { result ≡ explicitRefused mode r wanted (offset operand imm) n }
+    requires { (wanted < 64) × (fits_signed 12 imm ≡ true) × (n ≤ 8) }
+    ensures { result ≡ explicit_refused mode r wanted (offset operand imm) n }
 {
     let ok = (explicit_rule(r) & permits(wanted, r)) & (operand < FAR);
     let sum = wrapping_add_u64(operand, imm);
@@ -132,7 +132,7 @@ fn first_refused_explicit(mode: u64, r: Region, wanted: u64, operand: u64, imm: 
 
 // The first byte that is not in a memory of `len` bytes, or `n`.
 fn first_absent(len: u64, a: u64, n: u64) -> u64
-    ensures { result ≡ firstAbsent len a n }
+    ensures { result ≡ first_absent len a n }
 {
     let mut i: u64 = 0;
     loop {
@@ -148,7 +148,7 @@ fn first_absent(len: u64, a: u64, n: u64) -> u64
 
 // What is left to ask of an access whose bytes are all granted.
 fn presence(len: u64, a: u64, n: u64) -> Verdict
-    ensures { result ≡ presenceOf len a n }
+    ensures { result ≡ presence_of len a n }
 {
     let i = first_absent(len, a, n);
     if i < n {
@@ -169,7 +169,7 @@ fn check_bytes(
     n: u64,
 ) -> Verdict
     requires { wanted < 64 }
-    ensures { result ≡ verdict mode len (implicitAccess (regionsOf rs.now) ns.now wanted a n) }
+    ensures { result ≡ verdict mode len (implicit_access (regions_of rs.now) ns.now wanted a n) }
 {
     let i = first_refused_implicit(mode, rs, ns, wanted, a, n);
     if i < n {
@@ -189,7 +189,7 @@ fn passes_whole(
     n: u64,
 ) -> bool
     requires { (wanted < 64) × (0 < n) }
-    ensures { result ≡ passesWhole mode (regionsOf rs.now) ns.now wanted a n }
+    ensures { result ≡ passes_whole mode (regions_of rs.now) ns.now wanted a n }
 {
     if mode == 0 {
         true
@@ -200,7 +200,7 @@ fn passes_whole(
 
 // Do the four bytes at `pc` pass questions 5 and 6, as the mode or one region tells? Then so does either half of them.
 pub fn fetches_whole(mode: u64, rs: &[u64; REGION_NUMBERS], len: u64, pc: u64) -> bool
-    ensures { result ≡ fetchesWhole mode (regionsOf rs.now) len pc }
+    ensures { result ≡ fetches_whole mode (regions_of rs.now) len pc }
 {
     if (pc < len) & (4 <= wrapping_sub_u64(len, pc)) {
         passes_whole(mode, rs, &CODE_REGIONS, EXECUTE, pc, 4)
@@ -211,7 +211,7 @@ pub fn fetches_whole(mode: u64, rs: &[u64; REGION_NUMBERS], len: u64, pc: u64) -
 
 // Questions 5 and 6 of the two bytes at `a`.
 pub fn check_fetch(mode: u64, rs: &[u64; REGION_NUMBERS], len: u64, a: u64) -> Verdict
-    ensures { result ≡ verdict mode len (fetchAccess (regionsOf rs.now) a) }
+    ensures { result ≡ verdict mode len (fetch_access (regions_of rs.now) a) }
 {
     check_bytes(mode, rs, &CODE_REGIONS, EXECUTE, len, a, 2)
 }
@@ -226,7 +226,7 @@ pub fn check_data(
     n: u64,
 ) -> Verdict
     requires { (wanted < 64) × (0 < n) × (n ≤ 8) }
-    ensures { result ≡ verdict mode len (dataAccess (regionsOf rs.now) wanted a n) }
+    ensures { result ≡ verdict mode len (data_access (regions_of rs.now) wanted a n) }
 {
     if passes_whole(mode, rs, &DATA_REGIONS, wanted, a, n) {
         presence(len, a, n)
@@ -237,7 +237,7 @@ pub fn check_data(
 
 // The address of the first byte of an h-load or h-store.
 pub fn explicit_address(r: Region, operand: u64, imm: u64) -> u64
-    ensures { result ≡ explicitFirst r (offset operand imm) }
+    ensures { result ≡ explicit_first r (offset operand imm) }
 {
     wrapping_add_u64(r.base, wrapping_add_u64(operand, imm))
 }
@@ -253,8 +253,8 @@ pub fn check_explicit(
     imm: u64,
     n: u64,
 ) -> Verdict
-    requires { (wanted < 64) × (fitsSigned 12 imm ≡ true) × (n ≤ 8) }
-    ensures { result ≡ verdict mode len (explicitAccess (regionsOf rs.now) number wanted (offset operand imm) n) }
+    requires { (wanted < 64) × (fits_signed 12 imm ≡ true) × (n ≤ 8) }
+    ensures { result ≡ verdict mode len (explicit_access (regions_of rs.now) number wanted (offset operand imm) n) }
 {
     let r = region_at(rs, number);
     let i = first_refused_explicit(mode, r, wanted, operand, imm, n);

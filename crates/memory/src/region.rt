@@ -1,27 +1,27 @@
 // One region: its rule, its permission and the bytes that it matches.
 ghost use Rattle.std.specs.Prelude.{◌≡◌, ◌+◌, ◌^◌, ◌<◌, nat_le};
-ghost use Rattle.model.specs.Regions.{permits as isPermitted, maskZeros, implicitRule, smallRule, largeRule, explicitRule, matches as isMatched};
+ghost use Rattle.model.specs.Regions.{permits as is_permitted, mask_zeros, implicit_rule, small_rule, large_rule, explicit_rule, matches as is_matched};
 
 use model::{LARGE, Region};
 
 // Does region `r` have the permission `wanted`, a bit number?
 pub fn permits(wanted: u64, r: Region) -> bool
     requires { wanted < 64 }
-    ensures { result ≡ isPermitted wanted r }
+    ensures { result ≡ is_permitted wanted r }
 {
     words::bits(r.permission, wanted, 1) == 1
 }
 
 // The count of the mask's trailing zero bits.
 pub fn mask_zeros(mask: u64) -> u64
-    ensures { result ≡ maskZeros mask }
+    ensures { result ≡ mask_zeros mask }
 {
     u64::trailing_zeros(mask) as u64
 }
 
 // Does an implicit region keep its rule?
 pub fn implicit_rule(r: Region) -> bool
-    ensures { result ≡ implicitRule r }
+    ensures { result ≡ implicit_rule r }
 {
     let k = mask_zeros(r.bound);
     if 48 < k {
@@ -43,7 +43,7 @@ fn ends_low(r: Region) -> bool
 }
 
 fn small_rule(r: Region) -> bool
-    ensures { result ≡ smallRule r }
+    ensures { result ≡ small_rule r }
 {
     if (1 <= r.bound) & ((r.bound <= 0x1_0000_0000) & ends_low(r)) {
         (r.base >> 32) == ((r.base + (r.bound - 1)) >> 32)
@@ -53,7 +53,7 @@ fn small_rule(r: Region) -> bool
 }
 
 fn large_rule(r: Region) -> bool
-    ensures { result ≡ largeRule r }
+    ensures { result ≡ large_rule r }
 {
     (words::bits(r.base, 0, 16) == 0)
         & ((words::bits(r.bound, 0, 16) == 0) & ((r.bound != 0) & ends_low(r)))
@@ -61,7 +61,7 @@ fn large_rule(r: Region) -> bool
 
 // Does an explicit region keep its rule?
 pub fn explicit_rule(r: Region) -> bool
-    ensures { result ≡ explicitRule r }
+    ensures { result ≡ explicit_rule r }
 {
     if permits(LARGE, r) {
         large_rule(r)
@@ -72,7 +72,7 @@ pub fn explicit_rule(r: Region) -> bool
 
 // Does the implicit region match the byte at `a`?
 pub fn matches(r: Region, a: u64) -> bool
-    ensures { result ≡ isMatched r a }
+    ensures { result ≡ is_matched r a }
 {
     implicit_rule(r) & ((a & r.bound) == r.base)
 }

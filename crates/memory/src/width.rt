@@ -1,6 +1,6 @@
 // How many bytes each load and store moves.
 ghost use Rattle.std.specs.Prelude.{◌≡◌};
-ghost use Rattle.model.specs.Access.{load_width, storeWidth};
+ghost use Rattle.model.specs.Access.{load_width, store_width};
 
 use instructions::kind::{LoadKind, StoreKind};
 
@@ -19,7 +19,7 @@ pub fn load_width(k: LoadKind) -> u64
 }
 
 pub fn store_width(k: StoreKind) -> u64
-    ensures { result ≡ storeWidth k }
+    ensures { result ≡ store_width k }
 {
     match k {
         StoreKind::Sb => 1,

@@ -19,18 +19,18 @@ value_same s t a (suc n) i h =
     cc (h i (omega arith) (omega arith), value_same s t a n (suc i) (λ j p q. h j (omega arith) (omega arith)))
 
 -- a word of four bytes is two halves
-pub value-halves : (s : List ℕ) (a : ℕ) → value s a 0 4 ≡ value s a 0 2 + 65536 * value s (byte_of a 2) 0 2
+pub value_halves : (s : List ℕ) (a : ℕ) → value s a 0 4 ≡ value s a 0 2 + 65536 * value s (byte_of a 2) 0 2
 unfolding value
-value-halves s a =
+value_halves s a =
     let p : byte_of (byte_of a 2) 0 ≡ byte_of a 2 = omega arith in
     let q : byte_of (byte_of a 2) 1 ≡ byte_of a 3 = omega arith in
     rw (p, q) (omega arith)
 
-pub length-written : (n i : ℕ) (s : List ℕ) (a v : ℕ) → length (written s a i n v) ≡ length s
+pub length_written : (n i : ℕ) (s : List ℕ) (a v : ℕ) → length (written s a i n v) ≡ length s
 unfolding written
-length-written zero i s a v = refl
-length-written (suc n) i s a v =
-    length-written n (suc i) (set s (byte_of a i) (v % 256)) a (v / 256) ∙ length-set s (byte_of a i) (v % 256)
+length_written zero i s a v = refl
+length_written (suc n) i s a v =
+    length_written n (suc i) (set s (byte_of a i) (v % 256)) a (v / 256) ∙ length-set s (byte_of a i) (v % 256)
 
 -- a byte that is the same in both stays so where one value is put at one place of both
 set_same : (s t : List ℕ) (x v b : ℕ) → length s ≡ length t → get_or s b 0 ≡ get_or t b 0 → get_or (set s x v) b 0 ≡ get_or (set t x v) b 0
@@ -51,10 +51,10 @@ written_same (suc n) i s t a v b l e =
     (set_same s t (byte_of a i) (v % 256) b l e)
 
 -- a byte that is none of the access's keeps its value
-pub written-other : (n i : ℕ) (s : List ℕ) (a v b : ℕ) → ((j : ℕ) → i ≤ j → j < i + n → b ≢ byte_of a j)
+pub written_other : (n i : ℕ) (s : List ℕ) (a v b : ℕ) → ((j : ℕ) → i ≤ j → j < i + n → b ≢ byte_of a j)
     → get_or (written s a i n v) b 0 ≡ get_or s b 0
 unfolding written
-written-other zero i s a v b h = refl
-written-other (suc n) i s a v b h =
-    written-other n (suc i) (set s (byte_of a i) (v % 256)) a (v / 256) b (λ j p q. h j (omega arith) (omega arith))
+written_other zero i s a v b h = refl
+written_other (suc n) i s a v b h =
+    written_other n (suc i) (set s (byte_of a i) (v % 256)) a (v / 256) b (λ j p q. h j (omega arith) (omega arith))
     ∙ get_or-set_other s (byte_of a i) b (v % 256) 0 (h i (omega arith) (omega arith))

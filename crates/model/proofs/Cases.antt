@@ -7,7 +7,7 @@ use Prim.Native.Nat.{ℕ}
 use lib.Count.{count_trailing_zeros}
 use lib.ListN.{replicate}
 use Rattle.words.specs.Word.{sext}
-use Rattle.instructions.specs.Decode.{decodeWord}
+use Rattle.instructions.specs.Decode.{decode_word}
 use Rattle.instructions.specs.declared.kind.ImmediateKind.TheVariants.{Addi}
 use Rattle.instructions.specs.declared.kind.StoreKind.TheVariants.{Sb}
 use Rattle.instructions.specs.declared.kind.HfiKind.TheVariants.{Exit}
@@ -15,16 +15,16 @@ use Rattle.instructions.specs.declared.instruction.Instruction.TheVariants.{Imme
 use Rattle.instructions.specs.declared.instruction.Decoded.TheVariants.{Legal, Illegal}
 use Rattle.model.specs.Bytes.{value, written}
 use Rattle.model.specs.Outcome.{allowed, settle}
-use Rattle.model.specs.WellFormed.{stateFits, wellFormed}
-use Rattle.model.specs.Hfi.{hfiStop, hfiPerform}
-use Rattle.model.specs.Regions.{explicitRule, matches, firstMatch, implicitGrants, explicitGrants}
-use Rattle.model.specs.WritableCode.{explicitCovers, writableCode, exposesCode}
-use Rattle.model.specs.Access.{scan, firstRefused, firstAbsent, verdict}
-use Rattle.model.specs.Step.{store, perform, executeInstruction, executeWord, fetching, executeFetched, step, stepCall}
-use Rattle.compressed.specs.Expand.{expandHalf}
-use Rattle.model.specs.Run.{run_by, runCall}
+use Rattle.model.specs.WellFormed.{state_fits, well_formed}
+use Rattle.model.specs.Hfi.{hfi_stop, hfi_perform}
+use Rattle.model.specs.Regions.{explicit_rule, matches, first_match, implicit_grants, explicit_grants}
+use Rattle.model.specs.WritableCode.{explicit_covers, writable_code, exposes_code}
+use Rattle.model.specs.Access.{scan, first_refused, first_absent, verdict}
+use Rattle.model.specs.Step.{store, perform, execute_instruction, execute_word, fetching, execute_fetched, step, step_call}
+use Rattle.compressed.specs.Expand.{expand_half}
+use Rattle.model.specs.Run.{run_by, run_call}
 use Rattle.model.proofs.Alike.{held}
-use Rattle.model.proofs.Rows.{Row, found, stated, x, pc, mode, base, bound, permission, handler, occurred, faultRegion, op, faulting, puts, regionOf, with, bytes}
+use Rattle.model.proofs.Rows.{Row, found, stated, x, pc, mode, base, bound, permission, handler, occurred, fault_region, op, faulting, puts, region_of, with, bytes}
 use Rattle.model.proofs.Rows.Question.{decoding, matching, ruling, stepping, running}
 use Rattle.model.proofs.Rows.Answer.{decoded, told, gave}
 
@@ -43,7 +43,7 @@ memory w = bytes (w ∷ []) ++ replicate 0x21c 0
 abbrev refused : ℕ → ℕ → Row
 refused w a = (
   stepping (with storing) (memory w),
-  gave 16 0 0 (with (storing ++ ((occurred, 1) ∷ (faultRegion, 1) ∷ (op, 2) ∷ (faulting, a) ∷ []))) (memory w),
+  gave 16 0 0 (with (storing ++ ((occurred, 1) ∷ (fault_region, 1) ∷ (op, 2) ∷ (faulting, a) ∷ []))) (memory w),
 )
 
 unfoldable pub rows : List Row
@@ -56,16 +56,16 @@ rows =
     ∷ (decoding 0x0400005b, decoded (Legal (Hfi Exit 0 0 0)))
     ∷ (decoding 0x0400015b, decoded Illegal)
     -- D
-    ∷ (matching (regionOf 0 0xfffffffffffffff0 3) 0xf, told true)
-    ∷ (matching (regionOf 0 0xfffffffffffffff0 3) 0x10, told false)
+    ∷ (matching (region_of 0 0xfffffffffffffff0 3) 0xf, told true)
+    ∷ (matching (region_of 0 0xfffffffffffffff0 3) 0x10, told false)
     -- E
-    ∷ (matching (regionOf 0 0 3) 0, told false)
-    ∷ (matching (regionOf 0 0 3) 0x10, told false)
-    ∷ (matching (regionOf 0 0 3) 0xffffffffffffffff, told false)
+    ∷ (matching (region_of 0 0 3) 0, told false)
+    ∷ (matching (region_of 0 0 3) 0x10, told false)
+    ∷ (matching (region_of 0 0 3) 0xffffffffffffffff, told false)
     -- F
-    ∷ (matching (regionOf 8 0xfffffffffffffff0 3) 0, told false)
-    ∷ (matching (regionOf 8 0xfffffffffffffff0 3) 8, told false)
-    ∷ (matching (regionOf 8 0xfffffffffffffff0 3) 0xf, told false)
+    ∷ (matching (region_of 8 0xfffffffffffffff0 3) 0, told false)
+    ∷ (matching (region_of 8 0xfffffffffffffff0 3) 8, told false)
+    ∷ (matching (region_of 8 0xfffffffffffffff0 3) 0xf, told false)
     -- G: hsd x10 at 8, and at 9
     ∷ (
       stepping (with storing) (memory 0x00a0342b),
@@ -77,11 +77,11 @@ rows =
     -- H: hsd x10 at -1
     ∷ refused 0xfea03fab 0x1ff
     -- I
-    ∷ (ruling (regionOf 0xffffffff 1 3), told true)
-    ∷ (ruling (regionOf 0xffffffff 2 3), told false)
+    ∷ (ruling (region_of 0xffffffff 1 3), told true)
+    ∷ (ruling (region_of 0xffffffff 2 3), told false)
     -- J
-    ∷ (ruling (regionOf 0x10000 0x10000 0xb), told true)
-    ∷ (ruling (regionOf 0x10000 0x10001 0xb), told false)
+    ∷ (ruling (region_of 0x10000 0x10000 0xb), told true)
+    ∷ (ruling (region_of 0x10000 0x10001 0xb), told false)
     -- K: set handler from x5, get handler to x6
     ∷ (
       running (with ((x 5, 0xffffffffffffffff) ∷ [])) (bytes (0x1402805b ∷ 0x1600035b ∷ [])) 2,
@@ -97,5 +97,5 @@ rows =
     ∷ []
 
 pub cases : found rows ≡ stated rows
-unfolding rows count_trailing_zeros sext decodeWord expandHalf matches explicitRule firstMatch implicitGrants explicitGrants explicitCovers writableCode exposesCode scan firstRefused firstAbsent verdict value written allowed settle stateFits wellFormed hfiStop hfiPerform store perform executeInstruction executeWord fetching executeFetched step stepCall run_by runCall
+unfolding rows count_trailing_zeros sext decode_word expand_half matches explicit_rule first_match implicit_grants explicit_grants explicit_covers writable_code exposes_code scan first_refused first_absent verdict value written allowed settle state_fits well_formed hfi_stop hfi_perform store perform execute_instruction execute_word fetching execute_fetched step step_call run_by run_call
 cases = held rows refl

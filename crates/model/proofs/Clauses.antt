@@ -10,21 +10,21 @@ use lib.Count.{count_trailing_zeros}
 use lib.ListN.{length}
 use Rattle.words.specs.Word.{sext}
 use Rattle.words.specs.Integer.{low_half, high_half, quotient, remainder}
-use Rattle.instructions.specs.Decode.{decodeWord}
-use Rattle.model.specs.Machine.{sum, setReg, machine}
+use Rattle.instructions.specs.Decode.{decode_word}
+use Rattle.model.specs.Machine.{sum, set_reg, machine}
 use Rattle.model.specs.Bytes.{value, written}
 use Rattle.model.specs.Outcome.{stopped, allowed, aligned, settle}
-use Rattle.model.specs.WellFormed.{stateFits, wellFormed}
-use Rattle.model.specs.Hfi.{hfiStop, hfiPerform}
-use Rattle.model.specs.Regions.{explicitRule, matches, firstMatch, implicitGrants, explicitGrants}
-use Rattle.model.specs.WritableCode.{explicitCovers, writableCode, exposesCode}
-use Rattle.model.specs.Access.{scan, firstRefused, firstAbsent, verdict}
-use Rattle.model.specs.Step.{load, store, perform, executeInstruction, executeWord, fetching, executeFetched, step, stepCall, resumeCall}
-use Rattle.compressed.specs.Expand.{expandHalf}
-use Rattle.model.specs.Run.{ended, run_by, runCall}
+use Rattle.model.specs.WellFormed.{state_fits, well_formed}
+use Rattle.model.specs.Hfi.{hfi_stop, hfi_perform}
+use Rattle.model.specs.Regions.{explicit_rule, matches, first_match, implicit_grants, explicit_grants}
+use Rattle.model.specs.WritableCode.{explicit_covers, writable_code, exposes_code}
+use Rattle.model.specs.Access.{scan, first_refused, first_absent, verdict}
+use Rattle.model.specs.Step.{load, store, perform, execute_instruction, execute_word, fetching, execute_fetched, step, step_call, resume_call}
+use Rattle.compressed.specs.Expand.{expand_half}
+use Rattle.model.specs.Run.{ended, run_by, run_call}
 use Rattle.model.specs.declared.Machine.{Machine}
 use Rattle.model.proofs.Alike.{held}
-use Rattle.model.proofs.Rows.{Row, found, stated, x, pc, mode, reason, epc, options, handler, selector, base, bound, permission, occurred, faultRegion, op, faulting, puts, regionOf, with, bytes}
+use Rattle.model.proofs.Rows.{Row, found, stated, x, pc, mode, reason, epc, options, handler, selector, base, bound, permission, occurred, fault_region, op, faulting, puts, region_of, with, bytes}
 use Rattle.model.proofs.Rows.Question.{matching, ruling, judging, stepping, running, resuming}
 use Rattle.model.proofs.Rows.Answer.{told, gave}
 
@@ -34,8 +34,8 @@ abbrev pub enter : ℕ
 enter = 0x0002805b
 
 -- options in x5, target in x6
-abbrev pub enterJump : ℕ
-enterJump = 0x0262805b
+abbrev pub enter_jump : ℕ
+enter_jump = 0x0262805b
 
 abbrev exit : ℕ
 exit = 0x0400005b
@@ -43,29 +43,29 @@ exit = 0x0400005b
 abbrev pub select : ℕ
 select = 0x0602805b
 
-abbrev pub setBase : ℕ
-setBase = 0x0802805b
+abbrev pub set_base : ℕ
+set_base = 0x0802805b
 
-abbrev pub getBase : ℕ
-getBase = 0x0a00035b
+abbrev pub get_base : ℕ
+get_base = 0x0a00035b
 
-abbrev pub setBound : ℕ
-setBound = 0x0c02805b
+abbrev pub set_bound : ℕ
+set_bound = 0x0c02805b
 
-abbrev pub getBound : ℕ
-getBound = 0x0e00035b
+abbrev pub get_bound : ℕ
+get_bound = 0x0e00035b
 
-abbrev pub setPermission : ℕ
-setPermission = 0x1002805b
+abbrev pub set_permission : ℕ
+set_permission = 0x1002805b
 
-abbrev pub getPermission : ℕ
-getPermission = 0x1200035b
+abbrev pub get_permission : ℕ
+get_permission = 0x1200035b
 
-abbrev setHandler : ℕ
-setHandler = 0x1402805b
+abbrev set_handler : ℕ
+set_handler = 0x1402805b
 
-abbrev getHandler : ℕ
-getHandler = 0x1600035b
+abbrev get_handler : ℕ
+get_handler = 0x1600035b
 
 abbrev pub reset : ℕ
 reset = 0x1800005b
@@ -120,7 +120,7 @@ busy =
     ∷ (base 1, 0x10) ∷ (bound 1, 8) ∷ (permission 1, 3)
     ∷ (base 2, 0x40) ∷ (bound 2, 0xffffffffffffffc0) ∷ (permission 2, 1)
     ∷ (bound 3, 0xfffffffffffffff0) ∷ (permission 3, 4)
-    ∷ (occurred, 1) ∷ (faultRegion, 2) ∷ (op, 1) ∷ (faulting, 0x99) ∷ []
+    ∷ (occurred, 1) ∷ (fault_region, 2) ∷ (op, 1) ∷ (faulting, 0x99) ∷ []
 
 abbrev pub outside : ℕ → List (ℕ × ℕ)
 outside o = busy ++ ((options, o) ∷ [])
@@ -135,11 +135,11 @@ operands a b = (x 5, a) ∷ (x 6, b) ∷ []
 -- ---- rows
 
 -- a step over these bytes, its stop and address, and the places of the machine that it changes; the memory stays
-abbrev pub stepsOver : List (ℕ × ℕ) → List ℕ → ℕ → ℕ → List (ℕ × ℕ) → Row
-stepsOver start mem stop address changes = (stepping (with start) mem, gave stop 0 address (with (start ++ changes)) mem)
+abbrev pub steps_over : List (ℕ × ℕ) → List ℕ → ℕ → ℕ → List (ℕ × ℕ) → Row
+steps_over start mem stop address changes = (stepping (with start) mem, gave stop 0 address (with (start ++ changes)) mem)
 
 abbrev pub steps : List (ℕ × ℕ) → ℕ → ℕ → List (ℕ × ℕ) → Row
-steps start w stop changes = stepsOver start (bytes (w ∷ [])) stop 0 changes
+steps start w stop changes = steps_over start (bytes (w ∷ [])) stop 0 changes
 
 -- a step that completes and goes to the next word
 abbrev pub goes : List (ℕ × ℕ) → ℕ → List (ℕ × ℕ) → Row
@@ -151,7 +151,7 @@ forbidden number start w = steps start w number []
 
 -- an h-word that its region refuses, by what the fault record then says: load or store, and the address
 abbrev faults : List (ℕ × ℕ) → ℕ → ℕ → ℕ → Row
-faults start w kind at = steps start w 16 ((occurred, 1) ∷ (faultRegion, 1) ∷ (op, kind) ∷ (faulting, at) ∷ [])
+faults start w kind at = steps start w 16 ((occurred, 1) ∷ (fault_region, 1) ∷ (op, kind) ∷ (faulting, at) ∷ [])
 
 -- a step that changes the memory too
 abbrev pub writes : List (ℕ × ℕ) → List ℕ → List (ℕ × ℕ) → List (ℕ × ℕ) → Row
@@ -171,19 +171,19 @@ entering =
     goes (outside 6 ++ operands 15 0) enter ((mode, 1) ∷ (options, 15) ∷ (occurred, 0) ∷ [])
     ∷ goes (outside 6 ++ operands 0 0) enter ((mode, 1) ∷ (options, 0) ∷ (occurred, 0) ∷ [])
     -- "The jump form sets pc to rs2."
-    ∷ steps (outside 6 ++ operands 9 0x100) enterJump 0 ((pc, 0x100) ∷ (mode, 1) ∷ (options, 9) ∷ (occurred, 0) ∷ [])
+    ∷ steps (outside 6 ++ operands 9 0x100) enter_jump 0 ((pc, 0x100) ∷ (mode, 1) ∷ (options, 9) ∷ (occurred, 0) ∷ [])
     -- "the target of an enter with jump, which must be a multiple of 2" (02, Job 8)
-    ∷ steps (outside 6 ++ operands 9 0x102) enterJump 0 ((pc, 0x102) ∷ (mode, 1) ∷ (options, 9) ∷ (occurred, 0) ∷ [])
-    ∷ steps (outside 6 ++ operands 9 0x103) enterJump 15 []
-    ∷ steps (outside 6 ++ operands 9 0x101) enterJump 15 []
+    ∷ steps (outside 6 ++ operands 9 0x102) enter_jump 0 ((pc, 0x102) ∷ (mode, 1) ∷ (options, 9) ∷ (occurred, 0) ∷ [])
+    ∷ steps (outside 6 ++ operands 9 0x103) enter_jump 15 []
+    ∷ steps (outside 6 ++ operands 9 0x101) enter_jump 15 []
     -- "an options operand above 15", before the target
     ∷ forbidden 14 (outside 6 ++ operands 16 0) enter
     ∷ forbidden 14 (outside 6 ++ operands (2 ^ 32) 0) enter
-    ∷ forbidden 14 (outside 6 ++ operands 16 0x103) enterJump
-    ∷ forbidden 14 (outside 6 ++ operands (2 ^ 32) 0x100) enterJump
+    ∷ forbidden 14 (outside 6 ++ operands 16 0x103) enter_jump
+    ∷ forbidden 14 (outside 6 ++ operands (2 ^ 32) 0x100) enter_jump
     -- "23, enter in HFI mode"
     ∷ forbidden 23 (inside 0 ++ operands 0 0) enter
-    ∷ forbidden 23 (inside 0 ++ operands 0 0x100) enterJump
+    ∷ forbidden 23 (inside 0 ++ operands 0 0x100) enter_jump
     ∷ []
 
 unfoldable pub leaving : List Row
@@ -206,13 +206,13 @@ leaving =
 abbrev manipulating : List (ℕ × ℕ) → List Row
 manipulating start =
     goes start select ((selector, 3) ∷ [])
-    ∷ goes start setBase ((base 2, 3) ∷ [])
-    ∷ goes start getBase ((x 6, 0x40) ∷ [])
-    ∷ goes start setBound ((bound 2, 3) ∷ [])
-    ∷ goes start getBound ((x 6, 0xffffffffffffffc0) ∷ [])
-    ∷ goes start setPermission ((permission 2, 3) ∷ [])
-    ∷ goes start getPermission ((x 6, 1) ∷ [])
-    ∷ goes start getHandler ((x 6, 0x40) ∷ [])
+    ∷ goes start set_base ((base 2, 3) ∷ [])
+    ∷ goes start get_base ((x 6, 0x40) ∷ [])
+    ∷ goes start set_bound ((bound 2, 3) ∷ [])
+    ∷ goes start get_bound ((x 6, 0xffffffffffffffc0) ∷ [])
+    ∷ goes start set_permission ((permission 2, 3) ∷ [])
+    ∷ goes start get_permission ((x 6, 1) ∷ [])
+    ∷ goes start get_handler ((x 6, 0x40) ∷ [])
     -- "Reset zeroes regions and selector."
     ∷ goes start reset
     ((selector, 0) ∷ (base 1, 0) ∷ (bound 1, 0) ∷ (permission 1, 0) ∷ (base 2, 0) ∷ (bound 2, 0) ∷ (permission 2, 0)
@@ -225,18 +225,18 @@ locking =
     manipulating (outside 1 ++ operands 3 0)
     ++ manipulating (inside 0xe ++ operands 3 0)
     -- "Set handler clears bits 0, 1, 62, 63."
-    ++ (goes (outside 1 ++ operands (2 ^ 64 - 1) 0) setHandler ((handler, 0x3ffffffffffffffc) ∷ [])
-    ∷ forbidden 25 (inside 0xe ++ operands 3 0) setHandler
+    ++ (goes (outside 1 ++ operands (2 ^ 64 - 1) 0) set_handler ((handler, 0x3ffffffffffffffc) ∷ [])
+    ∷ forbidden 25 (inside 0xe ++ operands 3 0) set_handler
     -- "funct7 3 to 9, 11 or 12 in HFI mode when locked"
     ∷ forbidden 25 (inside 1 ++ operands 3 0) select
-    ∷ forbidden 25 (inside 1 ++ operands 3 0) setBase
-    ∷ forbidden 25 (inside 1) getBase
-    ∷ forbidden 25 (inside 1 ++ operands 3 0) setBound
-    ∷ forbidden 25 (inside 1) getBound
-    ∷ forbidden 25 (inside 1 ++ operands 3 0) setPermission
-    ∷ forbidden 25 (inside 1) getPermission
-    ∷ forbidden 25 (inside 1 ++ operands 3 0) setHandler
-    ∷ forbidden 25 (inside 1) getHandler
+    ∷ forbidden 25 (inside 1 ++ operands 3 0) set_base
+    ∷ forbidden 25 (inside 1) get_base
+    ∷ forbidden 25 (inside 1 ++ operands 3 0) set_bound
+    ∷ forbidden 25 (inside 1) get_bound
+    ∷ forbidden 25 (inside 1 ++ operands 3 0) set_permission
+    ∷ forbidden 25 (inside 1) get_permission
+    ∷ forbidden 25 (inside 1 ++ operands 3 0) set_handler
+    ∷ forbidden 25 (inside 1) get_handler
     ∷ forbidden 25 (inside 1) reset
     -- "a selected number not 1 to 3", and since Job 7 "up to 10": the whole register
     ∷ goes (outside 0 ++ operands 10 0) select ((selector, 10) ∷ [])
@@ -244,36 +244,36 @@ locking =
     ∷ forbidden 14 (outside 0 ++ operands 11 0) select
     ∷ forbidden 14 (outside 0 ++ operands (2 ^ 32 + 1) 0) select
     -- "funct7 4 to 9 with selector 0"
-    ∷ forbidden 14 (outside 0 ++ ((selector, 0) ∷ [])) setBase
-    ∷ forbidden 14 (outside 0 ++ ((selector, 0) ∷ [])) getBase
-    ∷ forbidden 14 (outside 0 ++ ((selector, 0) ∷ [])) setBound
-    ∷ forbidden 14 (outside 0 ++ ((selector, 0) ∷ [])) getBound
-    ∷ forbidden 14 (outside 0 ++ ((selector, 0) ∷ [])) setPermission
-    ∷ forbidden 14 (outside 0 ++ ((selector, 0) ∷ [])) getPermission
+    ∷ forbidden 14 (outside 0 ++ ((selector, 0) ∷ [])) set_base
+    ∷ forbidden 14 (outside 0 ++ ((selector, 0) ∷ [])) get_base
+    ∷ forbidden 14 (outside 0 ++ ((selector, 0) ∷ [])) set_bound
+    ∷ forbidden 14 (outside 0 ++ ((selector, 0) ∷ [])) get_bound
+    ∷ forbidden 14 (outside 0 ++ ((selector, 0) ∷ [])) set_permission
+    ∷ forbidden 14 (outside 0 ++ ((selector, 0) ∷ [])) get_permission
     -- "a permission bit the region lacks"
-    ∷ forbidden 14 (outside 0 ++ ((selector, 1) ∷ (x 5, 4) ∷ [])) setPermission
-    ∷ forbidden 14 (outside 0 ++ ((selector, 2) ∷ (x 5, 8) ∷ [])) setPermission
-    ∷ forbidden 14 (outside 0 ++ ((selector, 3) ∷ (x 5, 1) ∷ [])) setPermission
+    ∷ forbidden 14 (outside 0 ++ ((selector, 1) ∷ (x 5, 4) ∷ [])) set_permission
+    ∷ forbidden 14 (outside 0 ++ ((selector, 2) ∷ (x 5, 8) ∷ [])) set_permission
+    ∷ forbidden 14 (outside 0 ++ ((selector, 3) ∷ (x 5, 1) ∷ [])) set_permission
     -- the bits are those given, and large may stand alone
-    ∷ goes (outside 0 ++ ((selector, 1) ∷ (permission 1, 0xb) ∷ (x 5, 3) ∷ [])) setPermission ((permission 1, 3) ∷ [])
-    ∷ goes (outside 0 ++ ((selector, 1) ∷ (x 5, 8) ∷ [])) setPermission ((permission 1, 8) ∷ [])
+    ∷ goes (outside 0 ++ ((selector, 1) ∷ (permission 1, 0xb) ∷ (x 5, 3) ∷ [])) set_permission ((permission 1, 3) ∷ [])
+    ∷ goes (outside 0 ++ ((selector, 1) ∷ (x 5, 8) ∷ [])) set_permission ((permission 1, 8) ∷ [])
     ∷ [])
 
 -- nothing here is as a stop might leave it that does more than stop
 abbrev pub calm : List (ℕ × ℕ)
-calm = (x 10, 5) ∷ (reason, 1) ∷ (epc, 0) ∷ (occurred, 0) ∷ (faultRegion, 0) ∷ (op, 0) ∷ (faulting, 0) ∷ []
+calm = (x 10, 5) ∷ (reason, 1) ∷ (epc, 0) ∷ (occurred, 0) ∷ (fault_region, 0) ∷ (op, 0) ∷ (faulting, 0) ∷ []
 
 -- "If the operand is bad as well, the new number is given."
 unfoldable pub numbering : List Row
 numbering =
     -- "23, enter in HFI mode", locked or not, before the operand and before the target
     forbidden 23 (inside 1 ++ operands 0 0) enter
-    ∷ forbidden 23 (inside 0xf ++ operands 0 0x100) enterJump
+    ∷ forbidden 23 (inside 0xf ++ operands 0 0x100) enter_jump
     ∷ forbidden 23 (inside 0 ++ operands 16 0) enter
     ∷ forbidden 23 (inside 1 ++ operands (2 ^ 64 - 1) 0) enter
-    ∷ forbidden 23 (inside 0 ++ operands 16 0x102) enterJump
-    ∷ forbidden 23 (inside 1 ++ operands (2 ^ 32) 0x101) enterJump
-    ∷ forbidden 23 (inside 0 ++ operands 0 0x102) enterJump
+    ∷ forbidden 23 (inside 0 ++ operands 16 0x102) enter_jump
+    ∷ forbidden 23 (inside 1 ++ operands (2 ^ 32) 0x101) enter_jump
+    ∷ forbidden 23 (inside 0 ++ operands 0 0x102) enter_jump
     -- "24, exit outside it", whatever the options are; an h-word is none
     ∷ forbidden 24 (outside 1) exit
     ∷ forbidden 24 (outside 0xf) exit
@@ -282,81 +282,81 @@ numbering =
     -- "25, a region or handler instruction that HFI mode forbids": a number that is none, a bit that the region lacks, nothing selected
     ∷ forbidden 25 (inside 1 ++ operands 0 0) select
     ∷ forbidden 25 (inside 1 ++ operands 11 0) select
-    ∷ forbidden 25 (inside 1 ++ operands 8 0) setPermission
-    ∷ forbidden 25 (inside 1 ++ ((selector, 0) ∷ [])) setBase
-    ∷ forbidden 25 (inside 1 ++ ((selector, 0) ∷ [])) getBase
-    ∷ forbidden 25 (inside 1 ++ ((selector, 0) ∷ [])) setBound
-    ∷ forbidden 25 (inside 1 ++ ((selector, 0) ∷ [])) getBound
-    ∷ forbidden 25 (inside 1 ++ ((selector, 0) ∷ [])) setPermission
-    ∷ forbidden 25 (inside 1 ++ ((selector, 0) ∷ [])) getPermission
+    ∷ forbidden 25 (inside 1 ++ operands 8 0) set_permission
+    ∷ forbidden 25 (inside 1 ++ ((selector, 0) ∷ [])) set_base
+    ∷ forbidden 25 (inside 1 ++ ((selector, 0) ∷ [])) get_base
+    ∷ forbidden 25 (inside 1 ++ ((selector, 0) ∷ [])) set_bound
+    ∷ forbidden 25 (inside 1 ++ ((selector, 0) ∷ [])) get_bound
+    ∷ forbidden 25 (inside 1 ++ ((selector, 0) ∷ [])) set_permission
+    ∷ forbidden 25 (inside 1 ++ ((selector, 0) ∷ [])) get_permission
     ∷ forbidden 25 (inside 1 ++ ((selector, 0) ∷ [])) reset
     -- the handler asks for no selection: to set it is forbidden in HFI mode, to get it only when locked
-    ∷ forbidden 25 (inside 0 ++ ((selector, 0) ∷ [])) setHandler
-    ∷ forbidden 25 (inside 1 ++ ((selector, 0) ∷ [])) getHandler
-    ∷ goes (inside 0 ++ ((selector, 0) ∷ [])) getHandler ((x 6, 0x40) ∷ [])
-    ∷ goes (outside 1 ++ ((selector, 0) ∷ [])) getHandler ((x 6, 0x40) ∷ [])
+    ∷ forbidden 25 (inside 0 ++ ((selector, 0) ∷ [])) set_handler
+    ∷ forbidden 25 (inside 1 ++ ((selector, 0) ∷ [])) get_handler
+    ∷ goes (inside 0 ++ ((selector, 0) ∷ [])) get_handler ((x 6, 0x40) ∷ [])
+    ∷ goes (outside 1 ++ ((selector, 0) ∷ [])) get_handler ((x 6, 0x40) ∷ [])
     -- unlocked, in HFI mode as outside it, operand and selection are asked alone
     ∷ forbidden 14 (inside 0xe ++ operands 0 0) select
     ∷ forbidden 14 (inside 0 ++ operands 11 0) select
-    ∷ forbidden 14 (inside 0 ++ operands 8 0) setPermission
-    ∷ forbidden 14 (inside 0 ++ ((selector, 0) ∷ [])) setBase
-    ∷ forbidden 14 (inside 0xe ++ ((selector, 0) ∷ [])) getBase
-    ∷ forbidden 14 (inside 0 ++ ((selector, 0) ∷ [])) setBound
-    ∷ forbidden 14 (inside 0xe ++ ((selector, 0) ∷ [])) getBound
-    ∷ forbidden 14 (inside 0 ++ ((selector, 0) ∷ [])) setPermission
-    ∷ forbidden 14 (inside 0xe ++ ((selector, 0) ∷ [])) getPermission
-    ∷ forbidden 14 (outside 1 ++ ((selector, 0) ∷ [])) getBase
+    ∷ forbidden 14 (inside 0 ++ operands 8 0) set_permission
+    ∷ forbidden 14 (inside 0 ++ ((selector, 0) ∷ [])) set_base
+    ∷ forbidden 14 (inside 0xe ++ ((selector, 0) ∷ [])) get_base
+    ∷ forbidden 14 (inside 0 ++ ((selector, 0) ∷ [])) set_bound
+    ∷ forbidden 14 (inside 0xe ++ ((selector, 0) ∷ [])) get_bound
+    ∷ forbidden 14 (inside 0 ++ ((selector, 0) ∷ [])) set_permission
+    ∷ forbidden 14 (inside 0xe ++ ((selector, 0) ∷ [])) get_permission
+    ∷ forbidden 14 (outside 1 ++ ((selector, 0) ∷ [])) get_base
     ∷ forbidden 14 (outside 1 ++ operands 0 0) select
     -- all bits of a permission are asked, and no other region's
-    ∷ forbidden 14 (outside 0 ++ ((selector, 1) ∷ (x 5, 0x20) ∷ [])) setPermission
-    ∷ forbidden 14 (outside 0 ++ ((selector, 1) ∷ (x 5, 2 ^ 32 + 1) ∷ [])) setPermission
-    ∷ forbidden 14 (inside 0 ++ ((selector, 3) ∷ (x 5, 8) ∷ [])) setPermission
+    ∷ forbidden 14 (outside 0 ++ ((selector, 1) ∷ (x 5, 0x20) ∷ [])) set_permission
+    ∷ forbidden 14 (outside 0 ++ ((selector, 1) ∷ (x 5, 2 ^ 32 + 1) ∷ [])) set_permission
+    ∷ forbidden 14 (inside 0 ++ ((selector, 3) ∷ (x 5, 8) ∷ [])) set_permission
     -- what HFI allows it does not stop otherwise: every number and every selection, and a fence when locked
     ∷ goes (inside 0 ++ operands 1 0) select ((selector, 1) ∷ [])
     ∷ goes (inside 0 ++ operands 2 0) select []
-    ∷ goes (inside 0 ++ ((selector, 1) ∷ [])) getPermission ((x 6, 3) ∷ [])
-    ∷ goes (inside 0 ++ ((selector, 3) ∷ [])) getPermission ((x 6, 4) ∷ [])
+    ∷ goes (inside 0 ++ ((selector, 1) ∷ [])) get_permission ((x 6, 3) ∷ [])
+    ∷ goes (inside 0 ++ ((selector, 3) ∷ [])) get_permission ((x 6, 4) ∷ [])
     ∷ goes (inside 1) 0x0ff0000f []
     -- "Nothing else about these stops changes"
     ∷ forbidden 23 (inside 1 ++ calm) enter
     ∷ forbidden 24 (outside 0 ++ calm) exit
     ∷ forbidden 25 (inside 1 ++ calm) reset
     ∷ forbidden 14 (outside 0 ++ calm) hlb
-    ∷ forbidden 14 (inside 0 ++ calm ++ ((selector, 0) ∷ [])) getBase
+    ∷ forbidden 14 (inside 0 ++ calm ++ ((selector, 0) ∷ [])) get_base
     -- in a run the stopping step isn't counted and changes nothing
     ∷ runs (inside 0) (seven ∷ enter ∷ []) 9 23 1 0 ((pc, 4) ∷ (x 7, 7) ∷ [])
     ∷ runs (outside 0) (seven ∷ exit ∷ []) 9 24 1 0 ((pc, 4) ∷ (x 7, 7) ∷ [])
-    ∷ runs (inside 1) (seven ∷ getHandler ∷ []) 9 25 1 0 ((pc, 4) ∷ (x 7, 7) ∷ [])
+    ∷ runs (inside 1) (seven ∷ get_handler ∷ []) 9 25 1 0 ((pc, 4) ∷ (x 7, 7) ∷ [])
     ∷ runs (outside 0) (seven ∷ hlb ∷ []) 9 14 1 0 ((pc, 4) ∷ (x 7, 7) ∷ [])
     ∷ []
 
 unfoldable pub keeping : List Row
 keeping =
     -- "bound is 1 to 2^32, first and last byte share the same multiple of 2^32, base + bound is at most 2^48"
-    (ruling (regionOf 0 (2 ^ 32) 3), told true)
-    ∷ (ruling (regionOf 0 (2 ^ 32 + 1) 3), told false)
-    ∷ (ruling (regionOf 0 0 3), told false)
-    ∷ (ruling (regionOf (2 ^ 48 - 1) 1 3), told true)
-    ∷ (ruling (regionOf (2 ^ 48) 1 3), told false)
+    (ruling (region_of 0 (2 ^ 32) 3), told true)
+    ∷ (ruling (region_of 0 (2 ^ 32 + 1) 3), told false)
+    ∷ (ruling (region_of 0 0 3), told false)
+    ∷ (ruling (region_of (2 ^ 48 - 1) 1 3), told true)
+    ∷ (ruling (region_of (2 ^ 48) 1 3), told false)
     -- sums are whole numbers
-    ∷ (ruling (regionOf (2 ^ 64 - 1) 1 3), told false)
-    ∷ (ruling (regionOf (2 ^ 64 - 65536) 65536 0xb), told false)
-    ∷ (matching (regionOf (2 ^ 64 - 16) (2 ^ 64 - 16) 3) (2 ^ 64 - 16), told false)
+    ∷ (ruling (region_of (2 ^ 64 - 1) 1 3), told false)
+    ∷ (ruling (region_of (2 ^ 64 - 65536) 65536 0xb), told false)
+    ∷ (matching (region_of (2 ^ 64 - 16) (2 ^ 64 - 16) 3) (2 ^ 64 - 16), told false)
     -- "base and bound are multiples of 65,536, bound is not 0, base + bound is at most 2^48"
-    ∷ (ruling (regionOf 0x10000 0x18000 0xb), told false)
-    ∷ (ruling (regionOf 0x18000 0x10000 0xb), told false)
-    ∷ (ruling (regionOf 0x10000 0 0xb), told false)
-    ∷ (ruling (regionOf 0 (2 ^ 48) 0xb), told true)
-    ∷ (ruling (regionOf 0x10000 (2 ^ 48) 0xb), told false)
+    ∷ (ruling (region_of 0x10000 0x18000 0xb), told false)
+    ∷ (ruling (region_of 0x18000 0x10000 0xb), told false)
+    ∷ (ruling (region_of 0x10000 0 0xb), told false)
+    ∷ (ruling (region_of 0 (2 ^ 48) 0xb), told true)
+    ∷ (ruling (region_of 0x10000 (2 ^ 48) 0xb), told false)
     -- "the count k of the mask's trailing zero bits is 0 to 48", "base + 2^k is at most 2^48"
-    ∷ (matching (regionOf 5 (2 ^ 64 - 1) 3) 5, told true)
-    ∷ (matching (regionOf 0 (2 ^ 64 - 2 ^ 48) 3) (2 ^ 48 - 1), told true)
-    ∷ (matching (regionOf 0 (2 ^ 64 - 2 ^ 49) 3) 0, told false)
-    ∷ (matching (regionOf (2 ^ 48) (2 ^ 64 - 16) 3) (2 ^ 48), told false)
+    ∷ (matching (region_of 5 (2 ^ 64 - 1) 3) 5, told true)
+    ∷ (matching (region_of 0 (2 ^ 64 - 2 ^ 48) 3) (2 ^ 48 - 1), told true)
+    ∷ (matching (region_of 0 (2 ^ 64 - 2 ^ 49) 3) 0, told false)
+    ∷ (matching (region_of (2 ^ 48) (2 ^ 64 - 16) 3) (2 ^ 48), told false)
     ∷ []
 
-unfoldable pub running-on : List Row
-running-on =
+unfoldable pub running_on : List Row
+running_on =
     -- "After a step of a run that began in HFI mode: is the mode still on?" A run that began outside goes on.
     runs (outside 0 ++ operands 0 0) (enter ∷ exit ∷ seven ∷ []) 3 21 3 0
     ((pc, 12) ∷ (x 7, 7) ∷ (reason, 1) ∷ (epc, 4) ∷ (options, 0) ∷ (occurred, 0) ∷ [])
@@ -380,8 +380,8 @@ running-on =
 unfoldable pub asking : List Row
 asking =
     -- questions 4 and 7 outside HFI mode, and in it; "jumps and branches never get" 15 (02, Job 8)
-    stepsOver (outside 0 ++ ((pc, 3) ∷ [])) (bytes (seven ∷ seven ∷ [])) 10 0 []
-    ∷ stepsOver (inside 0 ++ ((pc, 1) ∷ [])) (bytes (seven ∷ seven ∷ [])) 10 0 []
+    steps_over (outside 0 ++ ((pc, 3) ∷ [])) (bytes (seven ∷ seven ∷ [])) 10 0 []
+    ∷ steps_over (inside 0 ++ ((pc, 1) ∷ [])) (bytes (seven ∷ seven ∷ [])) 10 0 []
     ∷ steps (outside 0) 0 13 []
     ∷ steps (inside 0) 0 13 []
     ∷ steps (outside 0) jal 0 ((pc, 2) ∷ [])
@@ -390,7 +390,7 @@ asking =
     ∷ steps (inside 0) beq 0 ((pc, 6) ∷ [])
     ∷ goes (outside 0 ++ operands 1 0) beq5 []
     -- "5. In HFI mode, are all .. bytes executable?" before "6. Are they in memory?"
-    ∷ stepsOver (inside 0 ++ ((pc, 0x20) ∷ [])) (bytes (seven ∷ [])) 11 0 ((occurred, 1) ∷ (faultRegion, 0) ∷ (op, 3) ∷ (faulting, 0x20) ∷ [])
+    ∷ steps_over (inside 0 ++ ((pc, 0x20) ∷ [])) (bytes (seven ∷ [])) 11 0 ((occurred, 1) ∷ (fault_region, 0) ∷ (op, 3) ∷ (faulting, 0x20) ∷ [])
     -- 18 and 19 outside HFI mode
     ∷ steps (outside 0) ecall 18 []
     ∷ steps (outside 0) ebreak 19 []
@@ -430,7 +430,7 @@ abbrev around : ℕ → List ℕ
 around w = bytes (0 ∷ 0xf3e2d1c0 ∷ 0x8796a5b4 ∷ 0 ∷ w ∷ [])
 
 abbrev loads : ℕ → ℕ → Row
-loads w v = stepsOver reaching (around w) 0 0 ((pc, 0x14) ∷ (x 6, v) ∷ [])
+loads w v = steps_over reaching (around w) 0 0 ((pc, 0x14) ∷ (x 6, v) ∷ [])
 
 abbrev stores : ℕ → List (ℕ × ℕ) → Row
 stores w written = writes reaching (around w) ((pc, 0x14) ∷ []) written
@@ -459,8 +459,8 @@ offsets =
     ∷ goes (inside 0 ++ ((base 1, 0) ∷ (x 5, 1) ∷ [])) 0x0002828b ((x 5, 0xffffffffffffff82) ∷ [])
     ∷ writes (inside 0 ++ ((base 1, 0) ∷ (x 5, 6) ∷ [])) (bytes (0x0052802b ∷ 0 ∷ [])) ((pc, 4) ∷ []) ((6, 6) ∷ [])
     -- farther than any immediate: granted, and not in this memory
-    ∷ stepsOver (inside 0 ++ ((base 1, 0) ∷ (bound 1, 0x1000) ∷ (x 5, 0xfff) ∷ [])) (bytes (hlb5 ∷ [])) 17 0xfff []
-    ∷ stepsOver (inside 0 ++ ((base 1, 0) ∷ (bound 1, 0x1000) ∷ (x 5, 0xfff) ∷ [])) (bytes (hsb5 ∷ [])) 17 0xfff []
+    ∷ steps_over (inside 0 ++ ((base 1, 0) ∷ (bound 1, 0x1000) ∷ (x 5, 0xfff) ∷ [])) (bytes (hlb5 ∷ [])) 17 0xfff []
+    ∷ steps_over (inside 0 ++ ((base 1, 0) ∷ (bound 1, 0x1000) ∷ (x 5, 0xfff) ∷ [])) (bytes (hsb5 ∷ [])) 17 0xfff []
     -- "byte i passes when offset + i is at least 0 and below the bound": hld x6, 0(x5); hld and hsd with -5, whose third byte
     -- would pass
     ∷ faults (inside 0 ++ ((x 5, 8) ∷ [])) hlb5 1 0x18
@@ -476,9 +476,9 @@ offsets =
     ∷ faults (inside 0 ++ ((x 5, 2 ^ 63) ∷ [])) hlb5 1 (2 ^ 63 + 0x10)
     ∷ faults (inside 0 ++ ((x 5, 2 ^ 63) ∷ [])) hsb5 2 (2 ^ 63 + 0x10)
     -- the largest region there is, of which the sum is asked and not rs1 alone: hlb and hsb with 0 and with -2048
-    ∷ stepsOver (inside 0 ++ ((base 1, 0) ∷ (bound 1, 2 ^ 48) ∷ (permission 1, 9) ∷ (x 5, 2 ^ 48 - 1) ∷ [])) (bytes (hlb5 ∷ [])) 17 (2 ^ 48 - 1) []
-    ∷ stepsOver (inside 0 ++ ((base 1, 0) ∷ (bound 1, 2 ^ 48) ∷ (permission 1, 9) ∷ (x 5, 2 ^ 48 + 2047) ∷ [])) (bytes (0x8002830b ∷ [])) 17 (2 ^ 48 - 1) []
-    ∷ stepsOver (inside 0 ++ ((base 1, 0) ∷ (bound 1, 2 ^ 48) ∷ (permission 1, 10) ∷ (x 5, 2 ^ 48 + 2047) ∷ [])) (bytes (0x8062802b ∷ [])) 17 (2 ^ 48 - 1) []
+    ∷ steps_over (inside 0 ++ ((base 1, 0) ∷ (bound 1, 2 ^ 48) ∷ (permission 1, 9) ∷ (x 5, 2 ^ 48 - 1) ∷ [])) (bytes (hlb5 ∷ [])) 17 (2 ^ 48 - 1) []
+    ∷ steps_over (inside 0 ++ ((base 1, 0) ∷ (bound 1, 2 ^ 48) ∷ (permission 1, 9) ∷ (x 5, 2 ^ 48 + 2047) ∷ [])) (bytes (0x8002830b ∷ [])) 17 (2 ^ 48 - 1) []
+    ∷ steps_over (inside 0 ++ ((base 1, 0) ∷ (bound 1, 2 ^ 48) ∷ (permission 1, 10) ∷ (x 5, 2 ^ 48 + 2047) ∷ [])) (bytes (0x8062802b ∷ [])) 17 (2 ^ 48 - 1) []
     ∷ faults (inside 0 ++ ((base 1, 0) ∷ (bound 1, 2 ^ 48) ∷ (permission 1, 9) ∷ (x 5, 2 ^ 48) ∷ [])) hlb5 1 (2 ^ 48)
     ∷ faults (inside 0 ++ ((base 1, 0) ∷ (bound 1, 2 ^ 48) ∷ (permission 1, 10) ∷ (x 5, 2 ^ 48 + 2048) ∷ [])) 0x8062802b 2 (2 ^ 48)
     ∷ []
@@ -486,25 +486,25 @@ offsets =
 unfoldable pub absent : List Row
 absent =
     -- "12 and 17 also give the first absent address, counted from the access's start": here it is not the first byte
-    stepsOver (outside 0 ++ ((pc, 8) ∷ [])) (bytes (0 ∷ 0 ∷ []) ++ (3 ∷ 0 ∷ [])) 12 10 []
-    ∷ stepsOver (inside 0 ++ ((pc, 8) ∷ [])) (bytes (0 ∷ 0 ∷ []) ++ (0 ∷ [])) 12 9 []
-    ∷ stepsOver (outside 0 ++ operands 1 0) (bytes (ld ∷ []) ++ (0 ∷ [])) 17 5 []
-    ∷ stepsOver (outside 0 ++ operands 2 0) (bytes (sd ∷ [])) 17 4 []
-    ∷ stepsOver (inside 0 ++ ((base 1, 1) ∷ [])) (bytes (hld ∷ []) ++ (0 ∷ 0 ∷ [])) 17 6 []
+    steps_over (outside 0 ++ ((pc, 8) ∷ [])) (bytes (0 ∷ 0 ∷ []) ++ (3 ∷ 0 ∷ [])) 12 10 []
+    ∷ steps_over (inside 0 ++ ((pc, 8) ∷ [])) (bytes (0 ∷ 0 ∷ []) ++ (0 ∷ [])) 12 9 []
+    ∷ steps_over (outside 0 ++ operands 1 0) (bytes (ld ∷ []) ++ (0 ∷ [])) 17 5 []
+    ∷ steps_over (outside 0 ++ operands 2 0) (bytes (sd ∷ [])) 17 4 []
+    ∷ steps_over (inside 0 ++ ((base 1, 1) ∷ [])) (bytes (hld ∷ []) ++ (0 ∷ 0 ∷ [])) 17 6 []
     ∷ runs (outside 0 ++ ((x 5, 2) ∷ [])) (seven ∷ ld ∷ []) 9 17 1 8 ((pc, 4) ∷ (x 7, 7) ∷ [])
     ∷ runs (inside 0) (seven ∷ []) 9 12 1 4 ((pc, 4) ∷ (x 7, 7) ∷ [])
     -- and here it is
-    ∷ stepsOver (outside 0 ++ ((pc, 0x44) ∷ [])) (bytes (0 ∷ [])) 12 0x44 []
-    ∷ stepsOver (outside 0 ++ operands (2 ^ 64 - 1) 0) (bytes (ld ∷ [])) 17 (2 ^ 64 - 1) []
+    ∷ steps_over (outside 0 ++ ((pc, 0x44) ∷ [])) (bytes (0 ∷ [])) 12 0x44 []
+    ∷ steps_over (outside 0 ++ operands (2 ^ 64 - 1) 0) (bytes (ld ∷ [])) 17 (2 ^ 64 - 1) []
     -- a load into x0 asks as any other: hlb x0, 8(x0) and hlb x0, 0(x0)
-    ∷ stepsOver (inside 0) (bytes (0x0080000b ∷ [])) 16 0 ((occurred, 1) ∷ (faultRegion, 1) ∷ (op, 1) ∷ (faulting, 0x18) ∷ [])
-    ∷ stepsOver (inside 0) (bytes (0x0000000b ∷ [])) 17 0x10 []
+    ∷ steps_over (inside 0) (bytes (0x0080000b ∷ [])) 16 0 ((occurred, 1) ∷ (fault_region, 1) ∷ (op, 1) ∷ (faulting, 0x18) ∷ [])
+    ∷ steps_over (inside 0) (bytes (0x0000000b ∷ [])) 17 0x10 []
     -- "all others give 0 there", at a pc that is not 0: 13, 15, and 16 by hlb x0, 8(x0)
     ∷ runs (outside 0) (seven ∷ 0 ∷ []) 9 13 1 0 ((pc, 4) ∷ (x 7, 7) ∷ [])
-    ∷ runs (outside 0 ++ operands 0 0x103) (seven ∷ enterJump ∷ []) 9 15 1 0 ((pc, 4) ∷ (x 7, 7) ∷ [])
-    ∷ runs (inside 0) (seven ∷ 0x0080000b ∷ []) 9 16 1 0 ((pc, 4) ∷ (x 7, 7) ∷ (occurred, 1) ∷ (faultRegion, 1) ∷ (op, 1) ∷ (faulting, 0x18) ∷ [])
+    ∷ runs (outside 0 ++ operands 0 0x103) (seven ∷ enter_jump ∷ []) 9 15 1 0 ((pc, 4) ∷ (x 7, 7) ∷ [])
+    ∷ runs (inside 0) (seven ∷ 0x0080000b ∷ []) 9 16 1 0 ((pc, 4) ∷ (x 7, 7) ∷ (occurred, 1) ∷ (fault_region, 1) ∷ (op, 1) ∷ (faulting, 0x18) ∷ [])
     -- every byte is asked for its region before any for memory's end
-    ∷ stepsOver (inside 0 ++ operands 0x7c 0) (bytes (ld ∷ [])) 16 0 ((occurred, 1) ∷ (faultRegion, 0) ∷ (op, 1) ∷ (faulting, 0x80) ∷ [])
+    ∷ steps_over (inside 0 ++ operands 0x7c 0) (bytes (ld ∷ [])) 16 0 ((occurred, 1) ∷ (fault_region, 0) ∷ (op, 1) ∷ (faulting, 0x80) ∷ [])
     ∷ []
 
 unfoldable pub going_on : List Row
@@ -559,8 +559,8 @@ forming =
     ∷ misjudged (permission 3) 16
     -- "occurred at most 1, fault region and op at most 3", and since Job 7 the fault region at most 10
     ∷ misjudged occurred 2
-    ∷ judged faultRegion 10
-    ∷ misjudged faultRegion 11
+    ∷ judged fault_region 10
+    ∷ misjudged fault_region 11
     ∷ judged op 3
     ∷ misjudged op 4
     -- nothing is asked of the others
@@ -580,37 +580,37 @@ forming =
     ∷ []
 
 abbrev pub rows : List Row
-rows = entering ++ leaving ++ locking ++ numbering ++ keeping ++ running-on ++ asking ++ operating ++ offsets ++ absent ++ going_on ++ forming
+rows = entering ++ leaving ++ locking ++ numbering ++ keeping ++ running_on ++ asking ++ operating ++ offsets ++ absent ++ going_on ++ forming
 
 pub clauses : found rows ≡ stated rows
-unfolding entering leaving locking numbering keeping running-on asking operating offsets absent going_on forming count_trailing_zeros sext low_half high_half quotient remainder decodeWord expandHalf matches explicitRule firstMatch implicitGrants explicitGrants explicitCovers writableCode exposesCode scan firstRefused firstAbsent verdict value written allowed aligned settle stateFits wellFormed hfiStop hfiPerform load store perform executeInstruction executeWord fetching executeFetched step stepCall resumeCall run_by runCall
+unfolding entering leaving locking numbering keeping running_on asking operating offsets absent going_on forming count_trailing_zeros sext low_half high_half quotient remainder decode_word expand_half matches explicit_rule first_match implicit_grants explicit_grants explicit_covers writable_code exposes_code scan first_refused first_absent verdict value written allowed aligned settle state_fits well_formed hfi_stop hfi_perform load store perform execute_instruction execute_word fetching execute_fetched step step_call resume_call run_by run_call
 clauses = held rows refl
 
 -- ---- resuming, of every machine: "it asks question 3 only"
 
 module _ (m : Machine) (v : ℕ) where
-  pub resumed : wellFormed m ≡ true → resumeCall m v ≡ record { stop = 0; address = 0; machine = machine (setReg m.x 10 v) (sum m.pc 4) m.hfi }
-  unfolding resumeCall
+  pub resumed : well_formed m ≡ true → resume_call m v ≡ record { stop = 0; address = 0; machine = machine (set_reg m.x 10 v) (sum m.pc 4) m.hfi }
+  unfolding resume_call
   resumed w = rw w refl
 
-  pub not-resumed : wellFormed m ≡ false → resumeCall m v ≡ record { stop = 3; address = 0; machine = m }
-  unfolding resumeCall
-  not-resumed w = rw w refl
+  pub not_resumed : well_formed m ≡ false → resume_call m v ≡ record { stop = 3; address = 0; machine = m }
+  unfolding resume_call
+  not_resumed w = rw w refl
 
 -- ---- "Is memory no longer than 16,777,216?" of memories that are too long to write down
 
-pub longest-step : (m : Machine) (mem : List ℕ) → length mem ≡ 16777216 → wellFormed m ≡ true → exposesCode m.hfi ≡ false → stepCall m mem ≡ step m mem
-unfolding stepCall
-longest-step m mem e w x = rw (e, w, x) refl
+pub longest_step : (m : Machine) (mem : List ℕ) → length mem ≡ 16777216 → well_formed m ≡ true → exposes_code m.hfi ≡ false → step_call m mem ≡ step m mem
+unfolding step_call
+longest_step m mem e w x = rw (e, w, x) refl
 
-pub too-long-step : (m : Machine) (mem : List ℕ) → length mem ≡ 16777217 → stepCall m mem ≡ stopped 1 m mem
-unfolding stepCall
-too-long-step m mem e = rw e refl
+pub too_long_step : (m : Machine) (mem : List ℕ) → length mem ≡ 16777217 → step_call m mem ≡ stopped 1 m mem
+unfolding step_call
+too_long_step m mem e = rw e refl
 
-pub longest_run : (m : Machine) (mem : List ℕ) → length mem ≡ 16777216 → wellFormed m ≡ true → exposesCode m.hfi ≡ false → runCall m mem 0 ≡ ended 21 0 0 m mem
-unfolding runCall run_by
+pub longest_run : (m : Machine) (mem : List ℕ) → length mem ≡ 16777216 → well_formed m ≡ true → exposes_code m.hfi ≡ false → run_call m mem 0 ≡ ended 21 0 0 m mem
+unfolding run_call run_by
 longest_run m mem e w x = rw (e, w, x) refl
 
-pub too-long-run : (m : Machine) (mem : List ℕ) (budget : ℕ) → length mem ≡ 16777217 → runCall m mem budget ≡ ended 1 0 0 m mem
-unfolding runCall
-too-long-run m mem budget e = rw e refl
+pub too_long_run : (m : Machine) (mem : List ℕ) (budget : ℕ) → length mem ≡ 16777217 → run_call m mem budget ≡ ended 1 0 0 m mem
+unfolding run_call
+too_long_run m mem budget e = rw e refl

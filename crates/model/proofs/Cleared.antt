@@ -7,10 +7,10 @@ use native.Mathlib.Omega.{arith}
 use lib.Dec.{eqb, ltb}
 use borrow.Author.Tests.{ltb-true, ltb-false, lt-ltb, le-ltb}
 use Rattle.model.specs.Bytes.{byte_of}
-use Rattle.model.specs.Access.{Access, scan, firstRefused, firstAbsent, verdict}
+use Rattle.model.specs.Access.{Access, scan, first_refused, first_absent, verdict}
 use Rattle.model.specs.Reach.{Passes}
 use Rattle.model.specs.declared.Verdict.TheVariants.{Passed, Refused, Absent}
-use Rattle.model.proofs.Scan.{scan-passed, scan-all}
+use Rattle.model.proofs.Scan.{scan_passed, scan_all}
 
 -- every byte is granted in this mode, and in a memory of this length
 pub record Cleared (mode length : ℕ) (a : Access) : Type 0 where
@@ -23,23 +23,23 @@ neither false true x r y h = let z : ◌≡◌ {A = ℕ} 0 1 = cc in absurd (ome
 neither false false x r y h = (refl, refl)
 
 pub cleared : (mode length : ℕ) (a : Access) → verdict mode length a ≡ Passed → Cleared mode length a
-unfolding verdict firstRefused firstAbsent
+unfolding verdict first_refused first_absent
 cleared mode length a h =
     let n = a.count in
     let i = scan (λ k. cond (eqb mode 0) true (a.grants k)) 0 n in
     let j = scan (λ k. ltb (byte_of a.first k) length) 0 n in
-    let b = neither (ltb i n) (ltb j n) (byte_of a.first i) (a.faultRegion i) (byte_of a.first j) h in
+    let b = neither (ltb i n) (ltb j n) (byte_of a.first i) (a.fault_region i) (byte_of a.first j) h in
     record {
-      granted = λ k p. scan-passed (λ k. cond (eqb mode 0) true (a.grants k)) n 0 (omega (arith, ltb-false i n b.0)) k (omega arith) (omega arith);
-      present = λ k p. ltb-true _ _ (scan-passed (λ k. ltb (byte_of a.first k) length) n 0 (omega (arith, ltb-false j n b.1)) k (omega arith) (omega arith));
+      granted = λ k p. scan_passed (λ k. cond (eqb mode 0) true (a.grants k)) n 0 (omega (arith, ltb-false i n b.0)) k (omega arith) (omega arith);
+      present = λ k p. ltb-true _ _ (scan_passed (λ k. ltb (byte_of a.first k) length) n 0 (omega (arith, ltb-false j n b.1)) k (omega arith) (omega arith));
     }
 
 pub passes : (mode length : ℕ) (a : Access) → Cleared mode length a → verdict mode length a ≡ Passed
-unfolding verdict firstRefused firstAbsent
+unfolding verdict first_refused first_absent
 passes mode length a h =
     let n = a.count in
-    let e : scan (λ k. cond (eqb mode 0) true (a.grants k)) 0 n ≡ 0 + n = scan-all _ n 0 (λ j p q. h.granted j (omega arith)) in
-    let f : scan (λ k. ltb (byte_of a.first k) length) 0 n ≡ 0 + n = scan-all _ n 0 (λ j p q. lt-ltb _ _ (h.present j (omega arith))) in
+    let e : scan (λ k. cond (eqb mode 0) true (a.grants k)) 0 n ≡ 0 + n = scan_all _ n 0 (λ j p q. h.granted j (omega arith)) in
+    let f : scan (λ k. ltb (byte_of a.first k) length) 0 n ≡ 0 + n = scan_all _ n 0 (λ j p q. lt-ltb _ _ (h.present j (omega arith))) in
     rw (e, f) (rw (le-ltb (0 + n) n (omega arith)) refl)
 
 -- in HFI mode each byte of a passed access passes its region
@@ -51,5 +51,5 @@ straight : (length a n : ℕ) → a < 2 ^ 64 → length < 2 ^ 64 → ((i : ℕ) 
 straight length a n pa pl h zero q = omega (arith, h 0 q)
 straight length a n pa pl h (suc i) q = omega (arith, h (suc i) q, straight length a n pa pl h i (omega arith))
 
-pub fits-memory : (length a n : ℕ) → 0 < n → a < 2 ^ 64 → length < 2 ^ 64 → ((i : ℕ) → i < n → byte_of a i < length) → a + n ≤ length
-fits-memory length a n p pa pl h = omega (arith, straight length a n pa pl h (n - 1) (omega arith))
+pub fits_memory : (length a n : ℕ) → 0 < n → a < 2 ^ 64 → length < 2 ^ 64 → ((i : ℕ) → i < n → byte_of a i < length) → a + n ≤ length
+fits_memory length a n p pa pl h = omega (arith, straight length a n pa pl h (n - 1) (omega arith))

@@ -11,7 +11,7 @@ use borrow.Author.Tests.{eqb-true, eqb-false, ne_eqb, not-true}
 use Rattle.instructions.proofs.Tests.{and_both}
 use Rattle.instructions.proofs.HWords.{Each}
 use Rattle.model.specs.Machine.{region}
-use Rattle.model.specs.Regions.{permits, matches, firstMatch, granting, implicitGrants}
+use Rattle.model.specs.Regions.{permits, matches, first_match, granting, implicit_grants}
 use Rattle.model.specs.declared.Region.{Region}
 
 -- none of the regions numbered ns matches the byte at a
@@ -33,28 +33,28 @@ each_at P (b ∷ before) after n h = each_at P before after n h.1
 -- ---- the first match
 
 module _ (rs : List Region) (a : ℕ) where
-  after-unmatched : (before after : List ℕ) (n : ℕ) → Unmatched rs a before → matches (region rs n) a ≡ true
-      → firstMatch rs (before ++ (n ∷ after)) a ≡ n
-  unfolding firstMatch
-  after-unmatched [] after n u e = rw e refl
-  after-unmatched (b ∷ before) after n u e = rw u.0 (after-unmatched before after n u.1 e)
+  after_unmatched : (before after : List ℕ) (n : ℕ) → Unmatched rs a before → matches (region rs n) a ≡ true
+      → first_match rs (before ++ (n ∷ after)) a ≡ n
+  unfolding first_match
+  after_unmatched [] after n u e = rw e refl
+  after_unmatched (b ∷ before) after n u e = rw u.0 (after_unmatched before after n u.1 e)
 
-  pub decides-first : (ns : List ℕ) (n : ℕ) → Decides rs ns a n → firstMatch rs ns a ≡ n
-  decides-first ns n d = rw d.stands (after-unmatched d.before d.after n d.unmatched d.matched)
+  pub decides_first : (ns : List ℕ) (n : ℕ) → Decides rs ns a n → first_match rs ns a ≡ n
+  decides_first ns n d = rw d.stands (after_unmatched d.before d.after n d.unmatched d.matched)
 
-  pub unmatched-first : (ns : List ℕ) → Unmatched rs a ns → firstMatch rs ns a ≡ 0
-  unfolding firstMatch
-  unmatched-first [] u = refl
-  unmatched-first (n ∷ ns) u = rw u.0 (unmatched-first ns u.1)
+  pub unmatched_first : (ns : List ℕ) → Unmatched rs a ns → first_match rs ns a ≡ 0
+  unfolding first_match
+  unmatched_first [] u = refl
+  unmatched_first (n ∷ ns) u = rw u.0 (unmatched_first ns u.1)
 
   -- and there is no third: "the region that matched .., or 0 if none matched"
-  pub first-cases : (ns : List ℕ) → (Unmatched rs a ns × (firstMatch rs ns a ≡ 0)) ⊎ Decides rs ns a (firstMatch rs ns a)
-  unfolding firstMatch
-  first-cases [] = inl (tt, refl)
-  first-cases (n ∷ ns) = go (matches (region rs n) a) refl (first-cases ns)
+  pub first_cases : (ns : List ℕ) → (Unmatched rs a ns × (first_match rs ns a ≡ 0)) ⊎ Decides rs ns a (first_match rs ns a)
+  unfolding first_match
+  first_cases [] = inl (tt, refl)
+  first_cases (n ∷ ns) = go (matches (region rs n) a) refl (first_cases ns)
     where
-      go : (t : Bool) → matches (region rs n) a ≡ t → (Unmatched rs a ns × (firstMatch rs ns a ≡ 0)) ⊎ Decides rs ns a (firstMatch rs ns a)
-          → (Unmatched rs a (n ∷ ns) × (cond t n (firstMatch rs ns a) ≡ 0)) ⊎ Decides rs (n ∷ ns) a (cond t n (firstMatch rs ns a))
+      go : (t : Bool) → matches (region rs n) a ≡ t → (Unmatched rs a ns × (first_match rs ns a ≡ 0)) ⊎ Decides rs ns a (first_match rs ns a)
+          → (Unmatched rs a (n ∷ ns) × (cond t n (first_match rs ns a) ≡ 0)) ⊎ Decides rs (n ∷ ns) a (cond t n (first_match rs ns a))
       go true e c = inr (record { before = []; after = ns; stands = refl; unmatched = tt; matched = e })
       go false e (inl u) = inl ((e, u.0), u.1)
       go false e (inr d) =
@@ -76,12 +76,12 @@ pub record Granted (rs : List Region) (ns : List ℕ) (p a : ℕ) : Type 0 where
   pub permitted : permits p (region rs number) ≡ true
 
 module _ (rs : List Region) (ns : List ℕ) (p a : ℕ) where
-  pub granted-exactly : implicitGrants rs ns p a ≡ true → Granted rs ns p a
-  unfolding implicitGrants
-  granted-exactly g = go (first-cases rs a ns)
+  pub granted_exactly : implicit_grants rs ns p a ≡ true → Granted rs ns p a
+  unfolding implicit_grants
+  granted_exactly g = go (first_cases rs a ns)
     where
       n : ℕ
-      n = firstMatch rs ns a
+      n = first_match rs ns a
 
       h : (not (eqb n 0) ≡ true) × (permits p (region rs n) ≡ true)
       h = and_both (not (eqb n 0)) (permits p (region rs n)) g
@@ -93,23 +93,23 @@ module _ (rs : List Region) (ns : List ℕ) (p a : ℕ) where
       go (inl u) = absurd (counts u.1)
       go (inr d) = record { number = n; counted = counts; decides = d; permitted = h.1 }
 
-  pub exactly-granted : Granted rs ns p a → implicitGrants rs ns p a ≡ true
-  unfolding implicitGrants
-  exactly-granted g = rw (decides-first rs a ns g.number g.decides) (rw (ne_eqb g.number 0 g.counted) g.permitted)
+  pub exactly_granted : Granted rs ns p a → implicit_grants rs ns p a ≡ true
+  unfolding implicit_grants
+  exactly_granted g = rw (decides_first rs a ns g.number g.decides) (rw (ne_eqb g.number 0 g.counted) g.permitted)
 
   -- a byte that is not granted, and its fault region: none of the list matches, or the one that decides does not permit it. All of them count from 1
-  pub refused-exactly : Each (λ k. k ≡ 0 → ⊥) ns → implicitGrants rs ns p a ≡ false
-      → (Unmatched rs a ns × (firstMatch rs ns a ≡ 0)) ⊎ (Decides rs ns a (firstMatch rs ns a) × (permits p (region rs (firstMatch rs ns a)) ≡ false))
-  unfolding implicitGrants
-  refused-exactly c g = go (first-cases rs a ns)
+  pub refused_exactly : Each (λ k. k ≡ 0 → ⊥) ns → implicit_grants rs ns p a ≡ false
+      → (Unmatched rs a ns × (first_match rs ns a ≡ 0)) ⊎ (Decides rs ns a (first_match rs ns a) × (permits p (region rs (first_match rs ns a)) ≡ false))
+  unfolding implicit_grants
+  refused_exactly c g = go (first_cases rs a ns)
     where
       n : ℕ
-      n = firstMatch rs ns a
+      n = first_match rs ns a
 
       unpermitted : Decides rs ns a n → (b : Bool) → permits p (region rs n) ≡ b → permits p (region rs n) ≡ false
       unpermitted d true e =
           let k = each_at (λ (k : ℕ). k ≡ 0 → ⊥) d.before d.after n (rw d.stands at c) in
-          absurd (false≢true (sym g ∙ exactly-granted (record { number = n; counted = k; decides = d; permitted = e })))
+          absurd (false≢true (sym g ∙ exactly_granted (record { number = n; counted = k; decides = d; permitted = e })))
       unpermitted d false e = e
 
       go : (Unmatched rs a ns × (n ≡ 0)) ⊎ Decides rs ns a n → (Unmatched rs a ns × (n ≡ 0)) ⊎ (Decides rs ns a n × (permits p (region rs n) ≡ false))

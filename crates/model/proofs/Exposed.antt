@@ -11,16 +11,16 @@ use lib.ListN.{length}
 use borrow.Author.Tests.{ltb-false, lt-ltb, le-ltb}
 use Rattle.instructions.proofs.Tests.{and_both}
 use Rattle.model.specs.Machine.{inside, locked}
-use Rattle.model.specs.WellFormed.{wellFormed}
-use Rattle.model.specs.WritableCode.{WritableCode, writableCode, exposesCode}
+use Rattle.model.specs.WellFormed.{well_formed}
+use Rattle.model.specs.WritableCode.{WritableCode, writable_code, exposes_code}
 use Rattle.model.specs.Outcome.{stopped}
-use Rattle.model.specs.Step.{step, longest, stepCall}
-use Rattle.model.specs.Run.{ended, run, runCall, largestBudget}
+use Rattle.model.specs.Step.{step, longest, step_call}
+use Rattle.model.specs.Run.{ended, run, run_call, largest_budget}
 use Rattle.model.specs.Isolation.{Locked}
 use Rattle.model.specs.declared.Machine.{Machine}
-use Rattle.model.proofs.WritableCode.{code-tested, tested-code}
+use Rattle.model.proofs.WritableCode.{code_tested, tested_code}
 use Rattle.model.proofs.Moves.{clash}
-use Rattle.model.proofs.Runs.{is-locked, locked-is, run-not-refused, step-not-refused, run-unexposed}
+use Rattle.model.proofs.Runs.{is_locked, locked_is, run_not_refused, step_not_refused, run_unexposed}
 
 -- ---- the state
 
@@ -29,93 +29,93 @@ pub record Exposed (m : Machine) : Type 0 where
   pub lock : Locked m
   pub code : WritableCode m.hfi.regions
 
-pub exposed : (m : Machine) → exposesCode m.hfi ≡ true → Exposed m
-unfolding exposesCode
+pub exposed : (m : Machine) → exposes_code m.hfi ≡ true → Exposed m
+unfolding exposes_code
 exposed m t =
-    let p = and_both (locked m.hfi) (writableCode m.hfi.regions) t in
-    record { lock = locked-is m p.0; code = tested-code m.hfi.regions p.1 }
+    let p = and_both (locked m.hfi) (writable_code m.hfi.regions) t in
+    record { lock = locked_is m p.0; code = tested_code m.hfi.regions p.1 }
 
-pub exposes : (m : Machine) → Exposed m → exposesCode m.hfi ≡ true
-unfolding exposesCode
-exposes m x = rw (is-locked m x.lock) (code-tested m.hfi.regions x.code)
+pub exposes : (m : Machine) → Exposed m → exposes_code m.hfi ≡ true
+unfolding exposes_code
+exposes m x = rw (is_locked m x.lock) (code_tested m.hfi.regions x.code)
 
 -- ---- "4, for a step or run given such a machine in locked HFI mode, asked after 3"
 
 -- the questions before 4 are answered yes, and a byte is both
 pub record Given (m : Machine) (mem : List ℕ) : Type 0 where
   pub short : length mem ≤ longest
-  pub formed : wellFormed m ≡ true
+  pub formed : well_formed m ≡ true
   pub exposed : Exposed m
 
-pub run-refused : (m : Machine) (mem : List ℕ) (budget : ℕ) → Given m mem → budget ≤ largestBudget → runCall m mem budget ≡ ended 4 0 0 m mem
-unfolding runCall
-run-refused m mem budget a b = rw (le-ltb longest (length mem) a.short, le-ltb largestBudget budget b, a.formed, exposes m a.exposed) refl
+pub run_refused : (m : Machine) (mem : List ℕ) (budget : ℕ) → Given m mem → budget ≤ largest_budget → run_call m mem budget ≡ ended 4 0 0 m mem
+unfolding run_call
+run_refused m mem budget a b = rw (le-ltb longest (length mem) a.short, le-ltb largest_budget budget b, a.formed, exposes m a.exposed) refl
 
-pub step-refused : (m : Machine) (mem : List ℕ) → Given m mem → stepCall m mem ≡ stopped 4 m mem
-unfolding stepCall
-step-refused m mem a = rw (le-ltb longest (length mem) a.short, a.formed, exposes m a.exposed) refl
+pub step_refused : (m : Machine) (mem : List ℕ) → Given m mem → step_call m mem ≡ stopped 4 m mem
+unfolding step_call
+step_refused m mem a = rw (le-ltb longest (length mem) a.short, a.formed, exposes m a.exposed) refl
 
 -- and no other step or run answers 4
-pub only-run : (m : Machine) (mem : List ℕ) (budget : ℕ) → (runCall m mem budget).result.stop ≡ 4 → Given m mem × (budget ≤ largestBudget)
-unfolding runCall
-only-run m mem budget q = go (ltb longest (length mem)) (ltb largestBudget budget) (wellFormed m) (exposesCode m.hfi) refl refl refl refl q
+pub only_run : (m : Machine) (mem : List ℕ) (budget : ℕ) → (run_call m mem budget).result.stop ≡ 4 → Given m mem × (budget ≤ largest_budget)
+unfolding run_call
+only_run m mem budget q = go (ltb longest (length mem)) (ltb largest_budget budget) (well_formed m) (exposes_code m.hfi) refl refl refl refl q
   where
-    go : (a b c d : Bool) → ltb longest (length mem) ≡ a → ltb largestBudget budget ≡ b → wellFormed m ≡ c → exposesCode m.hfi ≡ d
+    go : (a b c d : Bool) → ltb longest (length mem) ≡ a → ltb largest_budget budget ≡ b → well_formed m ≡ c → exposes_code m.hfi ≡ d
         → (cond a (ended 1 0 0 m mem) (cond b (ended 2 0 0 m mem)
         (cond c (cond d (ended 4 0 0 m mem) (run (inside m.hfi) budget 0 m mem)) (ended 3 0 0 m mem)))).result.stop ≡ 4
-        → Given m mem × (budget ≤ largestBudget)
+        → Given m mem × (budget ≤ largest_budget)
     go true b c d l n w x e = absurd (omega (arith, e))
     go false true c d l n w x e = absurd (omega (arith, e))
     go false false false d l n w x e = absurd (omega (arith, e))
     go false false true true l n w x e = (record { short = ltb-false _ _ l; formed = w; exposed = exposed m x }, ltb-false _ _ n)
-    go false false true false l n w x e = absurd (run-not-refused (inside m.hfi) budget 0 m mem (omega (arith, e)) (omega (arith, e)))
+    go false false true false l n w x e = absurd (run_not_refused (inside m.hfi) budget 0 m mem (omega (arith, e)) (omega (arith, e)))
 
-pub only_step : (m : Machine) (mem : List ℕ) → (stepCall m mem).result.stop ≡ 4 → Given m mem
-unfolding stepCall
-only_step m mem q = go (ltb longest (length mem)) (wellFormed m) (exposesCode m.hfi) refl refl refl q
+pub only_step : (m : Machine) (mem : List ℕ) → (step_call m mem).result.stop ≡ 4 → Given m mem
+unfolding step_call
+only_step m mem q = go (ltb longest (length mem)) (well_formed m) (exposes_code m.hfi) refl refl refl q
   where
-    go : (a c d : Bool) → ltb longest (length mem) ≡ a → wellFormed m ≡ c → exposesCode m.hfi ≡ d
+    go : (a c d : Bool) → ltb longest (length mem) ≡ a → well_formed m ≡ c → exposes_code m.hfi ≡ d
         → (cond a (stopped 1 m mem) (cond c (cond d (stopped 4 m mem) (step m mem)) (stopped 3 m mem))).result.stop ≡ 4 → Given m mem
     go true c d l w x e = absurd (omega (arith, e))
     go false false d l w x e = absurd (omega (arith, e))
     go false true true l w x e = record { short = ltb-false _ _ l; formed = w; exposed = exposed m x }
-    go false true false l w x e = absurd (step-not-refused m mem (omega (arith, e)) (omega (arith, e)))
+    go false true false l w x e = absurd (step_not_refused m mem (omega (arith, e)) (omega (arith, e)))
 
 -- 1 and 3 come before it
-pub step-too-long : (m : Machine) (mem : List ℕ) → longest < length mem → stepCall m mem ≡ stopped 1 m mem
-unfolding stepCall
-step-too-long m mem l = rw (lt-ltb longest (length mem) l) refl
+pub step_too_long : (m : Machine) (mem : List ℕ) → longest < length mem → step_call m mem ≡ stopped 1 m mem
+unfolding step_call
+step_too_long m mem l = rw (lt-ltb longest (length mem) l) refl
 
-pub step-unformed : (m : Machine) (mem : List ℕ) → length mem ≤ longest → wellFormed m ≡ false → stepCall m mem ≡ stopped 3 m mem
-unfolding stepCall
-step-unformed m mem l w = rw (le-ltb longest (length mem) l, w) refl
+pub step_unformed : (m : Machine) (mem : List ℕ) → length mem ≤ longest → well_formed m ≡ false → step_call m mem ≡ stopped 3 m mem
+unfolding step_call
+step_unformed m mem l w = rw (le-ltb longest (length mem) l, w) refl
 
 -- a call that 1 to 4 let pass makes its step, or its run, and adds nothing to it
 pub record Comes (m : Machine) (mem : List ℕ) : Type 0 where
   pub short : length mem ≤ longest
-  pub formed : wellFormed m ≡ true
+  pub formed : well_formed m ≡ true
   pub safe : Exposed m → ⊥
 
-unexposed : (m : Machine) → (Exposed m → ⊥) → exposesCode m.hfi ≡ false
-unexposed m n = go (exposesCode m.hfi) refl
+unexposed : (m : Machine) → (Exposed m → ⊥) → exposes_code m.hfi ≡ false
+unexposed m n = go (exposes_code m.hfi) refl
   where
-    go : (b : Bool) → exposesCode m.hfi ≡ b → exposesCode m.hfi ≡ false
+    go : (b : Bool) → exposes_code m.hfi ≡ b → exposes_code m.hfi ≡ false
     go true e = absurd (n (exposed m e))
     go false e = e
 
-pub step-made : (m : Machine) (mem : List ℕ) → Comes m mem → stepCall m mem ≡ step m mem
-unfolding stepCall
-step-made m mem c = rw (le-ltb longest (length mem) c.short, c.formed, unexposed m c.safe) refl
+pub step_made : (m : Machine) (mem : List ℕ) → Comes m mem → step_call m mem ≡ step m mem
+unfolding step_call
+step_made m mem c = rw (le-ltb longest (length mem) c.short, c.formed, unexposed m c.safe) refl
 
-pub run-made : (m : Machine) (mem : List ℕ) (budget : ℕ) → Comes m mem → budget ≤ largestBudget → runCall m mem budget ≡ run (inside m.hfi) budget 0 m mem
-unfolding runCall
-run-made m mem budget c b = rw (le-ltb longest (length mem) c.short, le-ltb largestBudget budget b, c.formed, unexposed m c.safe) refl
+pub run_made : (m : Machine) (mem : List ℕ) (budget : ℕ) → Comes m mem → budget ≤ largest_budget → run_call m mem budget ≡ run (inside m.hfi) budget 0 m mem
+unfolding run_call
+run_made m mem budget c b = rw (le-ltb longest (length mem) c.short, le-ltb largest_budget budget b, c.formed, unexposed m c.safe) refl
 
 -- "From then on": 4 cannot arise inside a run that began without it. A run asks it once, and its steps are those of the step call, which asks
--- it every time (run-is-step-calls in Runs.antt); and what a run leaves, after whatever budget, is no such machine
-pub never-arises : (m : Machine) (mem : List ℕ) (budget : ℕ) → (Exposed m → ⊥) → Exposed (runCall m mem budget).result.machine → ⊥
-never-arises m mem budget n x = go (exposesCode m.hfi) refl
+-- it every time (run_is_step_calls in Runs.antt); and what a run leaves, after whatever budget, is no such machine
+pub never_arises : (m : Machine) (mem : List ℕ) (budget : ℕ) → (Exposed m → ⊥) → Exposed (run_call m mem budget).result.machine → ⊥
+never_arises m mem budget n x = go (exposes_code m.hfi) refl
   where
-    go : (b : Bool) → exposesCode m.hfi ≡ b → ⊥
+    go : (b : Bool) → exposes_code m.hfi ≡ b → ⊥
     go true e = n (exposed m e)
-    go false e = clash (run-unexposed m mem budget e) (exposes _ x)
+    go false e = clash (run_unexposed m mem budget e) (exposes _ x)

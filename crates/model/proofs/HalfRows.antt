@@ -6,23 +6,23 @@ use mathlib.Core.List.{List, [], ◌∷◌, ◌++◌}
 use Prim.Native.Nat.{ℕ, ◌-◌, ◌/◌, ◌%◌, ◌^◌}
 use lib.Count.{count_trailing_zeros}
 use Rattle.words.specs.Word.{sext}
-use Rattle.instructions.specs.Decode.{decodeWord}
+use Rattle.instructions.specs.Decode.{decode_word}
 use Rattle.instructions.specs.declared.instruction.Decoded.TheVariants.{Illegal}
-use Rattle.compressed.specs.Expand.{expandHalf}
+use Rattle.compressed.specs.Expand.{expand_half}
 use Rattle.model.specs.Bytes.{value, written}
 use Rattle.model.specs.Outcome.{allowed, settle}
-use Rattle.model.specs.WellFormed.{stateFits, wellFormed}
-use Rattle.model.specs.Hfi.{hfiStop, hfiPerform}
-use Rattle.model.specs.Regions.{explicitRule, matches, firstMatch, implicitGrants}
-use Rattle.model.specs.WritableCode.{explicitCovers, writableCode, exposesCode}
-use Rattle.model.specs.Access.{scan, firstRefused, firstAbsent, verdict}
-use Rattle.model.specs.Step.{load, store, perform, executeInstruction, executeWord, fetching, executeFetched, step, stepCall}
-use Rattle.model.specs.Run.{run_by, runCall}
+use Rattle.model.specs.WellFormed.{state_fits, well_formed}
+use Rattle.model.specs.Hfi.{hfi_stop, hfi_perform}
+use Rattle.model.specs.Regions.{explicit_rule, matches, first_match, implicit_grants}
+use Rattle.model.specs.WritableCode.{explicit_covers, writable_code, exposes_code}
+use Rattle.model.specs.Access.{scan, first_refused, first_absent, verdict}
+use Rattle.model.specs.Step.{load, store, perform, execute_instruction, execute_word, fetching, execute_fetched, step, step_call}
+use Rattle.model.specs.Run.{run_by, run_call}
 use Rattle.model.proofs.Alike.{held}
-use Rattle.model.proofs.Rows.{Row, found, stated, x, pc, mode, reason, epc, base, bound, occurred, faultRegion, op, faulting, with}
+use Rattle.model.proofs.Rows.{Row, found, stated, x, pc, mode, reason, epc, base, bound, occurred, fault_region, op, faulting, with}
 use Rattle.model.proofs.Rows.Question.{decoding, stepping, running}
 use Rattle.model.proofs.Rows.Answer.{decoded, gave}
-use Rattle.model.proofs.Clauses.{outside, inside, stepsOver}
+use Rattle.model.proofs.Clauses.{outside, inside, steps_over}
 
 -- the bytes of half-words, one after another from address 0 on; a long word is its low half and its high half
 abbrev halves : List ℕ → List ℕ
@@ -31,14 +31,14 @@ halves (h ∷ hs) = h % 256 ∷ h / 256 ∷ halves hs
 
 -- a step at an address over half-words, its stop and address, and the places of the machine that it changes
 abbrev at : ℕ → List (ℕ × ℕ) → List ℕ → ℕ → ℕ → List (ℕ × ℕ) → Row
-at a start hs stop address changes = stepsOver (start ++ ((pc, a) ∷ [])) (halves hs) stop address changes
+at a start hs stop address changes = steps_over (start ++ ((pc, a) ∷ [])) (halves hs) stop address changes
 
 abbrev completes : ℕ → List (ℕ × ℕ) → List ℕ → List (ℕ × ℕ) → Row
 completes a start hs changes = at a start hs 0 0 changes
 
 -- a fetch that is refused, and the byte that the fault record then has
 abbrev refused : ℕ → List (ℕ × ℕ) → List ℕ → ℕ → Row
-refused a start hs byte = at a start hs 11 0 ((occurred, 1) ∷ (faultRegion, 0) ∷ (op, 3) ∷ (faulting, byte) ∷ [])
+refused a start hs byte = at a start hs 11 0 ((occurred, 1) ∷ (fault_region, 0) ∷ (op, 3) ∷ (faulting, byte) ∷ [])
 
 -- c.li x7, 7; c.nop
 abbrev cli : ℕ
@@ -51,8 +51,8 @@ cnop = 0x0001
 abbrev fourteen : List ℕ
 fourteen = cnop ∷ cnop ∷ cnop ∷ cnop ∷ cnop ∷ cnop ∷ cnop ∷ []
 
-unfoldable pub fetching-halves : List Row
-fetching-halves =
+unfoldable pub fetching_halves : List Row
+fetching_halves =
     -- "A fetch takes two bytes", and there are no more
     completes 0 (outside 0) (cli ∷ []) ((pc, 2) ∷ (x 7, 7) ∷ [])
     ∷ completes 0 (inside 0) (cli ∷ []) ((pc, 2) ∷ (x 7, 7) ∷ [])
@@ -66,19 +66,19 @@ fetching-halves =
     -- "asks 11 and 12 of them": the second byte's too, in a code region of one byte; and of the memory
     ∷ refused 0 (inside 0 ++ ((bound 3, 2 ^ 64 - 1) ∷ [])) (cli ∷ []) 1
     ∷ refused 16 (inside 0) [] 16
-    ∷ stepsOver (outside 0) (0x9d ∷ []) 12 1 []
-    ∷ stepsOver (inside 0) (0x9d ∷ []) 12 1 []
+    ∷ steps_over (outside 0) (0x9d ∷ []) 12 1 []
+    ∷ steps_over (inside 0) (0x9d ∷ []) 12 1 []
     -- "and takes two more only if the low two bits are both ones, then asking 11 and 12 of those"
     ∷ refused 14 (inside 0) (fourteen ++ (0x0393 ∷ [])) 16
     ∷ refused 14 (inside 0) (fourteen ++ (0x0393 ∷ 0x0070 ∷ [])) 16
     ∷ at 0 (outside 0) (0x0393 ∷ []) 12 2 []
     ∷ at 0 (inside 0) (0x0393 ∷ []) 12 2 []
-    ∷ stepsOver (inside 0) (0x93 ∷ 0x03 ∷ 0x70 ∷ []) 12 3 []
+    ∷ steps_over (inside 0) (0x93 ∷ 0x03 ∷ 0x70 ∷ []) 12 3 []
     -- so 12 of the first comes before 11 of the second
     ∷ at 14 (inside 0) fourteen 12 14 []
-    ∷ stepsOver (inside 0 ++ ((pc, 14) ∷ [])) (halves fourteen ++ (0x93 ∷ [])) 12 15 []
+    ∷ steps_over (inside 0 ++ ((pc, 14) ∷ [])) (halves fourteen ++ (0x93 ∷ [])) 12 15 []
     -- a fetch at the last two addresses does not come to its second byte
-    ∷ stepsOver (outside 0 ++ ((pc, 2 ^ 64 - 2) ∷ [])) (halves (cli ∷ [])) 12 (2 ^ 64 - 2) []
+    ∷ steps_over (outside 0 ++ ((pc, 2 ^ 64 - 2) ∷ [])) (halves (cli ∷ [])) 12 (2 ^ 64 - 2) []
     ∷ refused (2 ^ 64 - 2) (inside 0) (cli ∷ []) (2 ^ 64 - 2)
     -- 13 of a long word after that, longer formats' too
     ∷ at 0 (outside 0) (0x001f ∷ []) 12 2 []
@@ -115,8 +115,8 @@ standing =
     ∷ completes 0 (inside 0) (0xe019 ∷ []) ((pc, 2) ∷ [])
     ∷ completes 0 (inside 0 ++ ((x 8, 1) ∷ [])) (0xe019 ∷ []) ((pc, 6) ∷ [])
     -- "Each stands for one RV64I instruction", and is asked what that is asked: c.lw x8, 0(x9), c.sw x8, 0(x9), c.ebreak
-    ∷ at 0 (inside 0) (0x4080 ∷ []) 16 0 ((occurred, 1) ∷ (faultRegion, 0) ∷ (op, 1) ∷ (faulting, 0) ∷ [])
-    ∷ at 0 (inside 0 ++ ((x 9, 0x40) ∷ [])) (0xc080 ∷ []) 16 0 ((occurred, 1) ∷ (faultRegion, 2) ∷ (op, 2) ∷ (faulting, 0x40) ∷ [])
+    ∷ at 0 (inside 0) (0x4080 ∷ []) 16 0 ((occurred, 1) ∷ (fault_region, 0) ∷ (op, 1) ∷ (faulting, 0) ∷ [])
+    ∷ at 0 (inside 0 ++ ((x 9, 0x40) ∷ [])) (0xc080 ∷ []) 16 0 ((occurred, 1) ∷ (fault_region, 2) ∷ (op, 2) ∷ (faulting, 0x40) ∷ [])
     ∷ at 0 (outside 0 ++ ((x 9, 1) ∷ [])) (0x4080 ∷ []) 17 2 []
     ∷ at 0 (inside 0) (0x9002 ∷ []) 19 0 []
     -- "its floating-point loads and stores are illegal, as are reserved words": c.fld x8, 0(x9), c.addiw x0, 0, and 0
@@ -133,8 +133,8 @@ standing =
     ∷ []
 
 abbrev pub rows : List Row
-rows = fetching-halves ++ standing
+rows = fetching_halves ++ standing
 
-pub rows-hold : found rows ≡ stated rows
-unfolding fetching-halves standing count_trailing_zeros sext decodeWord expandHalf matches explicitRule firstMatch implicitGrants explicitCovers writableCode exposesCode scan firstRefused firstAbsent verdict value written allowed settle stateFits wellFormed hfiStop hfiPerform load store perform executeInstruction executeWord fetching executeFetched step stepCall run_by runCall
-rows-hold = held rows refl
+pub rows_hold : found rows ≡ stated rows
+unfolding fetching_halves standing count_trailing_zeros sext decode_word expand_half matches explicit_rule first_match implicit_grants explicit_covers writable_code exposes_code scan first_refused first_absent verdict value written allowed settle state_fits well_formed hfi_stop hfi_perform load store perform execute_instruction execute_word fetching execute_fetched step step_call run_by run_call
+rows_hold = held rows refl

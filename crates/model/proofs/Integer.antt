@@ -10,15 +10,15 @@ use lib.IntN.{ℤ, pos, nat_abs, ◌*ℤ◌}
 use lib.Signed.{non_neg}
 use Rattle.words.specs.Word.{signed, word, sext}
 use Rattle.words.specs.Integer.{low_half, high_half, quotient, remainder}
-use Rattle.words.proofs.Residues.{word-signed}
+use Rattle.words.proofs.Residues.{word_signed}
 use Rattle.words.proofs.Products.{low_product}
-use Rattle.words.proofs.Quotients.{signedBy, quotient_unsigned, remainder_unsigned, signed_quotient, signed-remainder}
-use Rattle.words.proofs.Exact.{whole-signed, whole-mixed, whole-unsigned, by_zero, overflow}
+use Rattle.words.proofs.Quotients.{signed_by, quotient_unsigned, remainder_unsigned, signed_quotient, signed_remainder}
+use Rattle.words.proofs.Exact.{whole_signed, whole_mixed, whole_unsigned, by_zero, overflow}
 use Rattle.instructions.specs.declared.kind.RegisterKind.{RegisterKind}
 use Rattle.instructions.specs.declared.kind.RegisterKind.TheVariants.{Mul, Mulh, Mulhsu, Mulhu, Div, Divu, Rem, Remu}
 use Rattle.instructions.specs.declared.kind.RegisterWordKind.{RegisterWordKind}
 use Rattle.instructions.specs.declared.kind.RegisterWordKind.TheVariants.{Mulw, Divw, Divuw, Remw, Remuw}
-use Rattle.model.specs.Arithmetic.{operate, operateWord, ofRegisterWord}
+use Rattle.model.specs.Arithmetic.{operate, operate_word, of_register_word}
 
 -- ---- products
 
@@ -26,53 +26,53 @@ use Rattle.model.specs.Arithmetic.{operate, operateWord, ofRegisterWord}
 low_same : (w a b : ℕ) (y z : ℤ) → a < 2 ^ w → b < 2 ^ w → word w y ≡ a → word w z ≡ b → operate w Mul a b ≡ low_half w (y *ℤ z)
 low_same w a b y z h l p q =
     low_product w (signed w a) (signed w b)
-    ∙ ap₂ (λ (m n : ℕ). m * n % 2 ^ w) (word-signed w a h ∙ sym p) (word-signed w b l ∙ sym q)
+    ∙ ap₂ (λ (m n : ℕ). m * n % 2 ^ w) (word_signed w a h ∙ sym p) (word_signed w b l ∙ sym q)
     ∙ sym (low_product w y z)
 
 -- the high half above the low one stands for the product, "for signed×signed, unsigned×unsigned, and signed×unsigned"
-pub mulh-exact : (w a b : ℕ) → 0 < w → a < 2 ^ w → b < 2 ^ w
+pub mulh_exact : (w a b : ℕ) → 0 < w → a < 2 ^ w → b < 2 ^ w
     → signed (w + w) (operate w Mulh a b * 2 ^ w + operate w Mul a b) ≡ signed w a *ℤ signed w b
-mulh-exact w a b h k l = whole-signed w a b h k l
+mulh_exact w a b h k l = whole_signed w a b h k l
 
-pub mulhsu-exact : (w a b : ℕ) → 0 < w → a < 2 ^ w → b < 2 ^ w
+pub mulhsu_exact : (w a b : ℕ) → 0 < w → a < 2 ^ w → b < 2 ^ w
     → signed (w + w) (operate w Mulhsu a b * 2 ^ w + operate w Mul a b) ≡ signed w a *ℤ pos b
-mulhsu-exact w a b h k l =
-    ap (λ (n : ℕ). signed (w + w) (operate w Mulhsu a b * 2 ^ w + n)) (low_same w a b (signed w a) (pos b) k l (word-signed w a k) (mod-eq_of_lt l))
-    ∙ whole-mixed w a b h k l
+mulhsu_exact w a b h k l =
+    ap (λ (n : ℕ). signed (w + w) (operate w Mulhsu a b * 2 ^ w + n)) (low_same w a b (signed w a) (pos b) k l (word_signed w a k) (mod-eq_of_lt l))
+    ∙ whole_mixed w a b h k l
 
-pub mulhu-exact : (w a b : ℕ) → a < 2 ^ w → b < 2 ^ w → pos (operate w Mulhu a b * 2 ^ w + operate w Mul a b) ≡ pos (a * b)
-mulhu-exact w a b k l =
+pub mulhu_exact : (w a b : ℕ) → a < 2 ^ w → b < 2 ^ w → pos (operate w Mulhu a b * 2 ^ w + operate w Mul a b) ≡ pos (a * b)
+mulhu_exact w a b k l =
     ap (λ (n : ℕ). pos (operate w Mulhu a b * 2 ^ w + n)) (low_same w a b (pos a) (pos b) k l (mod-eq_of_lt k) (mod-eq_of_lt l))
-    ∙ whole-unsigned w a b k l
+    ∙ whole_unsigned w a b k l
 
 -- ---- quotients and remainders
 
 -- "dividend = divisor × quotient + remainder", and the remainder is less than the divisor
-pub divu-exact : (w a b : ℕ) → a < 2 ^ w → (b ≡ 0 → ⊥)
+pub divu_exact : (w a b : ℕ) → a < 2 ^ w → (b ≡ 0 → ⊥)
     → (b * operate w Divu a b + operate w Remu a b ≡ a) × (operate w Remu a b < b)
-divu-exact w a b h z = rw (quotient_unsigned w a b h z, remainder_unsigned w a b h) (div-add-mod a b, mod-lt a (pos_of_ne-zero z))
+divu_exact w a b h z = rw (quotient_unsigned w a b h z, remainder_unsigned w a b h) (div-add-mod a b, mod-lt a (pos_of_ne-zero z))
 
 -- signed: the quotient of the magnitudes, negative where the signs differ, and their remainder with the dividend's sign
-pub div-exact : (w a b : ℕ) → b < 2 ^ w → (b ≡ 0 → ⊥)
+pub div_exact : (w a b : ℕ) → b < 2 ^ w → (b ≡ 0 → ⊥)
     → operate w Div a b
-    ≡ word w (signedBy (xor (not (non_neg (signed w a))) (not (non_neg (signed w b)))) (nat_abs (signed w a) / nat_abs (signed w b)))
-div-exact w a b l z = sym (signed_quotient w a b refl refl refl refl l z)
+    ≡ word w (signed_by (xor (not (non_neg (signed w a))) (not (non_neg (signed w b)))) (nat_abs (signed w a) / nat_abs (signed w b)))
+div_exact w a b l z = sym (signed_quotient w a b refl refl refl refl l z)
 
-pub rem-exact : (w a b : ℕ)
-    → operate w Rem a b ≡ word w (signedBy (not (non_neg (signed w a))) (nat_abs (signed w a) % nat_abs (signed w b)))
-rem-exact w a b = sym (signed-remainder w a b refl refl refl)
+pub rem_exact : (w a b : ℕ)
+    → operate w Rem a b ≡ word w (signed_by (not (non_neg (signed w a))) (nat_abs (signed w a) % nat_abs (signed w b)))
+rem_exact w a b = sym (signed_remainder w a b refl refl refl)
 
 -- "Division by zero gives all ones as quotient and the dividend as remainder."
-pub div-by-zero : (w a b : ℕ) → a < 2 ^ w → nat_abs (signed w b) ≡ 0 → (operate w Div a b ≡ 2 ^ w - 1) × (operate w Rem a b ≡ a)
-div-by-zero w a b h z = by_zero w a (signed w a) (signed w b) (word-signed w a h) z
+pub div_by_zero : (w a b : ℕ) → a < 2 ^ w → nat_abs (signed w b) ≡ 0 → (operate w Div a b ≡ 2 ^ w - 1) × (operate w Rem a b ≡ a)
+div_by_zero w a b h z = by_zero w a (signed w a) (signed w b) (word_signed w a h) z
 
-pub divu-by-zero : (w a : ℕ) → a < 2 ^ w → (operate w Divu a 0 ≡ 2 ^ w - 1) × (operate w Remu a 0 ≡ a)
-divu-by-zero w a h = by_zero w a (pos a) (pos 0) (mod-eq_of_lt h) refl
+pub divu_by_zero : (w a : ℕ) → a < 2 ^ w → (operate w Divu a 0 ≡ 2 ^ w - 1) × (operate w Remu a 0 ≡ a)
+divu_by_zero w a h = by_zero w a (pos a) (pos 0) (mod-eq_of_lt h) refl
 
 -- "The most negative number divided by -1 gives itself, with remainder 0."
-pub div-overflow : (w : ℕ) → 0 < w
+pub div_overflow : (w : ℕ) → 0 < w
     → (operate w Div (2 ^ (w - 1)) (2 ^ w - 1) ≡ 2 ^ (w - 1)) × (operate w Rem (2 ^ (w - 1)) (2 ^ w - 1) ≡ 0)
-div-overflow w h = overflow w h
+div_overflow w h = overflow w h
 
 -- ---- rows: both signs, a divisor of 0, the most negative numbers by -1, upper halves that a word form does not look at
 
@@ -86,8 +86,8 @@ record Row : Type 0 where
 abbrev kinds : List RegisterKind
 kinds = Mul ∷ Mulh ∷ Mulhsu ∷ Mulhu ∷ Div ∷ Divu ∷ Rem ∷ Remu ∷ []
 
-abbrev wordKinds : List RegisterWordKind
-wordKinds = Mulw ∷ Divw ∷ Divuw ∷ Remw ∷ Remuw ∷ []
+abbrev word_kinds : List RegisterWordKind
+word_kinds = Mulw ∷ Divw ∷ Divuw ∷ Remw ∷ Remuw ∷ []
 
 abbrev row : ℕ → ℕ → List ℕ → List ℕ → Row
 row a b results words = record { rs1 = a; rs2 = b; whole = results; word = words }
@@ -95,7 +95,7 @@ row a b results words = record { rs1 = a; rs2 = b; whole = results; word = words
 abbrev computed : Row → Row
 computed r =
     row r.rs1 r.rs2 (map (λ k. operate 64 k r.rs1 r.rs2) kinds)
-    (map (λ k. operateWord (ofRegisterWord k) r.rs1 r.rs2) wordKinds)
+    (map (λ k. operate_word (of_register_word k) r.rs1 r.rs2) word_kinds)
 
 abbrev rows : List Row
 rows =
@@ -221,6 +221,6 @@ rows =
     (0x0 ∷ 0xffffffffffffffff ∷ 0xffffffffffffffff ∷ 0x9 ∷ 0x9 ∷ [])
     ∷ []
 
-pub integer-results : map computed rows ≡ rows
+pub integer_results : map computed rows ≡ rows
 unfolding sext low_half high_half quotient remainder
-integer-results = refl
+integer_results = refl

@@ -14,23 +14,23 @@ use lib.IntN.{ℤ, pos, ◌+ℤ◌}
 use borrow.Author.Tests.{leb-true, le-leb, lt-ltb, eqb-true, eqb-false, eq-eqb, not-true}
 use Rattle.words.specs.Word.{word}
 use Rattle.instructions.proofs.Tests.{and_both}
-use Rattle.model.specs.Regions.{maskZeros, implicitRule, implicitRuleAt, large, permits, smallRule, largeRule, explicitRule, matches, below, explicitGrants}
+use Rattle.model.specs.Regions.{mask_zeros, implicit_rule, implicit_rule_at, large, permits, small_rule, large_rule, explicit_rule, matches, below, explicit_grants}
 use Rattle.model.specs.Bytes.{byte_of}
 use Rattle.model.specs.declared.Region.{Region}
-use Rattle.model.proofs.Offset.{below-inside}
+use Rattle.model.proofs.Offset.{below_inside}
 
 -- ---- implicit regions
 
 -- what the rule says of the region's numbers
 pub record Kept (r : Region) : Type 0 where
-  pub small : maskZeros r.bound ≤ 48
-  pub shape : r.bound ≡ 2 ^ 64 - 2 ^ maskZeros r.bound
-  pub aligned : r.base % 2 ^ maskZeros r.bound ≡ 0
-  pub low : r.base + 2 ^ maskZeros r.bound ≤ 2 ^ 48
+  pub small : mask_zeros r.bound ≤ 48
+  pub shape : r.bound ≡ 2 ^ 64 - 2 ^ mask_zeros r.bound
+  pub aligned : r.base % 2 ^ mask_zeros r.bound ≡ 0
+  pub low : r.base + 2 ^ mask_zeros r.bound ≤ 2 ^ 48
 
-pub implicit-kept : (r : Region) → implicitRule r ≡ true → Kept r
-implicit-kept r h =
-    let k = maskZeros r.bound in
+pub implicit_kept : (r : Region) → implicit_rule r ≡ true → Kept r
+implicit_kept r h =
+    let k = mask_zeros r.bound in
     let shape = eqb r.bound (2 ^ 64 - 2 ^ k) in
     let aligned = eqb (r.base % 2 ^ k) 0 in
     let low = leb (r.base + 2 ^ k) (2 ^ 48) in
@@ -52,8 +52,8 @@ masked a k h l =
     ∙ ap (λ (x : ℕ). x * 2 ^ k) (shr_mod (64 - k) k (subst (λ (n : ℕ). a < 2 ^ n) (sym e) l))
 
 -- the address without them, in a region that keeps its rule
-region-masked : (r : Region) (a : ℕ) → Kept r → a < 2 ^ 64 → bit_and a r.bound ≡ a / 2 ^ maskZeros r.bound * 2 ^ maskZeros r.bound
-region-masked r a h l = let s : maskZeros r.bound ≤ 64 = omega arith in ap (bit_and a) h.shape ∙ masked a (maskZeros r.bound) s l
+region_masked : (r : Region) (a : ℕ) → Kept r → a < 2 ^ 64 → bit_and a r.bound ≡ a / 2 ^ mask_zeros r.bound * 2 ^ mask_zeros r.bound
+region_masked r a h l = let s : mask_zeros r.bound ≤ 64 = omega arith in ap (bit_and a) h.shape ∙ masked a (mask_zeros r.bound) s l
 
 -- the numbers that a multiple of 2^k is left of are the 2^k from it on
 rounded : (a base k : ℕ) → base % 2 ^ k ≡ 0 → base ≤ a → a < base + 2 ^ k → a / 2 ^ k * 2 ^ k ≡ base
@@ -64,81 +64,81 @@ rounded a base k m h l =
     ap (λ (x : ℕ). x * 2 ^ k) (ap (λ (x : ℕ). x / 2 ^ k) s ∙ high (base / 2 ^ k) k d) ∙ b
 
 -- a matched address is base or one of the 2^k from it on
-pub matches-inside : (r : Region) (a : ℕ) → a < 2 ^ 64 → matches r a ≡ true
-    → (r.base ≤ a) × (a < r.base + 2 ^ maskZeros r.bound)
+pub matches_inside : (r : Region) (a : ℕ) → a < 2 ^ 64 → matches r a ≡ true
+    → (r.base ≤ a) × (a < r.base + 2 ^ mask_zeros r.bound)
 unfolding matches
-matches-inside r a l h =
-    let p = and_both (implicitRule r) (eqb (bit_and a r.bound) r.base) h in
-    let e = sym (region-masked r a (implicit-kept r p.0) l) ∙ eqb-true (bit_and a r.bound) r.base p.1 in
-    omega (arith, e, split a (maskZeros r.bound), mod-lt a (pow_pos (maskZeros r.bound)))
+matches_inside r a l h =
+    let p = and_both (implicit_rule r) (eqb (bit_and a r.bound) r.base) h in
+    let e = sym (region_masked r a (implicit_kept r p.0) l) ∙ eqb-true (bit_and a r.bound) r.base p.1 in
+    omega (arith, e, split a (mask_zeros r.bound), mod-lt a (pow_pos (mask_zeros r.bound)))
 
 -- and each of those is matched
-pub inside-matches : (r : Region) (a : ℕ) → implicitRule r ≡ true → r.base ≤ a → a < r.base + 2 ^ maskZeros r.bound → matches r a ≡ true
+pub inside_matches : (r : Region) (a : ℕ) → implicit_rule r ≡ true → r.base ≤ a → a < r.base + 2 ^ mask_zeros r.bound → matches r a ≡ true
 unfolding matches
-inside-matches r a h p q =
-    let t = implicit-kept r h in
+inside_matches r a h p q =
+    let t = implicit_kept r h in
     let l : a < 2 ^ 64 = omega (arith, t.low) in
-    rw h (eq-eqb (bit_and a r.bound) r.base (region-masked r a t l ∙ rounded a r.base (maskZeros r.bound) t.aligned p q))
+    rw h (eq-eqb (bit_and a r.bound) r.base (region_masked r a t l ∙ rounded a r.base (mask_zeros r.bound) t.aligned p q))
 
 -- a matched address is below 2^48
-pub matches-low : (r : Region) (a : ℕ) → a < 2 ^ 64 → matches r a ≡ true → a < 2 ^ 48
+pub matches_low : (r : Region) (a : ℕ) → a < 2 ^ 64 → matches r a ≡ true → a < 2 ^ 48
 unfolding matches
-matches-low r a l h =
-    let p = and_both (implicitRule r) (eqb (bit_and a r.bound) r.base) h in
-    omega (arith, (implicit-kept r p.0).low, (matches-inside r a l h).1)
+matches_low r a l h =
+    let p = and_both (implicit_rule r) (eqb (bit_and a r.bound) r.base) h in
+    omega (arith, (implicit_kept r p.0).low, (matches_inside r a l h).1)
 
 -- a region that breaks its rule matches nothing
-pub broken-matches-none : (r : Region) (a : ℕ) → implicitRule r ≡ false → matches r a ≡ false
+pub broken_matches_none : (r : Region) (a : ℕ) → implicit_rule r ≡ false → matches r a ≡ false
 unfolding matches
-broken-matches-none r a h = rw h refl
+broken_matches_none r a h = rw h refl
 
 -- mask 0 matches nothing
-pub zero-matches-none : (r : Region) (a : ℕ) → r.bound ≡ 0 → matches r a ≡ false
-zero-matches-none r a h =
-    broken-matches-none r a (ap (λ (m : ℕ). implicitRuleAt (maskZeros m) r.base m) h ∙ ap (λ (k : ℕ). implicitRuleAt k r.base 0) (trailing_of_zero 64))
+pub zero_matches_none : (r : Region) (a : ℕ) → r.bound ≡ 0 → matches r a ≡ false
+zero_matches_none r a h =
+    broken_matches_none r a (ap (λ (m : ℕ). implicit_rule_at (mask_zeros m) r.base m) h ∙ ap (λ (k : ℕ). implicit_rule_at k r.base 0) (trailing_of_zero 64))
 
 -- a base that is not a multiple of 2^k matches nothing
-pub misaligned-matches-none : (r : Region) (a : ℕ) → (r.base % 2 ^ maskZeros r.bound ≡ 0 → ⊥) → matches r a ≡ false
-misaligned-matches-none r a h = go (implicitRule r) refl
+pub misaligned_matches_none : (r : Region) (a : ℕ) → (r.base % 2 ^ mask_zeros r.bound ≡ 0 → ⊥) → matches r a ≡ false
+misaligned_matches_none r a h = go (implicit_rule r) refl
   where
-    go : (b : Bool) → implicitRule r ≡ b → matches r a ≡ false
-    go true e = absurd (h (implicit-kept r e).aligned)
-    go false e = broken-matches-none r a e
+    go : (b : Bool) → implicit_rule r ≡ b → matches r a ≡ false
+    go true e = absurd (h (implicit_kept r e).aligned)
+    go false e = broken_matches_none r a e
 
 -- the mask 2^64 - 2^k has k trailing zeros
-odd-zeros : (d m k : ℕ) → m % 2 ≡ 1 → k < d → count_trailing_zeros d (m * 2 ^ k) ≡ k
+odd_zeros : (d m k : ℕ) → m % 2 ≡ 1 → k < d → count_trailing_zeros d (m * 2 ^ k) ≡ k
 unfolding count_trailing_zeros
-odd-zeros zero m k o h = absurd (omega arith)
-odd-zeros (suc d) m zero o h =
+odd_zeros zero m k o h = absurd (omega arith)
+odd_zeros (suc d) m zero o h =
     let e : m * 2 ^ 0 ≡ m = omega arith in
     rw (e, o) refl
-odd-zeros (suc d) m (suc k) o h = rw (shifted_even m k, shifted_half m k) (ap suc (odd-zeros d m k o (omega arith)))
+odd_zeros (suc d) m (suc k) o h = rw (shifted_even m k, shifted_half m k) (ap suc (odd_zeros d m k o (omega arith)))
 
-mask-zeros : (k : ℕ) → k < 64 → maskZeros (2 ^ 64 - 2 ^ k) ≡ k
-mask-zeros k h =
+mask_zeros_lem : (k : ℕ) → k < 64 → mask_zeros (2 ^ 64 - 2 ^ k) ≡ k
+mask_zeros_lem k h =
     let e : suc (63 - k) + k ≡ 64 = omega arith in
     let o : (2 ^ suc (63 - k) - 1) % 2 ≡ 1 = rw (pow-suc 2 (63 - k)) (omega (arith, pow_pos (63 - k))) in
-    ap maskZeros (ap (λ (n : ℕ). 2 ^ n - 2 ^ k) (sym e) ∙ high_ones (suc (63 - k)) k) ∙ odd-zeros 64 (2 ^ suc (63 - k) - 1) k o h
+    ap mask_zeros (ap (λ (n : ℕ). 2 ^ n - 2 ^ k) (sym e) ∙ high_ones (suc (63 - k)) k) ∙ odd_zeros 64 (2 ^ suc (63 - k) - 1) k o h
 
 -- so each aligned block of 2^k bytes below 2^48 is what some region matches
-pub block-keeps : (k base permission : ℕ) → k ≤ 48 → base % 2 ^ k ≡ 0 → base + 2 ^ k ≤ 2 ^ 48
-    → implicitRule (record { base = base; bound = 2 ^ 64 - 2 ^ k; permission = permission }) ≡ true
-block-keeps k base permission h m l =
-    ap (λ (n : ℕ). implicitRuleAt n base (2 ^ 64 - 2 ^ k)) (mask-zeros k (omega arith))
+pub block_keeps : (k base permission : ℕ) → k ≤ 48 → base % 2 ^ k ≡ 0 → base + 2 ^ k ≤ 2 ^ 48
+    → implicit_rule (record { base = base; bound = 2 ^ 64 - 2 ^ k; permission = permission }) ≡ true
+block_keeps k base permission h m l =
+    ap (λ (n : ℕ). implicit_rule_at n base (2 ^ 64 - 2 ^ k)) (mask_zeros_lem k (omega arith))
     ∙ rw (le-leb k 48 h, eq-eqb (2 ^ 64 - 2 ^ k) (2 ^ 64 - 2 ^ k) refl, eq-eqb (base % 2 ^ k) 0 m, le-leb (base + 2 ^ k) (2 ^ 48) l) refl
 
 -- ---- explicit regions
 
-small-ends : (r : Region) → smallRule r ≡ true → (0 < r.bound) × (r.base + r.bound ≤ 2 ^ 48)
-small-ends r h =
+small_ends : (r : Region) → small_rule r ≡ true → (0 < r.bound) × (r.base + r.bound ≤ 2 ^ 48)
+small_ends r h =
     let shared = eqb (r.base / 2 ^ 32) ((r.base + r.bound - 1) / 2 ^ 32) in
     let low = leb (r.base + r.bound) (2 ^ 48) in
     let p = and_both (leb 1 r.bound) (leb r.bound (2 ^ 32) && (shared && low)) h in
     let q = and_both (leb r.bound (2 ^ 32)) (shared && low) p.1 in
     (omega (arith, leb-true 1 r.bound p.0), leb-true (r.base + r.bound) (2 ^ 48) (and_both shared low q.1).1)
 
-large-ends : (r : Region) → largeRule r ≡ true → (0 < r.bound) × (r.base + r.bound ≤ 2 ^ 48)
-large-ends r h =
+large_ends : (r : Region) → large_rule r ≡ true → (0 < r.bound) × (r.base + r.bound ≤ 2 ^ 48)
+large_ends r h =
     let even = eqb (r.bound % 65536) 0 in
     let some = not (eqb r.bound 0) in
     let low = leb (r.base + r.bound) (2 ^ 48) in
@@ -148,24 +148,24 @@ large-ends r h =
     (omega (arith, n), leb-true (r.base + r.bound) (2 ^ 48) q.1)
 
 -- a region that keeps its rule is not empty and ends at 2^48 or before
-pub explicit-ends : (r : Region) → explicitRule r ≡ true → (0 < r.bound) × (r.base + r.bound ≤ 2 ^ 48)
-unfolding explicitRule
-explicit-ends r h = go (permits large r) h
+pub explicit_ends : (r : Region) → explicit_rule r ≡ true → (0 < r.bound) × (r.base + r.bound ≤ 2 ^ 48)
+unfolding explicit_rule
+explicit_ends r h = go (permits large r) h
   where
-    go : (b : Bool) → cond b (largeRule r) (smallRule r) ≡ true → (0 < r.bound) × (r.base + r.bound ≤ 2 ^ 48)
-    go true e = large-ends r e
-    go false e = small-ends r e
+    go : (b : Bool) → cond b (large_rule r) (small_rule r) ≡ true → (0 < r.bound) × (r.base + r.bound ≤ 2 ^ 48)
+    go true e = large_ends r e
+    go false e = small_ends r e
 
 -- a granted byte lies in the region
-pub granted-inside : (r : Region) (p : ℕ) (offset : ℤ) (i : ℕ) → explicitGrants r p offset i ≡ true
+pub granted_inside : (r : Region) (p : ℕ) (offset : ℤ) (i : ℕ) → explicit_grants r p offset i ≡ true
     → (r.base ≤ byte_of (word 64 (pos r.base +ℤ offset)) i) × (byte_of (word 64 (pos r.base +ℤ offset)) i < r.base + r.bound)
-unfolding explicitGrants
-granted-inside r p offset i g =
-    let h = and_both (explicitRule r) (permits p r && below (offset +ℤ pos i) r.bound) g in
+unfolding explicit_grants
+granted_inside r p offset i g =
+    let h = and_both (explicit_rule r) (permits p r && below (offset +ℤ pos i) r.bound) g in
     let q = and_both (permits p r) (below (offset +ℤ pos i) r.bound) h.1 in
-    below-inside r.base r.bound i offset (omega (arith, (explicit-ends r h.0).1)) q.1
+    below_inside r.base r.bound i offset (omega (arith, (explicit_ends r h.0).1)) q.1
 
 -- and, of a region that keeps its rule and has the permission, each byte that lies in it is granted at its distance from base
-pub inside-granted : (r : Region) (p n : ℕ) → explicitRule r ≡ true → permits p r ≡ true → n < r.bound → explicitGrants r p (pos n) 0 ≡ true
-unfolding explicitGrants
-inside-granted r p n k m l = rw (k, m, le-leb 0 (n + 0) (omega arith)) (lt-ltb (n + 0) r.bound (omega arith))
+pub inside_granted : (r : Region) (p n : ℕ) → explicit_rule r ≡ true → permits p r ≡ true → n < r.bound → explicit_grants r p (pos n) 0 ≡ true
+unfolding explicit_grants
+inside_granted r p n k m l = rw (k, m, le-leb 0 (n + 0) (omega arith)) (lt-ltb (n + 0) r.bound (omega arith))

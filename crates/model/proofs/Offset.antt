@@ -10,11 +10,11 @@ use native.Mathlib.Omega.{arith}
 use lib.Dec.{leb, ltb, lit≤}
 use lib.IntN.{ℤ, pos, negsuc, ◌+ℤ◌, +ℤ_idl}
 use borrow.Author.Tests.{ltb-true, ltb-false, lt-ltb, le-ltb, le-leb, eqb-true}
-use Rattle.words.specs.Word.{field, signed, word, fitsSigned}
-use Rattle.words.proofs.Extend.{sext-low-half, sext-high-half}
+use Rattle.words.specs.Word.{field, signed, word, fits_signed}
+use Rattle.words.proofs.Extend.{sext_low_half, sext_high_half}
 use Rattle.words.proofs.Fields.{field_lt}
 use Rattle.instructions.proofs.Tests.{and_both}
-use Rattle.words.proofs.Residues.{word-signed}
+use Rattle.words.proofs.Residues.{word_signed}
 use Rattle.model.specs.Machine.{reg}
 use Rattle.model.specs.Bytes.{byte_of}
 use Rattle.model.specs.Regions.{below}
@@ -33,34 +33,34 @@ word_sum base (negsuc n) = go (ltb base (suc n)) refl
     go false t = omega (arith, ltb-false base (suc n) t)
 
 -- so an h-word's address is two sums of words
-pub address-sum : (base v imm : ℕ) → imm < 2 ^ 64 → word 64 (pos base +ℤ offset v imm) ≡ (base + (v + imm) % 2 ^ 64) % 2 ^ 64
-address-sum base v imm h =
+pub address_sum : (base v imm : ℕ) → imm < 2 ^ 64 → word 64 (pos base +ℤ offset v imm) ≡ (base + (v + imm) % 2 ^ 64) % 2 ^ 64
+address_sum base v imm h =
     word_sum base (offset v imm)
-    ∙ ap (λ (n : ℕ). (base + n) % 2 ^ 64) (word_sum v (signed 64 imm) ∙ ap (λ (n : ℕ). (v + n) % 2 ^ 64) (word-signed 64 imm h))
+    ∙ ap (λ (n : ℕ). (base + n) % 2 ^ 64) (word_sum v (signed 64 imm) ∙ ap (λ (n : ℕ). (v + n) % 2 ^ 64) (word_signed 64 imm h))
 
 -- "Words with rs1 = x0 act as before", when the offset was the signed immediate (02, Job 1)
-pub offset-of-x0 : (x : List ℕ) (imm : ℕ) → reg x 0 ≡ 0 → offset (reg x 0) imm ≡ signed 64 imm
-offset-of-x0 x imm e = ap (λ (n : ℕ). offset n imm) e ∙ +ℤ_idl (signed 64 imm)
+pub offset_of_x0 : (x : List ℕ) (imm : ℕ) → reg x 0 ≡ 0 → offset (reg x 0) imm ≡ signed 64 imm
+offset_of_x0 x imm e = ap (λ (n : ℕ). offset n imm) e ∙ +ℤ_idl (signed 64 imm)
 
 -- ---- bytes below the bound
 
-below-pos : (n bound : ℕ) → below (pos n) bound ≡ true → n < bound
-below-pos n bound e = ltb-true n bound (and_both (leb 0 n) (ltb n bound) e).1
+below_pos : (n bound : ℕ) → below (pos n) bound ≡ true → n < bound
+below_pos n bound e = ltb-true n bound (and_both (leb 0 n) (ltb n bound) e).1
 
 -- a byte below the bound lies in its region, which ends at 2^64 or before
-pub below-inside : (base bound i : ℕ) (z : ℤ) → base + bound ≤ 2 ^ 64 → below (z +ℤ pos i) bound ≡ true
+pub below_inside : (base bound i : ℕ) (z : ℤ) → base + bound ≤ 2 ^ 64 → below (z +ℤ pos i) bound ≡ true
     → (base ≤ byte_of (word 64 (pos base +ℤ z)) i) × (byte_of (word 64 (pos base +ℤ z)) i < base + bound)
-below-inside base bound i (pos n) h e =
-    let l = below-pos (n + i) bound e in
+below_inside base bound i (pos n) h e =
+    let l = below_pos (n + i) bound e in
     (omega arith, omega arith)
-below-inside base bound i (negsuc n) h e = rw (word_sum base (negsuc n)) (go (ltb i (suc n)) refl e)
+below_inside base bound i (negsuc n) h e = rw (word_sum base (negsuc n)) (go (ltb i (suc n)) refl e)
   where
     go : (b : Bool) → ltb i (suc n) ≡ b → below (cond b (negsuc (suc n - suc i)) (pos (i - suc n))) bound ≡ true
         → (base ≤ byte_of ((base + (2 ^ 64 - suc (n % 2 ^ 64))) % 2 ^ 64) i) × (byte_of ((base + (2 ^ 64 - suc (n % 2 ^ 64))) % 2 ^ 64) i < base + bound)
     go true t e = absurd (false≢true e)
     go false t e =
         let l = ltb-false i (suc n) t in
-        let u = below-pos (i - suc n) bound e in
+        let u = below_pos (i - suc n) bound e in
         (omega arith, omega arith)
 
 -- a place before a region's start wraps far beyond its bound
@@ -89,25 +89,25 @@ below_word w i bound h p q = go (ltb w (2 ^ 63)) refl
 abbrev Immediate : ℕ → Type 0
 Immediate imm = (imm < 2 ^ 11) ⊎ ((2 ^ 64 - 2 ^ 11 ≤ imm) × (imm < 2 ^ 64))
 
-immediate-range : (imm : ℕ) → fitsSigned 12 imm ≡ true → Immediate imm
-immediate-range imm h = go (ltb (field imm 0 12) (2 ^ 11)) refl
+immediate_range : (imm : ℕ) → fits_signed 12 imm ≡ true → Immediate imm
+immediate_range imm h = go (ltb (field imm 0 12) (2 ^ 11)) refl
   where
     go : (b : Bool) → ltb (field imm 0 12) (2 ^ 11) ≡ b → Immediate imm
     go true t =
         let l = ltb-true (field imm 0 12) (2 ^ 11) t in
-        let e : field imm 0 12 ≡ imm = sym (sext-low-half 12 (field imm 0 12) l (omega arith)) ∙ eqb-true _ imm h in
+        let e : field imm 0 12 ≡ imm = sym (sext_low_half 12 (field imm 0 12) l (omega arith)) ∙ eqb-true _ imm h in
         inl (subst (λ (n : ℕ). n < 2 ^ 11) e l)
     go false t =
         let l = ltb-false (field imm 0 12) (2 ^ 11) t in
         let u = field_lt imm 0 12 in
-        let e : field imm 0 12 + (2 ^ 64 - 2 ^ 12) ≡ imm = sym (sext-high-half 12 (field imm 0 12) (lit≤ tt) l u) ∙ eqb-true _ imm h in
+        let e : field imm 0 12 + (2 ^ 64 - 2 ^ 12) ≡ imm = sym (sext_high_half 12 (field imm 0 12) (lit≤ tt) l u) ∙ eqb-true _ imm h in
         inr (subst (λ (n : ℕ). (2 ^ 64 - 2 ^ 11 ≤ n) × (n < 2 ^ 64)) e (omega arith, omega arith))
 
 -- of a value below 2^62 the sum of the words stands for the offset
-near-sum : (v imm : ℕ) → v < 2 ^ 62 → Immediate imm → offset v imm ≡ signed 64 ((v + imm) % 2 ^ 64)
-near-sum v imm h (inl l) =
+near_sum : (v imm : ℕ) → v < 2 ^ 62 → Immediate imm → offset v imm ≡ signed 64 ((v + imm) % 2 ^ 64)
+near_sum v imm h (inl l) =
     rw (lt-ltb imm (2 ^ 63) (omega arith), lt-ltb ((v + imm) % 2 ^ 64) (2 ^ 63) (omega arith)) (ap pos (omega arith))
-near-sum v imm h (inr (l, u)) = rw (le-ltb imm (2 ^ 63) (omega arith)) (go (ltb v (suc (2 ^ 64 - suc imm))) refl)
+near_sum v imm h (inr (l, u)) = rw (le-ltb imm (2 ^ 63) (omega arith)) (go (ltb v (suc (2 ^ 64 - suc imm))) refl)
   where
     go : (b : Bool) → ltb v (suc (2 ^ 64 - suc imm)) ≡ b
         → cond b (negsuc (suc (2 ^ 64 - suc imm) - suc v)) (pos (v - suc (2 ^ 64 - suc imm))) ≡ signed 64 ((v + imm) % 2 ^ 64)
@@ -119,20 +119,20 @@ near-sum v imm h (inr (l, u)) = rw (le-ltb imm (2 ^ 63) (omega arith)) (go (ltb 
         rw (lt-ltb ((v + imm) % 2 ^ 64) (2 ^ 63) (omega arith)) (ap pos (omega arith))
 
 -- and one of 2^48 + 2^11 or more lies past every bound that keeps its rule
-far-outside : (v imm i bound : ℕ) → 2 ^ 48 + 2 ^ 11 ≤ v → Immediate imm → bound ≤ 2 ^ 48 → below (offset v imm +ℤ pos i) bound ≡ false
-far-outside v imm i bound h (inl l) u =
+far_outside : (v imm i bound : ℕ) → 2 ^ 48 + 2 ^ 11 ≤ v → Immediate imm → bound ≤ 2 ^ 48 → below (offset v imm +ℤ pos i) bound ≡ false
+far_outside v imm i bound h (inl l) u =
     rw (lt-ltb imm (2 ^ 63) (omega arith), le-leb 0 (v + imm + i) (omega arith)) (le-ltb (v + imm + i) bound (omega arith))
-far-outside v imm i bound h (inr (l, m)) u =
+far_outside v imm i bound h (inr (l, m)) u =
     rw (le-ltb imm (2 ^ 63) (omega arith), le-ltb v (suc (2 ^ 64 - suc imm)) (omega arith), le-leb 0 (v - suc (2 ^ 64 - suc imm) + i) (omega arith))
     (le-ltb (v - suc (2 ^ 64 - suc imm) + i) bound (omega arith))
 
 -- so with any number between the two for far, values from it on are told apart, and below it the sum of the words is asked
-pub below-offset : (far v imm i bound : ℕ) → 2 ^ 48 + 2 ^ 11 ≤ far → far ≤ 2 ^ 62 → fitsSigned 12 imm ≡ true → i < 2 ^ 63 → bound ≤ 2 ^ 48
+pub below_offset : (far v imm i bound : ℕ) → 2 ^ 48 + 2 ^ 11 ≤ far → far ≤ 2 ^ 62 → fits_signed 12 imm ≡ true → i < 2 ^ 63 → bound ≤ 2 ^ 48
     → below (offset v imm +ℤ pos i) bound ≡ (ltb v far && ltb (((v + imm) % 2 ^ 64 + i) % 2 ^ 64) bound)
-below-offset far v imm i bound low high f l u = go (ltb v far) refl (immediate-range imm f)
+below_offset far v imm i bound low high f l u = go (ltb v far) refl (immediate_range imm f)
   where
     go : (b : Bool) → ltb v far ≡ b → Immediate imm → below (offset v imm +ℤ pos i) bound ≡ (b && ltb (((v + imm) % 2 ^ 64 + i) % 2 ^ 64) bound)
     go true t r =
-        ap (λ z. below (z +ℤ pos i) bound) (near-sum v imm (omega (arith, ltb-true v far t)) r)
+        ap (λ z. below (z +ℤ pos i) bound) (near_sum v imm (omega (arith, ltb-true v far t)) r)
         ∙ below_word ((v + imm) % 2 ^ 64) i bound (omega arith) l (omega arith)
-    go false t r = far-outside v imm i bound (omega (arith, ltb-false v far t)) r u
+    go false t r = far_outside v imm i bound (omega (arith, ltb-false v far t)) r u

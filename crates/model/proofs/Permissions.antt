@@ -10,14 +10,14 @@ use lib.Bits.{bit_and, and_le_r}
 use borrow.Author.Tests.{eqb-true, eqb-false, ne_eqb, leb-true, leb-false, not-true}
 use Rattle.instructions.proofs.Tests.{and_both}
 use Rattle.instructions.specs.HWords.{among}
-use Rattle.model.specs.Regions.{RegionKind, explicit, implicitData, implicitCode, regionKind, permissionBits, permissionFits}
-use Rattle.model.proofs.Forbidden.{every, of-each}
+use Rattle.model.specs.Regions.{RegionKind, explicit, implicit_data, implicit_code, region_kind, permission_bits, permission_fits}
+use Rattle.model.proofs.Forbidden.{every, of_each}
 
 -- by the bits read 1, write 2, execute 4 and large 8
 abbrev pub fitting : RegionKind → List ℕ
 fitting explicit = 0 ∷ 1 ∷ 2 ∷ 3 ∷ 8 ∷ 9 ∷ 10 ∷ 11 ∷ []
-fitting implicitData = 0 ∷ 1 ∷ 2 ∷ 3 ∷ []
-fitting implicitCode = 0 ∷ 4 ∷ []
+fitting implicit_data = 0 ∷ 1 ∷ 2 ∷ 3 ∷ []
+fitting implicit_code = 0 ∷ 4 ∷ []
 
 -- a test of every number below n
 abbrev all_below : ℕ → (ℕ → Bool) → Bool
@@ -37,35 +37,35 @@ below (suc n) t h p l =
 -- no number above the bits that there are fits, and of those below 16 these, by a computed check
 module _ (k : RegionKind) (p : ℕ) where
   abbrev same : ℕ → Bool
-  same v = cond (eqb (bit_and v (permissionBits k)) v) (among v (fitting k)) (not (among v (fitting k)))
+  same v = cond (eqb (bit_and v (permission_bits k)) v) (among v (fitting k)) (not (among v (fitting k)))
 
-  high_bits : permissionBits k ≤ 15 → every (λ v. leb v 15) (fitting k) ≡ true → 15 < p → eqb (bit_and p (permissionBits k)) p ≡ among p (fitting k)
+  high_bits : permission_bits k ≤ 15 → every (λ v. leb v 15) (fitting k) ≡ true → 15 < p → eqb (bit_and p (permission_bits k)) p ≡ among p (fitting k)
   high_bits l h g =
-      let c = and_le_r p (permissionBits k) in
+      let c = and_le_r p (permission_bits k) in
       ne_eqb _ p (λ e. omega (arith, e, c, l, g)) ∙ sym (go (among p (fitting k)) refl)
     where
       go : (b : Bool) → among p (fitting k) ≡ b → among p (fitting k) ≡ false
-      go true e = let z = leb-true p 15 (of-each (λ v. leb v 15) (fitting k) p h e) in absurd (omega (arith, z, g))
+      go true e = let z = leb-true p 15 (of_each (λ v. leb v 15) (fitting k) p h e) in absurd (omega (arith, z, g))
       go false e = e
 
-  low_bits : all_below 16 same ≡ true → p < 16 → eqb (bit_and p (permissionBits k)) p ≡ among p (fitting k)
-  low_bits h l = go (eqb (bit_and p (permissionBits k)) p) (among p (fitting k)) (below 16 same h p l)
+  low_bits : all_below 16 same ≡ true → p < 16 → eqb (bit_and p (permission_bits k)) p ≡ among p (fitting k)
+  low_bits h l = go (eqb (bit_and p (permission_bits k)) p) (among p (fitting k)) (below 16 same h p l)
     where
       go : (a b : Bool) → cond a b (not b) ≡ true → a ≡ b
       go true b e = sym e
       go false b e = sym (not-true b e)
 
-  fitting-bits : permissionBits k ≤ 15 → every (λ v. leb v 15) (fitting k) ≡ true → all_below 16 same ≡ true → eqb (bit_and p (permissionBits k)) p ≡ among p (fitting k)
-  fitting-bits l h s = go (leb p 15) refl
+  fitting_bits : permission_bits k ≤ 15 → every (λ v. leb v 15) (fitting k) ≡ true → all_below 16 same ≡ true → eqb (bit_and p (permission_bits k)) p ≡ among p (fitting k)
+  fitting_bits l h s = go (leb p 15) refl
     where
-      go : (b : Bool) → leb p 15 ≡ b → eqb (bit_and p (permissionBits k)) p ≡ among p (fitting k)
+      go : (b : Bool) → leb p 15 ≡ b → eqb (bit_and p (permission_bits k)) p ≡ among p (fitting k)
       go true e = let z = leb-true p 15 e in low_bits s (omega (arith, z))
       go false e = high_bits l h (leb-false p 15 e)
 
-pub permissions-fitting : (n p : ℕ) → permissionFits n p ≡ among p (fitting (regionKind n))
-permissions-fitting n p = go (regionKind n)
+pub permissions_fitting : (n p : ℕ) → permission_fits n p ≡ among p (fitting (region_kind n))
+permissions_fitting n p = go (region_kind n)
   where
-    go : (k : RegionKind) → eqb (bit_and p (permissionBits k)) p ≡ among p (fitting k)
-    go explicit = fitting-bits explicit p (lit≤ tt) refl refl
-    go implicitData = fitting-bits implicitData p (lit≤ tt) refl refl
-    go implicitCode = fitting-bits implicitCode p (lit≤ tt) refl refl
+    go : (k : RegionKind) → eqb (bit_and p (permission_bits k)) p ≡ among p (fitting k)
+    go explicit = fitting_bits explicit p (lit≤ tt) refl refl
+    go implicit_data = fitting_bits implicit_data p (lit≤ tt) refl refl
+    go implicit_code = fitting_bits implicit_code p (lit≤ tt) refl refl

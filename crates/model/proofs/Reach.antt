@@ -11,8 +11,8 @@ use lib.ListN.{set, replicate}
 use lib.Seq.{get_or-set_same}
 use lib.IntN.{ℤ, pos, ◌+ℤ◌}
 use Rattle.words.specs.Word.{sext}
-use Rattle.instructions.specs.Decode.{decodeWord}
-use Rattle.instructions.specs.Encode.{in_range, encodeFields, encodeWord}
+use Rattle.instructions.specs.Decode.{decode_word}
+use Rattle.instructions.specs.Encode.{in_range, encode_fields, encode_word}
 use Rattle.instructions.specs.Fields.{word_of}
 use Rattle.instructions.specs.declared.kind.LoadKind.{LoadKind}
 use Rattle.instructions.specs.declared.kind.LoadKind.TheVariants.{Lb, Lh, Lw, Ld, Lbu, Lhu, Lwu}
@@ -21,30 +21,30 @@ use Rattle.instructions.specs.declared.kind.StoreKind.TheVariants.{Sb, Sh, Sw, S
 use Rattle.instructions.specs.declared.instruction.Instruction.{Instruction}
 use Rattle.instructions.specs.declared.instruction.Instruction.TheVariants.{Load, Store, HLoad, HStore}
 use Rattle.instructions.specs.declared.instruction.Decoded.TheVariants.{Legal}
-use Rattle.instructions.specs.HWords.{explicitRegions, among}
-use Rattle.instructions.proofs.RoundTrip.{decode-of-encode, decoded-range}
-use Rattle.instructions.proofs.Tests.{and_both, h-word-of, h-load-range, h-store-range}
+use Rattle.instructions.specs.HWords.{explicit_regions, among}
+use Rattle.instructions.proofs.RoundTrip.{decode_of_encode, decoded_range}
+use Rattle.instructions.proofs.Tests.{and_both, h_word_of, h_load_range, h_store_range}
 use Rattle.instructions.proofs.HWords.{Each}
 use Rattle.model.specs.Machine.{reg, region}
-use Rattle.model.specs.Regions.{read, write, execute, permits, below, dataRegions, codeRegions, matches, firstMatch, granting, implicitGrants, explicitRule, explicitGrants}
+use Rattle.model.specs.Regions.{read, write, execute, permits, below, data_regions, code_regions, matches, first_match, granting, implicit_grants, explicit_rule, explicit_grants}
 use Rattle.model.specs.Bytes.{byte_of}
-use Rattle.model.specs.Access.{effectiveAddress, offset, load_width, storeWidth, implicitAccess, explicitAccess}
+use Rattle.model.specs.Access.{effective_address, offset, load_width, store_width, implicit_access, explicit_access}
 use Rattle.model.specs.Reach.{Passes, Readable, Writable, Executable}
 use Rattle.model.specs.declared.Region.{Region}
-use Rattle.model.proofs.Intervals.{explicit-ends, granted-inside, inside-granted}
+use Rattle.model.proofs.Intervals.{explicit_ends, granted_inside, inside_granted}
 
 -- ---- the closed forms
 
 -- an explicit region's bytes, where h-words that want p are granted them
 pub record InExplicit (r : Region) (p b : ℕ) : Type 0 where
-  pub rule : explicitRule r ≡ true
+  pub rule : explicit_rule r ≡ true
   pub permitted : permits p r ≡ true
   pub start : r.base ≤ b
   pub end : b < r.base + r.bound
 
 -- the bytes that the implicit regions numbered ns grant for p
 pub record InImplicit (rs : List Region) (ns : List ℕ) (p b : ℕ) : Type 0 where
-  pub granted : implicitGrants rs ns p b ≡ true
+  pub granted : implicit_grants rs ns p b ≡ true
   pub address : b < 2 ^ 64
 
 -- those of the explicit regions numbered ns, any of which an h-word may choose
@@ -54,7 +54,7 @@ pub record InChosen (rs : List Region) (ns : List ℕ) (p b : ℕ) : Type 0 wher
   pub inside : InExplicit (region rs chosen) p b
 
 abbrev pub InData : List Region → ℕ → ℕ → Type 0
-InData rs p b = InImplicit rs dataRegions p b ⊎ InChosen rs explicitRegions p b
+InData rs p b = InImplicit rs data_regions p b ⊎ InChosen rs explicit_regions p b
 
 -- ---- registers by which an access reaches any byte
 
@@ -62,34 +62,34 @@ InData rs p b = InImplicit rs dataRegions p b ⊎ InChosen rs explicitRegions p 
 through : ℕ → List ℕ
 through v = set (replicate 32 0) 1 v
 
-through-reg : (v : ℕ) → reg (through v) 1 ≡ v
+through_reg : (v : ℕ) → reg (through v) 1 ≡ v
 unfolding through
-through-reg v = get_or-set_same (replicate 32 0) 1 v 0 (lit< tt)
+through_reg v = get_or-set_same (replicate 32 0) 1 v 0 (lit< tt)
 
 -- ---- implicit regions
 
-through-there : (b : ℕ) → b < 2 ^ 64 → b ≡ byte_of (effectiveAddress (through b) 1 0) 0
-through-there b h = omega (arith, through-reg b)
+through_there : (b : ℕ) → b < 2 ^ 64 → b ≡ byte_of (effective_address (through b) 1 0) 0
+through_there b h = omega (arith, through_reg b)
 
 module _ (rs : List Region) (ns : List ℕ) (p : ℕ) where
-  granted-there : (a n b : ℕ) → Passes (implicitAccess rs ns p a n) b → InImplicit rs ns p b
-  granted-there a n b h =
+  granted_there : (a n b : ℕ) → Passes (implicit_access rs ns p a n) b → InImplicit rs ns p b
+  granted_there a n b h =
       record {
         granted = rw h.there h.passes;
         address = rw h.there (omega arith);
       }
 
-  passes-there : (a n i b : ℕ) → i < n → b ≡ byte_of a i → InImplicit rs ns p b → Passes (implicitAccess rs ns p a n) b
-  passes-there a n i b l e h = record { index = i; within = l; there = e; passes = rw (sym e) h.granted }
+  passes_there : (a n i b : ℕ) → i < n → b ≡ byte_of a i → InImplicit rs ns p b → Passes (implicit_access rs ns p a n) b
+  passes_there a n i b l e h = record { index = i; within = l; there = e; passes = rw (sym e) h.granted }
 
 -- ---- explicit regions
 
-explicit-there : (rs : List Region) (n p : ℕ) (z : ℤ) (k b : ℕ) → Passes (explicitAccess rs n p z k) b → InExplicit (region rs n) p b
-unfolding explicitGrants
-explicit-there rs n p z k b h =
+explicit_there : (rs : List Region) (n p : ℕ) (z : ℤ) (k b : ℕ) → Passes (explicit_access rs n p z k) b → InExplicit (region rs n) p b
+unfolding explicit_grants
+explicit_there rs n p z k b h =
     let r = region rs n in
-    let g = and_both (explicitRule r) (permits p r && below (z +ℤ pos h.index) r.bound) h.passes in
-    let q = granted-inside r p z h.index h.passes in
+    let g = and_both (explicit_rule r) (permits p r && below (z +ℤ pos h.index) r.bound) h.passes in
+    let q = granted_inside r p z h.index h.passes in
     record {
       rule = g.0;
       permitted = (and_both (permits p r) (below (z +ℤ pos h.index) r.bound) g.1).0;
@@ -98,96 +98,96 @@ explicit-there rs n p z k b h =
     }
 
 -- a byte's distance from base is the value of a register, and the immediate is 0
-passes-explicit : (rs : List Region) (n p b : ℕ) → InExplicit (region rs n) p b
-    → Passes (explicitAccess rs n p (offset (reg (through (b - (region rs n).base)) 1) 0) 1) b
-passes-explicit rs n p b h =
+passes_explicit : (rs : List Region) (n p b : ℕ) → InExplicit (region rs n) p b
+    → Passes (explicit_access rs n p (offset (reg (through (b - (region rs n).base)) 1) 0) 1) b
+passes_explicit rs n p b h =
     let r = region rs n in
-    let e = through-reg (b - r.base) in
+    let e = through_reg (b - r.base) in
     record {
       index = 0;
       within = lit< tt;
-      there = rw e (omega (arith, (explicit-ends r h.rule).1, h.start, h.end));
-      passes = rw e (inside-granted r p (b - r.base + 0) h.rule h.permitted (omega (arith, h.start, h.end)));
+      there = rw e (omega (arith, (explicit_ends r h.rule).1, h.start, h.end));
+      passes = rw e (inside_granted r p (b - r.base + 0) h.rule h.permitted (omega (arith, h.start, h.end)));
     }
 
 -- ---- the words that make accesses, and of how many bytes
 
-pub load-width : (k : LoadKind) → load_width k ≤ 8
-load-width Lb = lit≤ tt
-load-width Lh = lit≤ tt
-load-width Lw = lit≤ tt
-load-width Ld = lit≤ tt
-load-width Lbu = lit≤ tt
-load-width Lhu = lit≤ tt
-load-width Lwu = lit≤ tt
+pub load_width_lem : (k : LoadKind) → load_width k ≤ 8
+load_width_lem Lb = lit≤ tt
+load_width_lem Lh = lit≤ tt
+load_width_lem Lw = lit≤ tt
+load_width_lem Ld = lit≤ tt
+load_width_lem Lbu = lit≤ tt
+load_width_lem Lhu = lit≤ tt
+load_width_lem Lwu = lit≤ tt
 
-pub store-width : (k : StoreKind) → storeWidth k ≤ 8
-store-width Sb = lit≤ tt
-store-width Sh = lit≤ tt
-store-width Sw = lit≤ tt
-store-width Sd = lit≤ tt
+pub store_width_lem : (k : StoreKind) → store_width k ≤ 8
+store_width_lem Sb = lit≤ tt
+store_width_lem Sh = lit≤ tt
+store_width_lem Sw = lit≤ tt
+store_width_lem Sd = lit≤ tt
 
-pub encodes : (i : Instruction) → in_range i ≡ true → decodeWord (word_of (encodeFields i)) ≡ Legal i
-unfolding encodeWord
-encodes i h = decode-of-encode i (word_of (encodeFields i)) (rw h refl)
+pub encodes : (i : Instruction) → in_range i ≡ true → decode_word (word_of (encode_fields i)) ≡ Legal i
+unfolding encode_word
+encodes i h = decode_of_encode i (word_of (encode_fields i)) (rw h refl)
 
 -- ---- the theorems
 
-pub readable-form : (rs : List Region) (b : ℕ) → Readable rs b → InData rs read b
-readable-form rs b (Readable.byLoad w x k rd rs1 imm e h) = inl (granted-there rs dataRegions read _ _ b h)
-readable-form rs b (Readable.byHLoad w x k chosen rd rs1 imm e h) =
+pub readable_form : (rs : List Region) (b : ℕ) → Readable rs b → InData rs read b
+readable_form rs b (Readable.by_load w x k rd rs1 imm e h) = inl (granted_there rs data_regions read _ _ b h)
+readable_form rs b (Readable.by_h_load w x k chosen rd rs1 imm e h) =
     inr (record {
       chosen = chosen;
-      listed = (h-load-range k chosen rd rs1 imm (decoded-range w _ e)).0;
-      inside = explicit-there rs chosen read (offset (reg x rs1) imm) (load_width k) b h;
+      listed = (h_load_range k chosen rd rs1 imm (decoded_range w _ e)).0;
+      inside = explicit_there rs chosen read (offset (reg x rs1) imm) (load_width k) b h;
     })
 
-pub form-readable : (rs : List Region) (b : ℕ) → InData rs read b → Readable rs b
+pub form_readable : (rs : List Region) (b : ℕ) → InData rs read b → Readable rs b
 unfolding sext
-form-readable rs b (inl h) =
-    Readable.byLoad _ (through b) Lb 0 1 0 (encodes (Load Lb 0 1 0) refl)
-    (passes-there rs dataRegions read _ 1 0 b (lit< tt) (through-there b h.address) h)
-form-readable rs b (inr h) =
+form_readable rs b (inl h) =
+    Readable.by_load _ (through b) Lb 0 1 0 (encodes (Load Lb 0 1 0) refl)
+    (passes_there rs data_regions read _ 1 0 b (lit< tt) (through_there b h.address) h)
+form_readable rs b (inr h) =
     let n = h.chosen in
-    Readable.byHLoad _ (through (b - (region rs n).base)) Lb n 0 1 0
-    (encodes (HLoad Lb n 0 1 0) (h-word-of n {a = 0} {b = 1} h.listed (lit< tt) (lit< tt) refl)) (passes-explicit rs n read b h.inside)
+    Readable.by_h_load _ (through (b - (region rs n).base)) Lb n 0 1 0
+    (encodes (HLoad Lb n 0 1 0) (h_word_of n {a = 0} {b = 1} h.listed (lit< tt) (lit< tt) refl)) (passes_explicit rs n read b h.inside)
 
-pub writable-form : (rs : List Region) (b : ℕ) → Writable rs b → InData rs write b
-writable-form rs b (Writable.byStore w x k rs1 rs2 imm e h) = inl (granted-there rs dataRegions write _ _ b h)
-writable-form rs b (Writable.byHStore w x k chosen rs1 rs2 imm e h) =
+pub writable_form : (rs : List Region) (b : ℕ) → Writable rs b → InData rs write b
+writable_form rs b (Writable.by_store w x k rs1 rs2 imm e h) = inl (granted_there rs data_regions write _ _ b h)
+writable_form rs b (Writable.by_h_store w x k chosen rs1 rs2 imm e h) =
     inr (record {
       chosen = chosen;
-      listed = (h-store-range k chosen rs1 rs2 imm (decoded-range w _ e)).0;
-      inside = explicit-there rs chosen write (offset (reg x rs1) imm) (storeWidth k) b h;
+      listed = (h_store_range k chosen rs1 rs2 imm (decoded_range w _ e)).0;
+      inside = explicit_there rs chosen write (offset (reg x rs1) imm) (store_width k) b h;
     })
 
-pub form-writable : (rs : List Region) (b : ℕ) → InData rs write b → Writable rs b
+pub form_writable : (rs : List Region) (b : ℕ) → InData rs write b → Writable rs b
 unfolding sext
-form-writable rs b (inl h) =
-    Writable.byStore _ (through b) Sb 1 0 0 (encodes (Store Sb 1 0 0) refl)
-    (passes-there rs dataRegions write _ 1 0 b (lit< tt) (through-there b h.address) h)
-form-writable rs b (inr h) =
+form_writable rs b (inl h) =
+    Writable.by_store _ (through b) Sb 1 0 0 (encodes (Store Sb 1 0 0) refl)
+    (passes_there rs data_regions write _ 1 0 b (lit< tt) (through_there b h.address) h)
+form_writable rs b (inr h) =
     let n = h.chosen in
-    Writable.byHStore _ (through (b - (region rs n).base)) Sb n 1 0 0
-    (encodes (HStore Sb n 1 0 0) (h-word-of n {a = 1} {b = 0} h.listed (lit< tt) (lit< tt) refl)) (passes-explicit rs n write b h.inside)
+    Writable.by_h_store _ (through (b - (region rs n).base)) Sb n 1 0 0
+    (encodes (HStore Sb n 1 0 0) (h_word_of n {a = 1} {b = 0} h.listed (lit< tt) (lit< tt) refl)) (passes_explicit rs n write b h.inside)
 
-pub executable-form : (rs : List Region) (b : ℕ) → Executable rs b → InImplicit rs codeRegions execute b
-executable-form rs b (Executable.byFetch pc q h) = granted-there rs codeRegions execute pc 2 b h
+pub executable_form : (rs : List Region) (b : ℕ) → Executable rs b → InImplicit rs code_regions execute b
+executable_form rs b (Executable.by_fetch pc q h) = granted_there rs code_regions execute pc 2 b h
 
-pub form-executable : (rs : List Region) (b : ℕ) → InImplicit rs codeRegions execute b → Executable rs b
-form-executable rs b h =
-    Executable.byFetch (b / 2 * 2) (omega arith) (passes-there rs codeRegions execute (b / 2 * 2) 2 (b % 2) b (omega arith) (omega (arith, h.address)) h)
+pub form_executable : (rs : List Region) (b : ℕ) → InImplicit rs code_regions execute b → Executable rs b
+form_executable rs b h =
+    Executable.by_fetch (b / 2 * 2) (omega arith) (passes_there rs code_regions execute (b / 2 * 2) 2 (b % 2) b (omega arith) (omega (arith, h.address)) h)
 
 -- ---- what implicit regions grant, one of them grants
 
 -- what follows of each region that matches and permits follows of the grant
-pub granted-by : (rs : List Region) (ns : List ℕ) (p b : ℕ) (X : Type 0)
-    → Each (λ n. matches (region rs n) b ≡ true → permits p (region rs n) ≡ true → X) ns → implicitGrants rs ns p b ≡ true → X
-unfolding implicitGrants firstMatch
-granted-by rs [] p b X h g = let z : ◌≡◌ {A = ℕ} 0 1 = cc in absurd (omega arith)
-granted-by rs (n ∷ ns) p b X h g = go (matches (region rs n) b) refl g (granted-by rs ns p b X h.1)
+pub granted_by : (rs : List Region) (ns : List ℕ) (p b : ℕ) (X : Type 0)
+    → Each (λ n. matches (region rs n) b ≡ true → permits p (region rs n) ≡ true → X) ns → implicit_grants rs ns p b ≡ true → X
+unfolding implicit_grants first_match
+granted_by rs [] p b X h g = let z : ◌≡◌ {A = ℕ} 0 1 = cc in absurd (omega arith)
+granted_by rs (n ∷ ns) p b X h g = go (matches (region rs n) b) refl g (granted_by rs ns p b X h.1)
   where
-    go : (t : Bool) → matches (region rs n) b ≡ t → granting rs p (cond t n (firstMatch rs ns b)) ≡ true
-        → (granting rs p (firstMatch rs ns b) ≡ true → X) → X
+    go : (t : Bool) → matches (region rs n) b ≡ t → granting rs p (cond t n (first_match rs ns b)) ≡ true
+        → (granting rs p (first_match rs ns b) ≡ true → X) → X
     go true e g k = h.0 e (and_both (not (eqb n 0)) (permits p (region rs n)) g).1
     go false e g k = k g

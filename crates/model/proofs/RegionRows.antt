@@ -8,7 +8,7 @@ use mathlib.Core.List.{List, [], ◌∷◌, ◌++◌}
 use Prim.Native.Nat.{ℕ, ◌+◌, ◌-◌, ◌^◌}
 use lib.Count.{count_trailing_zeros}
 use Rattle.words.specs.Word.{sext}
-use Rattle.instructions.specs.Decode.{decodeWord}
+use Rattle.instructions.specs.Decode.{decode_word}
 use Rattle.instructions.specs.declared.kind.LoadKind.TheVariants.{Lb, Lbu}
 use Rattle.instructions.specs.declared.kind.StoreKind.TheVariants.{Sb}
 use Rattle.instructions.specs.declared.instruction.Instruction.{Instruction}
@@ -16,19 +16,19 @@ use Rattle.instructions.specs.declared.instruction.Instruction.TheVariants.{Load
 use Rattle.instructions.specs.declared.instruction.Decoded.TheVariants.{Legal, Illegal}
 use Rattle.model.specs.Bytes.{value, written}
 use Rattle.model.specs.Outcome.{allowed, aligned, settle}
-use Rattle.model.specs.WellFormed.{stateFits, wellFormed}
-use Rattle.model.specs.Hfi.{hfiStop, hfiPerform}
-use Rattle.model.specs.Regions.{explicitRule, matches, firstMatch, implicitGrants, explicitGrants}
-use Rattle.model.specs.WritableCode.{explicitCovers, writableCode, exposesCode}
-use Rattle.model.specs.Access.{scan, firstRefused, firstAbsent, verdict}
-use Rattle.model.specs.Step.{load, store, perform, executeInstruction, executeWord, fetching, executeFetched, step, stepCall, resumeCall}
-use Rattle.compressed.specs.Expand.{expandHalf}
-use Rattle.model.specs.Run.{run_by, runCall}
+use Rattle.model.specs.WellFormed.{state_fits, well_formed}
+use Rattle.model.specs.Hfi.{hfi_stop, hfi_perform}
+use Rattle.model.specs.Regions.{explicit_rule, matches, first_match, implicit_grants, explicit_grants}
+use Rattle.model.specs.WritableCode.{explicit_covers, writable_code, exposes_code}
+use Rattle.model.specs.Access.{scan, first_refused, first_absent, verdict}
+use Rattle.model.specs.Step.{load, store, perform, execute_instruction, execute_word, fetching, execute_fetched, step, step_call, resume_call}
+use Rattle.compressed.specs.Expand.{expand_half}
+use Rattle.model.specs.Run.{run_by, run_call}
 use Rattle.model.proofs.Alike.{held}
-use Rattle.model.proofs.Rows.{Row, found, stated, x, pc, mode, reason, epc, options, handler, selector, base, bound, permission, occurred, faultRegion, op, faulting, puts, with, bytes}
+use Rattle.model.proofs.Rows.{Row, found, stated, x, pc, mode, reason, epc, options, handler, selector, base, bound, permission, occurred, fault_region, op, faulting, puts, with, bytes}
 use Rattle.model.proofs.Rows.Question.{decoding, exposing, judging, running}
 use Rattle.model.proofs.Rows.Answer.{decoded, told, gave}
-use Rattle.model.proofs.Clauses.{enter, enterJump, select, setBase, getBase, setBound, getBound, setPermission, getPermission, reset, seven, ld, sd, stepsOver, steps, goes, forbidden, writes, runs}
+use Rattle.model.proofs.Clauses.{enter, enter_jump, select, set_base, get_base, set_bound, get_bound, set_permission, get_permission, reset, seven, ld, sd, steps_over, steps, goes, forbidden, writes, runs}
 
 -- ---- regions
 
@@ -50,18 +50,18 @@ misfits place v = (judging (with ((place, v) ∷ [])), told false)
 
 -- set permission of region n from x5 outside HFI mode, and that it is refused
 abbrev permitting : ℕ → ℕ → Row
-permitting n p = goes ((selector, n) ∷ (x 5, p) ∷ []) setPermission ((permission n, p) ∷ [])
+permitting n p = goes ((selector, n) ∷ (x 5, p) ∷ []) set_permission ((permission n, p) ∷ [])
 
 abbrev lacking : ℕ → ℕ → Row
-lacking n p = forbidden 14 ((selector, n) ∷ (x 5, p) ∷ []) setPermission
+lacking n p = forbidden 14 ((selector, n) ∷ (x 5, p) ∷ []) set_permission
 
 -- with region n selected, which has these numbers: from x5, 7 is set as its base and as its bound; each of the three is got
 abbrev selecting : ℕ → List Row
 selecting n =
-    goes ((selector, n) ∷ (x 5, 7) ∷ bounded n 0x41 0x42 0) setBase ((base n, 7) ∷ [])
-    ∷ goes ((selector, n) ∷ (x 5, 7) ∷ bounded n 0x41 0x42 0) setBound ((bound n, 7) ∷ [])
-    ∷ goes ((selector, n) ∷ bounded n 0x41 0 0) getBase ((x 6, 0x41) ∷ [])
-    ∷ goes ((selector, n) ∷ bounded n 0 0x42 0) getBound ((x 6, 0x42) ∷ [])
+    goes ((selector, n) ∷ (x 5, 7) ∷ bounded n 0x41 0x42 0) set_base ((base n, 7) ∷ [])
+    ∷ goes ((selector, n) ∷ (x 5, 7) ∷ bounded n 0x41 0x42 0) set_bound ((bound n, 7) ∷ [])
+    ∷ goes ((selector, n) ∷ bounded n 0x41 0 0) get_base ((x 6, 0x41) ∷ [])
+    ∷ goes ((selector, n) ∷ bounded n 0 0x42 0) get_bound ((x 6, 0x42) ∷ [])
     ∷ []
 
 -- something in each of the ten
@@ -124,10 +124,10 @@ kinds =
     ∷ fits selector 4
     ∷ fits selector 10
     ∷ misfits selector 11
-    ∷ fits faultRegion 4
-    ∷ fits faultRegion 10
-    ∷ misfits faultRegion 11
-    ∷ misfits faultRegion (2 ^ 32 + 10)
+    ∷ fits fault_region 4
+    ∷ fits fault_region 10
+    ∷ misfits fault_region 11
+    ∷ misfits fault_region (2 ^ 32 + 10)
     -- the selected number
     ∷ goes ((x 5, 4) ∷ []) select ((selector, 4) ∷ [])
     ∷ goes ((x 5, 9) ∷ []) select ((selector, 9) ∷ [])
@@ -136,9 +136,9 @@ kinds =
     ∷ forbidden 14 ((x 5, 11) ∷ []) select
     ∷ forbidden 14 ((x 5, 2 ^ 32 + 10) ∷ []) select
     -- what is set and got is the selected region's, and no other's
-    ∷ goes ((selector, 4) ∷ (permission 4, 9) ∷ []) getPermission ((x 6, 9) ∷ [])
-    ∷ goes ((selector, 7) ∷ (permission 7, 1) ∷ []) getPermission ((x 6, 1) ∷ [])
-    ∷ goes ((selector, 10) ∷ (permission 10, 4) ∷ []) getPermission ((x 6, 4) ∷ [])
+    ∷ goes ((selector, 4) ∷ (permission 4, 9) ∷ []) get_permission ((x 6, 9) ∷ [])
+    ∷ goes ((selector, 7) ∷ (permission 7, 1) ∷ []) get_permission ((x 6, 1) ∷ [])
+    ∷ goes ((selector, 10) ∷ (permission 10, 4) ∷ []) get_permission ((x 6, 4) ∷ [])
     -- "Reset zeroes regions and selector."
     ∷ goes full reset
     (bounded 1 0 0 0 ++ bounded 2 0 0 0 ++ bounded 3 0 0 0 ++ bounded 4 0 0 0 ++ bounded 5 0 0 0 ++ bounded 6 0 0 0 ++ bounded 7 0 0 0
@@ -160,19 +160,19 @@ memory w = bytes (w ∷ 0 ∷ 0 ∷ 0 ∷ 0x13121110 ∷ 0x17161514 ∷ 0x1b1a19
 -- a load that completes, by what x6 then has; a store, by the bytes that it writes; and one that is refused: which of them, fault region and
 -- address
 abbrev loads : List (ℕ × ℕ) → ℕ → ℕ → Row
-loads start w v = stepsOver start (memory w) 0 0 ((pc, 4) ∷ (x 6, v) ∷ [])
+loads start w v = steps_over start (memory w) 0 0 ((pc, 4) ∷ (x 6, v) ∷ [])
 
 abbrev stores : List (ℕ × ℕ) → ℕ → List (ℕ × ℕ) → Row
 stores start w written = writes start (memory w) ((pc, 4) ∷ []) written
 
 abbrev fault : ℕ → ℕ → ℕ → List (ℕ × ℕ)
-fault region kind at = (occurred, 1) ∷ (faultRegion, region) ∷ (op, kind) ∷ (faulting, at) ∷ []
+fault region kind at = (occurred, 1) ∷ (fault_region, region) ∷ (op, kind) ∷ (faulting, at) ∷ []
 
 abbrev unloaded : List (ℕ × ℕ) → ℕ → ℕ → ℕ → Row
-unloaded start w region at = stepsOver start (memory w) 16 0 (fault region 1 at)
+unloaded start w region at = steps_over start (memory w) 16 0 (fault region 1 at)
 
 abbrev unstored : List (ℕ × ℕ) → ℕ → ℕ → ℕ → Row
-unstored start w region at = stepsOver start (memory w) 16 0 (fault region 2 at)
+unstored start w region at = steps_over start (memory w) 16 0 (fault region 2 at)
 
 -- lbu x6, 0(x5); sb x6, 0(x5)
 abbrev lbu : ℕ
@@ -269,8 +269,8 @@ abbrev stored : List (ℕ × ℕ) → Row
 stored regions =
     stores (guest ++ regions) sd ((0x14, 1) ∷ (0x15, 2) ∷ (0x16, 3) ∷ (0x17, 4) ∷ (0x18, 5) ∷ (0x19, 6) ∷ (0x1a, 7) ∷ (0x1b, 8) ∷ [])
 
-unfoldable pub judging-singly : List Row
-judging-singly =
+unfoldable pub judging_singly : List Row
+judging_singly =
     -- granted by two together, whichever of them has the first bytes, and by four
     loaded (masked 2 0x10 8 1 ++ masked 7 0x18 8 1)
     ∷ loaded (masked 7 0x10 8 1 ++ masked 2 0x18 8 1)
@@ -308,7 +308,7 @@ judging-singly =
     ∷ unloaded (guest ++ masked 2 0 16 1 ++ masked 7 (2 ^ 64 - 16) 16 1 ++ ((x 5, 2 ^ 64 - 4) ∷ [])) ld 0 (2 ^ 64 - 4)
     -- every byte is asked for its region before any for memory's end
     ∷ unloaded (guest ++ masked 2 0x1c 4 1 ++ masked 7 0x20 2 1 ++ masked 8 0x22 2 2 ++ ((x 5, 0x1c) ∷ [])) ld 8 0x22
-    ∷ stepsOver (guest ++ masked 2 0x1c 4 1 ++ masked 7 0x20 2 1 ++ masked 8 0x22 2 1 ++ ((x 5, 0x1c) ∷ [])) (memory ld) 17 0x20 []
+    ∷ steps_over (guest ++ masked 2 0x1c 4 1 ++ masked 7 0x20 2 1 ++ masked 8 0x22 2 1 ++ ((x 5, 0x1c) ∷ [])) (memory ld) 17 0x20 []
     -- a fetch
     ∷ fetches (masked 3 0 2 4 ++ masked 10 2 2 4)
     ∷ fetches (masked 10 0 2 4 ++ masked 3 2 2 4)
@@ -431,10 +431,10 @@ chosen =
     ∷ unstored chooser 0x006a802b 5 2
     ∷ unstored chooser 0x016a802b 6 2
     -- any of them may be large: granted, and not in this memory; past its end
-    ∷ stepsOver (chooser ++ bounded 6 0x10000 0x10000 9) (memory 0x000acb0b) 17 0x10002 []
+    ∷ steps_over (chooser ++ bounded 6 0x10000 0x10000 9) (memory 0x000acb0b) 17 0x10002 []
     ∷ unloaded (chooser ++ bounded 6 0x10000 0x10000 9 ++ ((x 5, 0x10000) ∷ [])) 0x000acb0b 6 0x20000
     -- "an h-word outside HFI mode .. keep[s] 14"
-    ∷ stepsOver (alone 6 3 ++ ((mode, 0) ∷ [])) (memory 0x000acb0b) 14 0 []
+    ∷ steps_over (alone 6 3 ++ ((mode, 0) ∷ [])) (memory 0x000acb0b) 14 0 []
     ∷ []
 
 -- ---- "Readable, writable and executable follow these rules, so isolation and Job 5 now speak of all ten."
@@ -452,8 +452,8 @@ three = masked 3 0x100 16 4
 abbrev ten : List (ℕ × ℕ)
 ten = masked 10 0x100 16 4
 
-unfoldable pub exposing-rows : List Row
-exposing-rows =
+unfoldable pub exposing_rows : List Row
+exposing_rows =
     -- a byte through each that is written through against each that is executed through
     exposed (three ++ bounded 1 0x10f 1 2)
     ∷ exposed (three ++ bounded 4 0x10f 1 2)
@@ -523,7 +523,7 @@ exposing-rows =
     ∷ goes ((mode, 1) ∷ (options, 1) ∷ masked 10 0 16 4 ++ masked 8 0 16 1 ++ masked 9 8 8 2) seven ((x 7, 7) ∷ [])
     ∷ goes ((mode, 1) ∷ (options, 0) ∷ masked 10 0 16 4 ++ masked 9 8 8 2) seven ((x 7, 7) ∷ [])
     ∷ forbidden 22 ((x 5, 1) ∷ masked 10 0 16 4 ++ masked 9 8 8 2) enter
-    ∷ forbidden 22 ((x 5, 1) ∷ (x 6, 0x20) ∷ masked 10 0 16 4 ++ bounded 5 15 1 2) enterJump
+    ∷ forbidden 22 ((x 5, 1) ∷ (x 6, 0x20) ∷ masked 10 0 16 4 ++ bounded 5 15 1 2) enter_jump
     ∷ goes ((x 5, 1) ∷ masked 10 0 16 4 ++ masked 2 0 16 1 ++ masked 9 8 8 2) enter ((mode, 1) ∷ (options, 1) ∷ [])
     ∷ []
 
@@ -545,11 +545,11 @@ work = bytes (0x00002b0b ∷ 0x0068222b ∷ 0x0168302b ∷ 0x0002b383 ∷ 0x0072
 -- 6, and a get that is forbidden
 abbrev making : List ℕ
 making =
-    0x00a00293 ∷ select ∷ 0xfc000293 ∷ setBound ∷ 0x00400293 ∷ setPermission ∷ 0x00600293 ∷ select ∷ 0x04000293 ∷ setBase ∷ setBound ∷ 0x00100293
-    ∷ setPermission ∷ enter ∷ 0x00384b8b ∷ getBase ∷ 0xa5000000 ∷ []
+    0x00a00293 ∷ select ∷ 0xfc000293 ∷ set_bound ∷ 0x00400293 ∷ set_permission ∷ 0x00600293 ∷ select ∷ 0x04000293 ∷ set_base ∷ set_bound ∷ 0x00100293
+    ∷ set_permission ∷ enter ∷ 0x00384b8b ∷ get_base ∷ 0xa5000000 ∷ []
 
-unfoldable pub running-on : List Row
-running-on = (
+unfoldable pub running_on : List Row
+running_on = (
   running (with working) work 9,
   gave 16 4 0
       (with (working ++ ((pc, 0x10) ∷ (x 6, 0xffffffff81828384) ∷ (x 7, 0x4b4a494847464544) ∷ []) ++ fault 9 2 0x50))
@@ -562,8 +562,8 @@ running-on = (
     ∷ []
 
 abbrev pub rows : List Row
-rows = kinds ++ deciding ++ judging-singly ++ choosing ++ chosen ++ exposing-rows ++ running-on
+rows = kinds ++ deciding ++ judging_singly ++ choosing ++ chosen ++ exposing_rows ++ running_on
 
-pub rows-hold : found rows ≡ stated rows
-unfolding kinds deciding judging-singly choosing chosen exposing-rows running-on count_trailing_zeros sext decodeWord expandHalf matches explicitRule firstMatch implicitGrants explicitGrants explicitCovers writableCode exposesCode scan firstRefused firstAbsent verdict value written allowed aligned settle stateFits wellFormed hfiStop hfiPerform load store perform executeInstruction executeWord fetching executeFetched step stepCall resumeCall run_by runCall
-rows-hold = held rows refl
+pub rows_hold : found rows ≡ stated rows
+unfolding kinds deciding judging_singly choosing chosen exposing_rows running_on count_trailing_zeros sext decode_word expand_half matches explicit_rule first_match implicit_grants explicit_grants explicit_covers writable_code exposes_code scan first_refused first_absent verdict value written allowed aligned settle state_fits well_formed hfi_stop hfi_perform load store perform execute_instruction execute_word fetching execute_fetched step step_call resume_call run_by run_call
+rows_hold = held rows refl

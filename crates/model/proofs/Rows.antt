@@ -4,14 +4,14 @@ use mathlib.Core.Bool.{Bool}
 use mathlib.Core.List.{List, [], ◌∷◌}
 use Prim.Native.Nat.{ℕ, ◌+◌, ◌-◌, ◌*◌, ◌/◌, ◌%◌}
 use lib.ListN.{get_or, set, take, drop, replicate}
-use Rattle.instructions.specs.Decode.{decodeWord}
+use Rattle.instructions.specs.Decode.{decode_word}
 use Rattle.instructions.specs.declared.instruction.Decoded.{Decoded}
-use Rattle.model.specs.Machine.{lastRegion, regionsFrom, machine}
-use Rattle.model.specs.Regions.{matches, explicitRule}
-use Rattle.model.specs.WellFormed.{wellFormed}
-use Rattle.model.specs.WritableCode.{writableCode}
-use Rattle.model.specs.Step.{stepCall, resumeCall}
-use Rattle.model.specs.Run.{runCall}
+use Rattle.model.specs.Machine.{last_region, regions_from, machine}
+use Rattle.model.specs.Regions.{matches, explicit_rule}
+use Rattle.model.specs.WellFormed.{well_formed}
+use Rattle.model.specs.WritableCode.{writable_code}
+use Rattle.model.specs.Step.{step_call, resume_call}
+use Rattle.model.specs.Run.{run_call}
 use Rattle.model.specs.declared.Region.{Region}
 use Rattle.model.specs.declared.Machine.{Machine}
 
@@ -53,10 +53,10 @@ permission n = 38 + 3 * n
 
 -- the fault record's four
 abbrev pub occurred : ℕ
-occurred = base (lastRegion + 1)
+occurred = base (last_region + 1)
 
-abbrev pub faultRegion : ℕ
-faultRegion = occurred + 1
+abbrev pub fault_region : ℕ
+fault_region = occurred + 1
 
 abbrev pub op : ℕ
 op = occurred + 2
@@ -69,15 +69,15 @@ abbrev pub puts : List ℕ → List (ℕ × ℕ) → List ℕ
 puts ns [] = ns
 puts ns (p ∷ ps) = puts (set ns p.0 p.1) ps
 
-abbrev pub regionOf : ℕ → ℕ → ℕ → Region
-regionOf b n p = record { base = b; bound = n; permission = p }
+abbrev pub region_of : ℕ → ℕ → ℕ → Region
+region_of b n p = record { base = b; bound = n; permission = p }
 
 -- what is far down the list is read from the rest of it, which computes faster
-abbrev machineIn : List ℕ → Machine
-machineIn ns =
+abbrev machine_in : List ℕ → Machine
+machine_in ns =
     let control = drop pc ns in
     let regions = drop (base 1 - pc) control in
-    let fault = drop (3 * lastRegion) regions in
+    let fault = drop (3 * last_region) regions in
     machine (take 32 ns) (get_or control 0 0)
     (record {
       mode = get_or control (mode - pc) 0;
@@ -86,13 +86,13 @@ machineIn ns =
       options = get_or control (options - pc) 0;
       handler = get_or control (handler - pc) 0;
       selector = get_or control (selector - pc) 0;
-      regions = regionsFrom regions 0 lastRegion;
+      regions = regions_from regions 0 last_region;
       fault = record { occurred = get_or fault 0 0; region = get_or fault 1 0; op = get_or fault 2 0; address = get_or fault 3 0 };
     })
 
 -- the machine that is all 0 but for these places
 abbrev pub with : List (ℕ × ℕ) → Machine
-with ps = machineIn (puts (replicate (faulting + 1) 0) ps)
+with ps = machine_in (puts (replicate (faulting + 1) 0) ps)
 
 -- ---- memories
 
@@ -126,15 +126,15 @@ pub data Answer : Type 0 where
   gave : ℕ → ℕ → ℕ → Machine → List ℕ → Answer
 
 abbrev pub answered : Question → Answer
-answered (decoding w) = decoded (decodeWord w)
+answered (decoding w) = decoded (decode_word w)
 answered (matching r a) = told (matches r a)
-answered (ruling r) = told (explicitRule r)
-answered (exposing rs) = told (writableCode rs)
-answered (judging m) = told (wellFormed m)
-answered (stepping m mem) = let o = stepCall m mem in gave o.result.stop 0 o.result.address o.result.machine o.memory
+answered (ruling r) = told (explicit_rule r)
+answered (exposing rs) = told (writable_code rs)
+answered (judging m) = told (well_formed m)
+answered (stepping m mem) = let o = step_call m mem in gave o.result.stop 0 o.result.address o.result.machine o.memory
 answered (running m mem budget) =
-    let e = runCall m mem budget in gave e.result.stop e.result.count e.result.address e.result.machine e.memory
-answered (resuming m v) = let r = resumeCall m v in gave r.stop 0 r.address r.machine []
+    let e = run_call m mem budget in gave e.result.stop e.result.count e.result.address e.result.machine e.memory
+answered (resuming m v) = let r = resume_call m v in gave r.stop 0 r.address r.machine []
 
 -- a question with the answer that it must have
 abbrev pub Row : Type 0

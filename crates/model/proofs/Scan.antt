@@ -9,36 +9,36 @@ use Rattle.model.specs.Access.{scan}
 
 -- a loop from 0 to n has n - i indices still to go at i
 module _ (ok : ℕ → Bool) (i n : ℕ) where
-  pub scan-next : i < n → ok i ≡ true → scan ok i (n - i) ≡ scan ok (i + 1) (n - (i + 1))
+  pub scan_next : i < n → ok i ≡ true → scan ok i (n - i) ≡ scan ok (i + 1) (n - (i + 1))
   unfolding scan
-  scan-next p q =
+  scan_next p q =
       let e : n - i ≡ suc (n - (i + 1)) = omega arith in
       let f : i + 1 ≡ suc i = omega arith in
       rw (e, f) (rw q refl)
 
-  pub scan-here : i < n → ok i ≡ false → scan ok i (n - i) ≡ i
+  pub scan_here : i < n → ok i ≡ false → scan ok i (n - i) ≡ i
   unfolding scan
-  scan-here p q = let e : n - i ≡ suc (n - (i + 1)) = omega arith in rw e (rw q refl)
+  scan_here p q = let e : n - i ≡ suc (n - (i + 1)) = omega arith in rw e (rw q refl)
 
-  pub scan-end : n ≤ i → scan ok i (n - i) ≡ i
+  pub scan_end : n ≤ i → scan ok i (n - i) ≡ i
   unfolding scan
-  scan-end p = let e : n - i ≡ 0 = omega arith in rw e refl
+  scan_end p = let e : n - i ≡ 0 = omega arith in rw e refl
 
-pub scan-start : (ok : ℕ → Bool) (n : ℕ) → scan ok 0 (n - 0) ≡ scan ok 0 n
-scan-start ok n = let e : n - 0 ≡ n = omega arith in rw e refl
+pub scan_start : (ok : ℕ → Bool) (n : ℕ) → scan ok 0 (n - 0) ≡ scan ok 0 n
+scan_start ok n = let e : n - 0 ≡ n = omega arith in rw e refl
 
 -- tests that agree at each index find the same
-pub scan-same : (ok ok' : ℕ → Bool) (k i : ℕ) → ((j : ℕ) → i ≤ j → j < i + k → ok j ≡ ok' j) → scan ok i k ≡ scan ok' i k
+pub scan_same : (ok ok' : ℕ → Bool) (k i : ℕ) → ((j : ℕ) → i ≤ j → j < i + k → ok j ≡ ok' j) → scan ok i k ≡ scan ok' i k
 unfolding scan
-scan-same ok ok' zero i h = refl
-scan-same ok ok' (suc k) i h =
-    cc (h i (omega arith) (omega arith), scan-same ok ok' k (suc i) (λ j p q. h j (omega arith) (omega arith)))
+scan_same ok ok' zero i h = refl
+scan_same ok ok' (suc k) i h =
+    cc (h i (omega arith) (omega arith), scan_same ok ok' k (suc i) (λ j p q. h j (omega arith) (omega arith)))
 
 -- a search that ends past its indices passed the test at each
-pub scan-passed : (ok : ℕ → Bool) (k i : ℕ) → i + k ≤ scan ok i k → (j : ℕ) → i ≤ j → j < i + k → ok j ≡ true
+pub scan_passed : (ok : ℕ → Bool) (k i : ℕ) → i + k ≤ scan ok i k → (j : ℕ) → i ≤ j → j < i + k → ok j ≡ true
 unfolding scan
-scan-passed ok zero i h j p q = absurd (omega arith)
-scan-passed ok (suc k) i h j p q = go (ok i) refl h (ℕ_discrete j i) (λ h2 p2. scan-passed ok k (suc i) h2 j p2 (omega arith))
+scan_passed ok zero i h j p q = absurd (omega arith)
+scan_passed ok (suc k) i h j p q = go (ok i) refl h (ℕ_discrete j i) (λ h2 p2. scan_passed ok k (suc i) h2 j p2 (omega arith))
   where
     go : (b : Bool) → ok i ≡ b → i + suc k ≤ cond b (scan ok (suc i) k) i → Dec (j ≡ i)
         → (suc i + k ≤ scan ok (suc i) k → suc i ≤ j → ok j ≡ true) → ok j ≡ true
@@ -47,8 +47,8 @@ scan-passed ok (suc k) i h j p q = go (ok i) refl h (ℕ_discrete j i) (λ h2 p2
     go false e g d ih = absurd (omega (arith, g))
 
 -- and where every index passes, it ends past them
-pub scan-all : (ok : ℕ → Bool) (k i : ℕ) → ((j : ℕ) → i ≤ j → j < i + k → ok j ≡ true) → scan ok i k ≡ i + k
+pub scan_all : (ok : ℕ → Bool) (k i : ℕ) → ((j : ℕ) → i ≤ j → j < i + k → ok j ≡ true) → scan ok i k ≡ i + k
 unfolding scan
-scan-all ok zero i h = omega arith
-scan-all ok (suc k) i h =
-    rw (h i (omega arith) (omega arith)) (scan-all ok k (suc i) (λ j p q. h j (omega arith) (omega arith)) ∙ omega arith)
+scan_all ok zero i h = omega arith
+scan_all ok (suc k) i h =
+    rw (h i (omega arith) (omega arith)) (scan_all ok k (suc i) (λ j p q. h j (omega arith) (omega arith)) ∙ omega arith)

@@ -21,8 +21,8 @@ use Rattle.instructions.specs.declared.kind.RegisterWordKind.{RegisterWordKind}
 use Rattle.instructions.specs.declared.kind.RegisterWordKind.TheVariants.{Addw, Subw, Sllw, Srlw, Sraw, Mulw, Divw, Divuw, Remw, Remuw}
 
 -- a < b, read as signed numbers of w bits
-abbrev pub signedLess : ℕ → ℕ → ℕ → Bool
-signedLess w a b = lt_z (signed w a) (signed w b)
+abbrev pub signed_less : ℕ → ℕ → ℕ → Bool
+signed_less w a b = lt_z (signed w a) (signed w b)
 
 -- 1 or 0
 abbrev pub flag : Bool → ℕ
@@ -33,7 +33,7 @@ abbrev pub operate : ℕ → RegisterKind → ℕ → ℕ → ℕ
 operate w Add a b = (a + b) % 2 ^ w
 operate w Sub a b = (a + (2 ^ w - b)) % 2 ^ w
 operate w Sll a b = a * 2 ^ (b % w) % 2 ^ w
-operate w Slt a b = flag (signedLess w a b)
+operate w Slt a b = flag (signed_less w a b)
 operate w Sltu a b = flag (ltb a b)
 operate w Xor a b = bit_xor a b
 operate w Srl a b = a / 2 ^ (b % w)
@@ -51,46 +51,46 @@ operate w Remu a b = remainder w (pos a) (pos b)
 
 -- a word form: the operation on the low 32 bits, its result sign extended; REMW and REMUW too "always sign-extend the 32-bit
 -- result to 64 bits, including on a divide by zero"
-abbrev pub operateWord : RegisterKind → ℕ → ℕ → ℕ
-operateWord k a b = sext 32 (operate 32 k (field a 0 32) (field b 0 32))
+abbrev pub operate_word : RegisterKind → ℕ → ℕ → ℕ
+operate_word k a b = sext 32 (operate 32 k (field a 0 32) (field b 0 32))
 
 -- the operation that each kind is a form of
-abbrev pub ofRegisterWord : RegisterWordKind → RegisterKind
-ofRegisterWord Addw = Add
-ofRegisterWord Subw = Sub
-ofRegisterWord Sllw = Sll
-ofRegisterWord Srlw = Srl
-ofRegisterWord Sraw = Sra
-ofRegisterWord Mulw = Mul
-ofRegisterWord Divw = Div
-ofRegisterWord Divuw = Divu
-ofRegisterWord Remw = Rem
-ofRegisterWord Remuw = Remu
+abbrev pub of_register_word : RegisterWordKind → RegisterKind
+of_register_word Addw = Add
+of_register_word Subw = Sub
+of_register_word Sllw = Sll
+of_register_word Srlw = Srl
+of_register_word Sraw = Sra
+of_register_word Mulw = Mul
+of_register_word Divw = Div
+of_register_word Divuw = Divu
+of_register_word Remw = Rem
+of_register_word Remuw = Remu
 
-abbrev pub ofImmediate : ImmediateKind → RegisterKind
-ofImmediate Addi = Add
-ofImmediate Slti = Slt
-ofImmediate Sltiu = Sltu
-ofImmediate Xori = Xor
-ofImmediate Ori = Or
-ofImmediate Andi = And
+abbrev pub of_immediate : ImmediateKind → RegisterKind
+of_immediate Addi = Add
+of_immediate Slti = Slt
+of_immediate Sltiu = Sltu
+of_immediate Xori = Xor
+of_immediate Ori = Or
+of_immediate Andi = And
 
-abbrev pub ofShift : ShiftKind → RegisterKind
-ofShift Slli = Sll
-ofShift Srli = Srl
-ofShift Srai = Sra
+abbrev pub of_shift : ShiftKind → RegisterKind
+of_shift Slli = Sll
+of_shift Srli = Srl
+of_shift Srai = Sra
 
-abbrev pub ofShiftWord : ShiftWordKind → RegisterKind
-ofShiftWord Slliw = Sll
-ofShiftWord Srliw = Srl
-ofShiftWord Sraiw = Sra
+abbrev pub of_shift_word : ShiftWordKind → RegisterKind
+of_shift_word Slliw = Sll
+of_shift_word Srliw = Srl
+of_shift_word Sraiw = Sra
 
 -- whether a branch is taken
 abbrev pub taken : BranchKind → ℕ → ℕ → Bool
 taken Beq a b = eqb a b
 taken Bne a b = not (eqb a b)
-taken Blt a b = signedLess 64 a b
-taken Bge a b = not (signedLess 64 a b)
+taken Blt a b = signed_less 64 a b
+taken Bge a b = not (signed_less 64 a b)
 taken Bltu a b = ltb a b
 taken Bgeu a b = not (ltb a b)
 

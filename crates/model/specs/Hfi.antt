@@ -7,10 +7,10 @@ use Rattle.instructions.specs.declared.kind.HfiKind.{HfiKind}
 use Rattle.instructions.specs.declared.kind.HfiKind.TheVariants.{Enter, EnterJump, Exit, SelectRegion, SetBase, GetBase, SetBound, GetBound, SetPermission, GetPermission, SetHandler, GetHandler, ResetRegions}
 use Rattle.instructions.specs.declared.instruction.Instruction.{Instruction}
 use Rattle.instructions.specs.declared.instruction.Instruction.TheVariants.{Upper, Jal, Jalr, Branch, Load, Store, Immediate, Shift, Addiw, ShiftWord, Register, RegisterWord, Fence, System, HLoad, HStore, Hfi}
-use Rattle.model.specs.Machine.{reg, largestOptions, inside, locked, redirectsExits, region, setRegion, withBase, withBound, withPermission, zeroRegions, entered, exited, withHandler, withSelector, withRegions, machine, lastRegion}
-use Rattle.model.specs.Regions.{permissionFits}
-use Rattle.model.specs.WellFormed.{clearHandler}
-use Rattle.model.specs.WritableCode.{exposesCode}
+use Rattle.model.specs.Machine.{reg, largest_options, inside, locked, redirects_exits, region, set_region, with_base, with_bound, with_permission, zero_regions, entered, exited, with_handler, with_selector, with_regions, machine, last_region}
+use Rattle.model.specs.Regions.{permission_fits}
+use Rattle.model.specs.WellFormed.{clear_handler}
+use Rattle.model.specs.WritableCode.{exposes_code}
 use Rattle.model.specs.Outcome.{Outcome, completed, assigned, aligned}
 use Rattle.model.specs.declared.Region.{Region}
 use Rattle.model.specs.declared.HfiState.{HfiState}
@@ -20,36 +20,36 @@ use Rattle.model.specs.declared.Machine.{Machine}
 -- before 14" (Job 6), and adds 22, "asked after 14 and before 15" (Job 5)
 
 -- the number of the first rule that is broken, or 0
-abbrev pub firstBroken : List (Bool × ℕ) → ℕ
-firstBroken [] = 0
-firstBroken (rule ∷ rest) = cond rule.0 rule.1 (firstBroken rest)
+abbrev pub first_broken : List (Bool × ℕ) → ℕ
+first_broken [] = 0
+first_broken (rule ∷ rest) = cond rule.0 rule.1 (first_broken rest)
 
 -- The rules that a word of opcode 5b may break, in the order in which they are asked: whether it breaks the rule, and the number. a is the
 -- whole register rs1
-abbrev pub wordRules : HfiState → HfiKind → ℕ → List (Bool × ℕ)
+abbrev pub word_rules : HfiState → HfiKind → ℕ → List (Bool × ℕ)
 -- "23, enter in HFI mode"; "an options operand above 15"; "22, for either enter form that would begin such a state", which is locked HFI
 -- mode with writable code
-wordRules h Enter a = (inside h, 23) ∷ (ltb largestOptions a, 14) ∷ (exposesCode (entered h a), 22) ∷ []
-wordRules h EnterJump a = (inside h, 23) ∷ (ltb largestOptions a, 14) ∷ (exposesCode (entered h a), 22) ∷ []
+word_rules h Enter a = (inside h, 23) ∷ (ltb largest_options a, 14) ∷ (exposes_code (entered h a), 22) ∷ []
+word_rules h EnterJump a = (inside h, 23) ∷ (ltb largest_options a, 14) ∷ (exposes_code (entered h a), 22) ∷ []
 -- "24, exit outside it"
-wordRules h Exit a = (not (inside h), 24) ∷ []
+word_rules h Exit a = (not (inside h), 24) ∷ []
 -- "25, a region or handler instruction that HFI mode forbids": "funct7 3 to 9, 11 or 12 in HFI mode when locked; set handler in HFI mode, locked
 -- or unlocked". "Faults in an operand .. and a missing selection keep 14": "a selected number not 1 to 3", which "go[es] up to 10" (Job 7); "funct7 4 to 9 with
 -- selector 0; a permission bit the region lacks"
-wordRules h SelectRegion a = (locked h, 25) ∷ (not (leb 1 a && leb a lastRegion), 14) ∷ []
-wordRules h SetBase a = (locked h, 25) ∷ (eqb h.selector 0, 14) ∷ []
-wordRules h GetBase a = (locked h, 25) ∷ (eqb h.selector 0, 14) ∷ []
-wordRules h SetBound a = (locked h, 25) ∷ (eqb h.selector 0, 14) ∷ []
-wordRules h GetBound a = (locked h, 25) ∷ (eqb h.selector 0, 14) ∷ []
-wordRules h SetPermission a = (locked h, 25) ∷ (eqb h.selector 0, 14) ∷ (not (permissionFits h.selector a), 14) ∷ []
-wordRules h GetPermission a = (locked h, 25) ∷ (eqb h.selector 0, 14) ∷ []
-wordRules h SetHandler a = (inside h, 25) ∷ []
-wordRules h GetHandler a = (locked h, 25) ∷ []
-wordRules h ResetRegions a = (locked h, 25) ∷ []
+word_rules h SelectRegion a = (locked h, 25) ∷ (not (leb 1 a && leb a last_region), 14) ∷ []
+word_rules h SetBase a = (locked h, 25) ∷ (eqb h.selector 0, 14) ∷ []
+word_rules h GetBase a = (locked h, 25) ∷ (eqb h.selector 0, 14) ∷ []
+word_rules h SetBound a = (locked h, 25) ∷ (eqb h.selector 0, 14) ∷ []
+word_rules h GetBound a = (locked h, 25) ∷ (eqb h.selector 0, 14) ∷ []
+word_rules h SetPermission a = (locked h, 25) ∷ (eqb h.selector 0, 14) ∷ (not (permission_fits h.selector a), 14) ∷ []
+word_rules h GetPermission a = (locked h, 25) ∷ (eqb h.selector 0, 14) ∷ []
+word_rules h SetHandler a = (inside h, 25) ∷ []
+word_rules h GetHandler a = (locked h, 25) ∷ []
+word_rules h ResetRegions a = (locked h, 25) ∷ []
 
 -- "an h-word outside it": "an h-word outside HFI mode .. keep 14"
-abbrev pub hWordRules : HfiState → List (Bool × ℕ)
-hWordRules h = (not (inside h), 14) ∷ []
+abbrev pub h_word_rules : HfiState → List (Bool × ℕ)
+h_word_rules h = (not (inside h), 14) ∷ []
 
 -- The rules of every instruction. Of most the paragraph says nothing
 abbrev pub rules : Machine → Instruction → List (Bool × ℕ)
@@ -67,45 +67,45 @@ rules m (Register k rd rs1 rs2) = []
 rules m (RegisterWord k rd rs1 rs2) = []
 rules m (Fence fm pred succ rs1 rd) = []
 rules m (System k) = []
-rules m (HLoad k chosen rd rs1 imm) = hWordRules m.hfi
-rules m (HStore k chosen rs1 rs2 imm) = hWordRules m.hfi
-rules m (Hfi k rd rs1 rs2) = wordRules m.hfi k (reg m.x rs1)
+rules m (HLoad k chosen rd rs1 imm) = h_word_rules m.hfi
+rules m (HStore k chosen rs1 rs2 imm) = h_word_rules m.hfi
+rules m (Hfi k rd rs1 rs2) = word_rules m.hfi k (reg m.x rs1)
 
 -- question 8's number for an instruction, or 0 where HFI allows it
-unfoldable pub hfiStop : Machine → Instruction → ℕ
-hfiStop m i = firstBroken (rules m i)
+unfoldable pub hfi_stop : Machine → Instruction → ℕ
+hfi_stop m i = first_broken (rules m i)
 
 -- the state with the selected region changed
 abbrev pub changed : HfiState → Region → HfiState
-changed h r = withRegions h (setRegion h.regions h.selector r)
+changed h r = with_regions h (set_region h.regions h.selector r)
 
 abbrev pub selected : HfiState → Region
 selected h = region h.regions h.selector
 
 -- question 9, and what the word does; `next` is the pc after it
-unfoldable pub hfiPerform : Machine → List ℕ → ℕ → HfiKind → ℕ → ℕ → ℕ → Outcome
+unfoldable pub hfi_perform : Machine → List ℕ → ℕ → HfiKind → ℕ → ℕ → ℕ → Outcome
 -- "Enter: mode 1, options stored, occurred cleared."
-hfiPerform m mem next Enter rd rs1 rs2 = completed (machine m.x next (entered m.hfi (reg m.x rs1))) mem
+hfi_perform m mem next Enter rd rs1 rs2 = completed (machine m.x next (entered m.hfi (reg m.x rs1))) mem
 -- "The jump form sets pc to rs2."
-hfiPerform m mem next EnterJump rd rs1 rs2 =
+hfi_perform m mem next EnterJump rd rs1 rs2 =
     aligned m mem (reg m.x rs2) (completed (machine m.x (reg m.x rs2) (entered m.hfi (reg m.x rs1))) mem)
 -- "Exit: mode 0, reason 1, exit pc is this pc; then pc is the handler if exits are redirected, else pc + 4."
-hfiPerform m mem next Exit rd rs1 rs2 =
-    completed (machine m.x (cond (redirectsExits m.hfi) m.hfi.handler next) (exited m.hfi 1 m.pc)) mem
-hfiPerform m mem next SelectRegion rd rs1 rs2 =
-    completed (machine m.x next (withSelector m.hfi (reg m.x rs1))) mem
-hfiPerform m mem next SetBase rd rs1 rs2 =
-    completed (machine m.x next (changed m.hfi (withBase (selected m.hfi) (reg m.x rs1)))) mem
-hfiPerform m mem next GetBase rd rs1 rs2 = completed (assigned m next rd (selected m.hfi).base) mem
-hfiPerform m mem next SetBound rd rs1 rs2 =
-    completed (machine m.x next (changed m.hfi (withBound (selected m.hfi) (reg m.x rs1)))) mem
-hfiPerform m mem next GetBound rd rs1 rs2 = completed (assigned m next rd (selected m.hfi).bound) mem
-hfiPerform m mem next SetPermission rd rs1 rs2 =
-    completed (machine m.x next (changed m.hfi (withPermission (selected m.hfi) (reg m.x rs1)))) mem
-hfiPerform m mem next GetPermission rd rs1 rs2 = completed (assigned m next rd (selected m.hfi).permission) mem
+hfi_perform m mem next Exit rd rs1 rs2 =
+    completed (machine m.x (cond (redirects_exits m.hfi) m.hfi.handler next) (exited m.hfi 1 m.pc)) mem
+hfi_perform m mem next SelectRegion rd rs1 rs2 =
+    completed (machine m.x next (with_selector m.hfi (reg m.x rs1))) mem
+hfi_perform m mem next SetBase rd rs1 rs2 =
+    completed (machine m.x next (changed m.hfi (with_base (selected m.hfi) (reg m.x rs1)))) mem
+hfi_perform m mem next GetBase rd rs1 rs2 = completed (assigned m next rd (selected m.hfi).base) mem
+hfi_perform m mem next SetBound rd rs1 rs2 =
+    completed (machine m.x next (changed m.hfi (with_bound (selected m.hfi) (reg m.x rs1)))) mem
+hfi_perform m mem next GetBound rd rs1 rs2 = completed (assigned m next rd (selected m.hfi).bound) mem
+hfi_perform m mem next SetPermission rd rs1 rs2 =
+    completed (machine m.x next (changed m.hfi (with_permission (selected m.hfi) (reg m.x rs1)))) mem
+hfi_perform m mem next GetPermission rd rs1 rs2 = completed (assigned m next rd (selected m.hfi).permission) mem
 -- "Set handler clears bits 0, 1, 62, 63."
-hfiPerform m mem next SetHandler rd rs1 rs2 =
-    completed (machine m.x next (withHandler m.hfi (clearHandler (reg m.x rs1)))) mem
-hfiPerform m mem next GetHandler rd rs1 rs2 = completed (assigned m next rd m.hfi.handler) mem
+hfi_perform m mem next SetHandler rd rs1 rs2 =
+    completed (machine m.x next (with_handler m.hfi (clear_handler (reg m.x rs1)))) mem
+hfi_perform m mem next GetHandler rd rs1 rs2 = completed (assigned m next rd m.hfi.handler) mem
 -- "Reset zeroes regions and selector."
-hfiPerform m mem next ResetRegions rd rs1 rs2 = completed (machine m.x next (withSelector (withRegions m.hfi zeroRegions) 0)) mem
+hfi_perform m mem next ResetRegions rd rs1 rs2 = completed (machine m.x next (with_selector (with_regions m.hfi zero_regions) 0)) mem

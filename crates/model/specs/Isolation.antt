@@ -4,7 +4,7 @@
 use Rattle.std.specs.Prelude.{◌≡◌, List, ℕ, length, get_or}
 use Rattle.words.specs.Word.{field}
 use Rattle.model.specs.Reach.{Readable, Writable, Executable}
-use Rattle.model.specs.Run.{Ended, runCall}
+use Rattle.model.specs.Run.{Ended, run_call}
 use Rattle.model.specs.declared.Machine.{Machine}
 
 -- "any machine in HFI mode with regions locked": "Regions are locked when option bit 0 is set."
@@ -35,4 +35,4 @@ pub record Isolated (m : Machine) (s t : List ℕ) (e f : Ended) : Type 0 where
 
 -- "for every budget and every stop"
 abbrev pub Isolation : Type 0
-Isolation = (m : Machine) (s t : List ℕ) (budget : ℕ) → Locked m → Agree m s t → Isolated m s t (runCall m s budget) (runCall m t budget)
+Isolation = (m : Machine) (s t : List ℕ) (budget : ℕ) → Locked m → Agree m s t → Isolated m s t (run_call m s budget) (run_call m t budget)

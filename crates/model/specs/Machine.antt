@@ -16,8 +16,8 @@ abbrev pub reg : List ℕ → ℕ → ℕ
 reg x i = get_or x i 0
 
 -- the registers with v in register i; x0 stays 0
-abbrev pub setReg : List ℕ → ℕ → ℕ → List ℕ
-setReg x i v = cond (eqb i 0) x (set x i v)
+abbrev pub set_reg : List ℕ → ℕ → ℕ → List ℕ
+set_reg x i v = cond (eqb i 0) x (set x i v)
 
 -- bit n of a number that holds bits
 abbrev pub bit : ℕ → ℕ → Bool
@@ -25,20 +25,20 @@ bit n x = eqb (field x n 1) 1
 
 -- ---- the fault record's op: "0 none, 1 load, 2 store, 3 fetch"
 
-abbrev pub loadOp : ℕ
-loadOp = 1
+abbrev pub load_op : ℕ
+load_op = 1
 
-abbrev pub storeOp : ℕ
-storeOp = 2
+abbrev pub store_op : ℕ
+store_op = 2
 
-abbrev pub fetchOp : ℕ
-fetchOp = 3
+abbrev pub fetch_op : ℕ
+fetch_op = 3
 
 -- ---- options and mode
 
 -- "options (4 bits)"
-abbrev pub largestOptions : ℕ
-largestOptions = 15
+abbrev pub largest_options : ℕ
+largest_options = 15
 
 -- in HFI mode
 abbrev pub inside : HfiState → Bool
@@ -53,46 +53,46 @@ abbrev pub locked : HfiState → Bool
 locked h = cond (inside h) (bit 0 h.options) false
 
 -- "ECALL in HFI mode with bit 1 set"
-abbrev pub redirectsCalls : HfiState → Bool
-redirectsCalls h = cond (inside h) (bit 1 h.options) false
+abbrev pub redirects_calls : HfiState → Bool
+redirects_calls h = cond (inside h) (bit 1 h.options) false
 
 -- "if exits are redirected"
-abbrev pub redirectsExits : HfiState → Bool
-redirectsExits h = bit 2 h.options
+abbrev pub redirects_exits : HfiState → Bool
+redirects_exits h = bit 2 h.options
 
 -- ---- regions by number, from 1 on; number 0 is no region: question 8 refuses an instruction with it, and it grants nothing
 
 -- the highest number, and the record has as many regions: "Selector, selected number and fault region go up to 10" (02, Job 7)
-abbrev pub lastRegion : ℕ
-lastRegion = 10
+abbrev pub last_region : ℕ
+last_region = 10
 
-abbrev pub noRegion : Region
-noRegion = record { base = 0; bound = 0; permission = 0 }
+abbrev pub no_region : Region
+no_region = record { base = 0; bound = 0; permission = 0 }
 
 abbrev pub region : List Region → ℕ → Region
-region rs n = get_or rs (n - 1) noRegion
+region rs n = get_or rs (n - 1) no_region
 
-abbrev pub setRegion : List Region → ℕ → Region → List Region
-setRegion rs n r = set rs (n - 1) r
+abbrev pub set_region : List Region → ℕ → Region → List Region
+set_region rs n r = set rs (n - 1) r
 
-abbrev pub withBase : Region → ℕ → Region
-withBase r v = record { base = v; bound = r.bound; permission = r.permission }
+abbrev pub with_base : Region → ℕ → Region
+with_base r v = record { base = v; bound = r.bound; permission = r.permission }
 
-abbrev pub withBound : Region → ℕ → Region
-withBound r v = record { base = r.base; bound = v; permission = r.permission }
+abbrev pub with_bound : Region → ℕ → Region
+with_bound r v = record { base = r.base; bound = v; permission = r.permission }
 
-abbrev pub withPermission : Region → ℕ → Region
-withPermission r v = record { base = r.base; bound = r.bound; permission = v }
+abbrev pub with_permission : Region → ℕ → Region
+with_permission r v = record { base = r.base; bound = r.bound; permission = v }
 
 -- "Reset zeroes regions and selector": all the regions
-abbrev pub zeroRegions : List Region
-zeroRegions = replicate lastRegion noRegion
+abbrev pub zero_regions : List Region
+zero_regions = replicate last_region no_region
 
 -- n regions of three numbers each, from place k of a list on
-abbrev pub regionsFrom : List ℕ → ℕ → ℕ → List Region
-regionsFrom vs k zero = []
-regionsFrom vs k (suc n) =
-    record { base = get_or vs k 0; bound = get_or vs (k + 1) 0; permission = get_or vs (k + 2) 0 } ∷ regionsFrom vs (k + 3) n
+abbrev pub regions_from : List ℕ → ℕ → ℕ → List Region
+regions_from vs k zero = []
+regions_from vs k (suc n) =
+    record { base = get_or vs k 0; bound = get_or vs (k + 1) 0; permission = get_or vs (k + 2) 0 } ∷ regions_from vs (k + 3) n
 
 -- ---- the HFI state, changed in some fields
 
@@ -124,8 +124,8 @@ exited h reason pc =
       fault = h.fault;
     }
 
-abbrev pub withHandler : HfiState → ℕ → HfiState
-withHandler h v =
+abbrev pub with_handler : HfiState → ℕ → HfiState
+with_handler h v =
     record {
       mode = h.mode;
       reason = h.reason;
@@ -137,8 +137,8 @@ withHandler h v =
       fault = h.fault;
     }
 
-abbrev pub withSelector : HfiState → ℕ → HfiState
-withSelector h v =
+abbrev pub with_selector : HfiState → ℕ → HfiState
+with_selector h v =
     record {
       mode = h.mode;
       reason = h.reason;
@@ -150,8 +150,8 @@ withSelector h v =
       fault = h.fault;
     }
 
-abbrev pub withRegions : HfiState → List Region → HfiState
-withRegions h rs =
+abbrev pub with_regions : HfiState → List Region → HfiState
+with_regions h rs =
     record {
       mode = h.mode;
       reason = h.reason;
@@ -163,8 +163,8 @@ withRegions h rs =
       fault = h.fault;
     }
 
-abbrev pub withFault : HfiState → Fault → HfiState
-withFault h f =
+abbrev pub with_fault : HfiState → Fault → HfiState
+with_fault h f =
     record {
       mode = h.mode;
       reason = h.reason;

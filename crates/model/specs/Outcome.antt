@@ -1,7 +1,7 @@
 -- What a step answers, and the memory that it leaves.
 -- Machine, Verdict and Stepped are declared in src/lib.rt. Assumes nothing.
 use Rattle.std.specs.Prelude.{cond, List, ℕ, ◌%◌, eqb}
-use Rattle.model.specs.Machine.{setReg, withFault, machine}
+use Rattle.model.specs.Machine.{set_reg, with_fault, machine}
 use Rattle.model.specs.declared.Machine.{Machine}
 use Rattle.model.specs.declared.Verdict.{Verdict}
 use Rattle.model.specs.declared.Verdict.TheVariants.{Passed, Refused, Absent}
@@ -15,8 +15,8 @@ abbrev pub outcome : ℕ → ℕ → Machine → List ℕ → Outcome
 outcome stop address m mem = record { result = record { stop = stop; address = address; machine = m }; memory = mem }
 
 -- the answer of a call, and the memory after it
-abbrev pub steppedWith : Stepped → List ℕ → Outcome
-steppedWith r mem = record { result = r; memory = mem }
+abbrev pub stepped_with : Stepped → List ℕ → Outcome
+stepped_with r mem = record { result = r; memory = mem }
 
 -- "A completed step answers 0"
 abbrev pub completed : Machine → List ℕ → Outcome
@@ -29,11 +29,11 @@ stopped stop m mem = outcome stop 0 m mem
 
 -- the machine with v in rd, and pc after the instruction
 abbrev pub assigned : Machine → ℕ → ℕ → ℕ → Machine
-assigned m next rd v = machine (setReg m.x rd v) next m.hfi
+assigned m next rd v = machine (set_reg m.x rd v) next m.hfi
 
 -- the machine as it was, but for pc
-abbrev pub withPc : Machine → ℕ → Machine
-withPc m next = machine m.x next m.hfi
+abbrev pub with_pc : Machine → ℕ → Machine
+with_pc m next = machine m.x next m.hfi
 
 -- ---- questions that lead to a stop, or to the rest of the step
 
@@ -49,7 +49,7 @@ aligned m mem target rest = cond (eqb (target % 2) 0) rest (stopped 15 m mem)
 -- "11 and 16 write the fault record"
 abbrev pub faulted : Machine → ℕ → ℕ → ℕ → Machine
 faulted m op at region =
-    machine m.x m.pc (withFault m.hfi (record { occurred = 1; region = region; op = op; address = at }))
+    machine m.x m.pc (with_fault m.hfi (record { occurred = 1; region = region; op = op; address = at }))
 
 -- questions 5 and 6, or 10 and 11, by the verdict on the access: the number `refused`, or the number `absent` with its address
 unfoldable pub settle : Machine → List ℕ → ℕ → ℕ → ℕ → Verdict → Outcome → Outcome

@@ -4,13 +4,13 @@
 -- The regions are those of the machine that the run starts from. proofs/Reach.antt has each as a closed form.
 -- Region is declared in src/lib.rt, the kinds and the instructions in instructions/src. Assumes nothing.
 use Rattle.std.specs.Prelude.{◌≡◌, true, List, ℕ, ◌%◌, ◌<◌}
-use Rattle.instructions.specs.Decode.{decodeWord}
+use Rattle.instructions.specs.Decode.{decode_word}
 use Rattle.instructions.specs.declared.kind.LoadKind.{LoadKind}
 use Rattle.instructions.specs.declared.kind.StoreKind.{StoreKind}
 use Rattle.instructions.specs.declared.instruction.Instruction.TheVariants.{Load, Store, HLoad, HStore}
 use Rattle.instructions.specs.declared.instruction.Decoded.TheVariants.{Legal}
 use Rattle.model.specs.Bytes.{byte_of}
-use Rattle.model.specs.Access.{Access, fetchAccess, loadAccess, storeAccess, hloadAccess, hstoreAccess}
+use Rattle.model.specs.Access.{Access, fetch_access, load_access, store_access, hload_access, hstore_access}
 use Rattle.model.specs.declared.Region.{Region}
 
 -- b is a byte of the access, and passes its region
@@ -22,17 +22,17 @@ pub record Passes (a : Access) (b : ℕ) : Type 0 where
 
 -- half-words make no other accesses: each stands for the instruction of a long word (compressed/proofs/InRange.antt)
 pub data Readable (rs : List Region) (b : ℕ) : Type 0 where
-  byLoad : (w : ℕ) (x : List ℕ) (k : LoadKind) (rd rs1 imm : ℕ) → decodeWord w ≡ Legal (Load k rd rs1 imm)
-      → Passes (loadAccess rs x k rs1 imm) b → Readable rs b
-  byHLoad : (w : ℕ) (x : List ℕ) (k : LoadKind) (chosen rd rs1 imm : ℕ) → decodeWord w ≡ Legal (HLoad k chosen rd rs1 imm)
-      → Passes (hloadAccess rs x k chosen rs1 imm) b → Readable rs b
+  by_load : (w : ℕ) (x : List ℕ) (k : LoadKind) (rd rs1 imm : ℕ) → decode_word w ≡ Legal (Load k rd rs1 imm)
+      → Passes (load_access rs x k rs1 imm) b → Readable rs b
+  by_h_load : (w : ℕ) (x : List ℕ) (k : LoadKind) (chosen rd rs1 imm : ℕ) → decode_word w ≡ Legal (HLoad k chosen rd rs1 imm)
+      → Passes (hload_access rs x k chosen rs1 imm) b → Readable rs b
 
 pub data Writable (rs : List Region) (b : ℕ) : Type 0 where
-  byStore : (w : ℕ) (x : List ℕ) (k : StoreKind) (rs1 rs2 imm : ℕ) → decodeWord w ≡ Legal (Store k rs1 rs2 imm)
-      → Passes (storeAccess rs x k rs1 imm) b → Writable rs b
-  byHStore : (w : ℕ) (x : List ℕ) (k : StoreKind) (chosen rs1 rs2 imm : ℕ) → decodeWord w ≡ Legal (HStore k chosen rs1 rs2 imm)
-      → Passes (hstoreAccess rs x k chosen rs1 imm) b → Writable rs b
+  by_store : (w : ℕ) (x : List ℕ) (k : StoreKind) (rs1 rs2 imm : ℕ) → decode_word w ≡ Legal (Store k rs1 rs2 imm)
+      → Passes (store_access rs x k rs1 imm) b → Writable rs b
+  by_h_store : (w : ℕ) (x : List ℕ) (k : StoreKind) (chosen rs1 rs2 imm : ℕ) → decode_word w ≡ Legal (HStore k chosen rs1 rs2 imm)
+      → Passes (hstore_access rs x k chosen rs1 imm) b → Writable rs b
 
 -- question 4 asks that pc is a multiple of 2, and a fetch takes two bytes (02, Job 8); the second two of a long word are such a fetch too
 pub data Executable (rs : List Region) (b : ℕ) : Type 0 where
-  byFetch : (pc : ℕ) → pc % 2 ≡ 0 → Passes (fetchAccess rs pc) b → Executable rs b
+  by_fetch : (pc : ℕ) → pc % 2 ≡ 0 → Passes (fetch_access rs pc) b → Executable rs b

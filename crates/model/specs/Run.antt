@@ -2,8 +2,8 @@
 -- Machine and Ran are declared in src/lib.rt, Outcome in Outcome.antt. Assumes nothing.
 use Rattle.std.specs.Prelude.{Bool, cond, not, ◌&&◌, List, ℕ, zero, suc, eqb, ltb, length}
 use Rattle.model.specs.Machine.{inside}
-use Rattle.model.specs.WellFormed.{wellFormed}
-use Rattle.model.specs.WritableCode.{exposesCode}
+use Rattle.model.specs.WellFormed.{well_formed}
+use Rattle.model.specs.WritableCode.{exposes_code}
 use Rattle.model.specs.Outcome.{Outcome}
 use Rattle.model.specs.Step.{step, longest}
 use Rattle.model.specs.declared.Machine.{Machine}
@@ -19,8 +19,8 @@ ended stop count address m mem =
     record { result = record { stop = stop; count = count; address = address; machine = m }; memory = mem }
 
 -- the answer of a call, and the memory after it
-abbrev pub ranWith : Ran → List ℕ → Ended
-ranWith r mem = record { result = r; memory = mem }
+abbrev pub ran_with : Ran → List ℕ → Ended
+ran_with r mem = record { result = r; memory = mem }
 
 -- with a budget of `remaining` steps still, after `count` completed steps of a run that began in HFI mode or not.
 -- "Before each step of a run: does the budget have a step left? No: 21." "After a step of a run that began in HFI mode: is the
@@ -41,14 +41,14 @@ abbrev pub run : Bool → ℕ → ℕ → Machine → List ℕ → Ended
 run = run_by step
 
 -- "2. (Run) Is the budget at most 1,000,000? No: 2."
-abbrev pub largestBudget : ℕ
-largestBudget = 1000000
+abbrev pub largest_budget : ℕ
+largest_budget = 1000000
 
 -- questions 1, 2, "3. Is the machine well formed? No: 3." and "4, for a step or run given such a machine in locked HFI mode,
 -- asked after 3" (02, Job 5), once, before the first step: it cannot arise later (proofs/Runs.antt); then the run. "For 1 to 3 nothing
 -- changes and the count is 0."; "4 leaves what 3 leaves, count 0"
-unfoldable pub runCall : Machine → List ℕ → ℕ → Ended
-runCall m mem budget =
+unfoldable pub run_call : Machine → List ℕ → ℕ → Ended
+run_call m mem budget =
     cond (ltb longest (length mem)) (ended 1 0 0 m mem)
-    (cond (ltb largestBudget budget) (ended 2 0 0 m mem)
-    (cond (wellFormed m) (cond (exposesCode m.hfi) (ended 4 0 0 m mem) (run (inside m.hfi) budget 0 m mem)) (ended 3 0 0 m mem)))
+    (cond (ltb largest_budget budget) (ended 2 0 0 m mem)
+    (cond (well_formed m) (cond (exposes_code m.hfi) (ended 4 0 0 m mem) (run (inside m.hfi) budget 0 m mem)) (ended 3 0 0 m mem)))

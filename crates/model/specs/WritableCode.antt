@@ -4,8 +4,8 @@
 -- Region and HfiState are declared in src/lib.rt. Assumes nothing.
 use Rattle.std.specs.Prelude.{Bool, false, cond, ◌&&◌, ◌||◌, List, [], ◌∷◌, ◌++◌, ℕ, suc, ◌+◌, ◌^◌, ◌<◌, leb, ltb}
 use Rattle.model.specs.Machine.{locked, region}
-use Rattle.instructions.specs.HWords.{explicitRegions}
-use Rattle.model.specs.Regions.{RegionKind, explicit, implicitData, implicitCode, dataRegions, codeRegions, regionKind, write, execute, permits, maskZeros, implicitRule, explicitRule, implicitGrants}
+use Rattle.instructions.specs.HWords.{explicit_regions}
+use Rattle.model.specs.Regions.{RegionKind, explicit, implicit_data, implicit_code, data_regions, code_regions, region_kind, write, execute, permits, mask_zeros, implicit_rule, explicit_rule, implicit_grants}
 use Rattle.model.specs.Reach.{Writable, Executable}
 use Rattle.model.specs.declared.Region.{Region}
 use Rattle.model.specs.declared.HfiState.{HfiState}
@@ -21,55 +21,55 @@ pub record WritableCode (rs : List Region) : Type 0 where
 
 -- the byte at a lies in an explicit region that keeps its rule and has the permission
 abbrev pub covers : ℕ → ℕ → Region → Bool
-covers wanted a r = explicitRule r && (permits wanted r && (leb r.base a && ltb a (r.base + r.bound)))
+covers wanted a r = explicit_rule r && (permits wanted r && (leb r.base a && ltb a (r.base + r.bound)))
 
 -- and in one of those numbered ns
-unfoldable pub explicitCovers : List Region → List ℕ → ℕ → ℕ → Bool
-explicitCovers rs [] wanted a = false
-explicitCovers rs (n ∷ ns) wanted a = covers wanted a (region rs n) || explicitCovers rs ns wanted a
+unfoldable pub explicit_covers : List Region → List ℕ → ℕ → ℕ → Bool
+explicit_covers rs [] wanted a = false
+explicit_covers rs (n ∷ ns) wanted a = covers wanted a (region rs n) || explicit_covers rs ns wanted a
 
-abbrev pub writableAt : List Region → ℕ → Bool
-writableAt rs a = implicitGrants rs dataRegions write a || explicitCovers rs explicitRegions write a
+abbrev pub writable_at : List Region → ℕ → Bool
+writable_at rs a = implicit_grants rs data_regions write a || explicit_covers rs explicit_regions write a
 
-abbrev pub executableAt : List Region → ℕ → Bool
-executableAt rs a = implicitGrants rs codeRegions execute a
+abbrev pub executable_at : List Region → ℕ → Bool
+executable_at rs a = implicit_grants rs code_regions execute a
 
-abbrev pub bothAt : List Region → ℕ → Bool
-bothAt rs a = executableAt rs a && writableAt rs a
+abbrev pub both_at : List Region → ℕ → Bool
+both_at rs a = executable_at rs a && writable_at rs a
 
 -- ---- which bytes are tested: a region's edges are its start and its end. Between one edge and the next, of whatever regions, no
 -- byte is writable or executable unless the byte before it is, so that the least byte that is both is an edge
 
-abbrev pub keepsRule : RegionKind → Region → Bool
-keepsRule explicit r = explicitRule r
-keepsRule implicitData r = implicitRule r
-keepsRule implicitCode r = implicitRule r
+abbrev pub keeps_rule : RegionKind → Region → Bool
+keeps_rule explicit r = explicit_rule r
+keeps_rule implicit_data r = implicit_rule r
+keeps_rule implicit_code r = implicit_rule r
 
 -- the byte after the region's last
-abbrev pub regionEnd : RegionKind → Region → ℕ
-regionEnd explicit r = r.base + r.bound
-regionEnd implicitData r = r.base + 2 ^ maskZeros r.bound
-regionEnd implicitCode r = r.base + 2 ^ maskZeros r.bound
+abbrev pub region_end : RegionKind → Region → ℕ
+region_end explicit r = r.base + r.bound
+region_end implicit_data r = r.base + 2 ^ mask_zeros r.bound
+region_end implicit_code r = r.base + 2 ^ mask_zeros r.bound
 
 -- a region that breaks its rule matches nothing, and has no edges
-abbrev pub edgesOf : RegionKind → Region → List ℕ
-edgesOf k r = cond (keepsRule k r) (r.base ∷ regionEnd k r ∷ []) []
+abbrev pub edges_of : RegionKind → Region → List ℕ
+edges_of k r = cond (keeps_rule k r) (r.base ∷ region_end k r ∷ []) []
 
 -- those of the regions from number n on
 abbrev pub edges : ℕ → List Region → List ℕ
 edges n [] = []
-edges n (r ∷ rs) = edgesOf (regionKind n) r ++ edges (suc n) rs
+edges n (r ∷ rs) = edges_of (region_kind n) r ++ edges (suc n) rs
 
 abbrev pub some : (ℕ → Bool) → List ℕ → Bool
 some p [] = false
 some p (a ∷ rest) = p a || some p rest
 
 -- the document's no is true here
-unfoldable pub writableCode : List Region → Bool
-writableCode rs = some (bothAt rs) (edges 1 rs)
+unfoldable pub writable_code : List Region → Bool
+writable_code rs = some (both_at rs) (edges 1 rs)
 
 -- ---- the state that is refused: with 4 where a call is given it, with 22 where an enter would begin it
 
 -- "such a machine in locked HFI mode"
-unfoldable pub exposesCode : HfiState → Bool
-exposesCode h = locked h && writableCode h.regions
+unfoldable pub exposes_code : HfiState → Bool
+exposes_code h = locked h && writable_code h.regions

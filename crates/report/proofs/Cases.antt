@@ -4,32 +4,32 @@ use mathlib.Core.List.{List, [], ◌∷◌, ◌++◌}
 use Prim.Native.Nat.{ℕ}
 use lib.Count.{count_trailing_zeros}
 use Rattle.words.specs.Word.{sext}
-use Rattle.instructions.specs.Decode.{decodeWord}
-use Rattle.model.specs.Access.{scan, firstRefused, firstAbsent, verdict}
+use Rattle.instructions.specs.Decode.{decode_word}
+use Rattle.model.specs.Access.{scan, first_refused, first_absent, verdict}
 use Rattle.model.specs.Bytes.{value, written}
-use Rattle.model.specs.Hfi.{hfiStop, hfiPerform}
+use Rattle.model.specs.Hfi.{hfi_stop, hfi_perform}
 use Rattle.model.specs.Outcome.{allowed, aligned, settle}
-use Rattle.model.specs.Regions.{explicitRule, matches, firstMatch, implicitGrants, explicitGrants}
-use Rattle.model.specs.Run.{run_by, runCall}
-use Rattle.model.specs.Step.{load, store, perform, executeInstruction, executeWord, fetching, executeFetched, step}
-use Rattle.compressed.specs.Expand.{expandHalf}
-use Rattle.model.specs.WellFormed.{stateFits, wellFormed}
-use Rattle.model.specs.WritableCode.{explicitCovers, writableCode, exposesCode}
+use Rattle.model.specs.Regions.{explicit_rule, matches, first_match, implicit_grants, explicit_grants}
+use Rattle.model.specs.Run.{run_by, run_call}
+use Rattle.model.specs.Step.{load, store, perform, execute_instruction, execute_word, fetching, execute_fetched, step}
+use Rattle.compressed.specs.Expand.{expand_half}
+use Rattle.model.specs.WellFormed.{state_fits, well_formed}
+use Rattle.model.specs.WritableCode.{explicit_covers, writable_code, exposes_code}
 use Rattle.text.specs.Number.{spelled, digits}
 use Rattle.text.specs.Ascii.{ascii}
-use Rattle.text.specs.Scan.{firstThat, count}
-use Rattle.text.specs.Split.{split, row_of, allWide}
-use Rattle.setup.specs.Setup.{permissionsInRange, readSetup}
-use Rattle.sheet.specs.Words.{readWord, memoryOf, blank}
-use Rattle.sheet.specs.Sheet.{fileNo, wordsRefusal, linesRefusal, sheetRefusal}
-use Rattle.sheet.proofs.Cases.{lineOne, words}
-use Rattle.report.specs.Report.{registerLines, reportOver, report}
+use Rattle.text.specs.Scan.{first_that, count}
+use Rattle.text.specs.Split.{split, row_of, all_wide}
+use Rattle.setup.specs.Setup.{permissions_in_range, read_setup}
+use Rattle.sheet.specs.Words.{read_word, memory_of, blank}
+use Rattle.sheet.specs.Sheet.{file_no, words_refusal, lines_refusal, sheet_refusal}
+use Rattle.sheet.proofs.Cases.{line_one, words}
+use Rattle.report.specs.Report.{register_lines, report_over, report}
 
 -- a sheet, and what is printed of it
 abbrev pub rows : List (List ℕ × List ℕ)
 rows =
     -- the whole example of document 01
-    (lineOne ++ words, ascii "20,3,100,1,8,0,0,0,0\n10,5\n")
+    (line_one ++ words, ascii "20,3,100,1,8,0,0,0,0\n10,5\n")
     -- a budget of f4241
     ∷ (ascii "4,5,100,200,10,3,0,0,0,0,fffffffffffffff0,4,f4241\n", ascii "2,0,4,0,0,0,0,0,0\n")
     -- options 10
@@ -48,7 +48,7 @@ rows =
     -- a half-word at a pc that is 2 modulo 4 (02, Job 8): c.li x7, 7
     ∷ (ascii "2,5,100,200,10,3,0,0,0,0,fffffffffffffff0,4,1\n0,439d0000\n", ascii "21,1,4,0,0,0,0,0,0\n7,7\n")
     -- document 01's example of a refusal
-    ∷ (lineOne ++ ascii "0,\n", ascii "sheet,33,2\n")
+    ∷ (line_one ++ ascii "0,\n", ascii "sheet,33,2\n")
     -- an empty file
     ∷ ([], ascii "sheet,30,0\n")
     ∷ []
@@ -61,6 +61,6 @@ abbrev pub expected : List (List ℕ × List ℕ) → List (List ℕ)
 expected [] = []
 expected (r ∷ rs) = r.1 ∷ expected rs
 
-pub rows-hold : reported rows ≡ expected rows
-unfolding report reportOver registerLines sheetRefusal linesRefusal wordsRefusal readWord row_of memoryOf blank fileNo permissionsInRange readSetup split allWide firstThat count spelled digits runCall run_by step executeFetched fetching executeWord executeInstruction perform store load stateFits wellFormed explicitRule matches firstMatch implicitGrants explicitGrants explicitCovers writableCode exposesCode allowed aligned settle hfiStop hfiPerform value written scan firstRefused firstAbsent verdict decodeWord expandHalf sext count_trailing_zeros
-rows-hold = refl
+pub rows_hold : reported rows ≡ expected rows
+unfolding report report_over register_lines sheet_refusal lines_refusal words_refusal read_word row_of memory_of blank file_no permissions_in_range read_setup split all_wide first_that count spelled digits run_call run_by step execute_fetched fetching execute_word execute_instruction perform store load state_fits well_formed explicit_rule matches first_match implicit_grants explicit_grants explicit_covers writable_code exposes_code allowed aligned settle hfi_stop hfi_perform value written scan first_refused first_absent verdict decode_word expand_half sext count_trailing_zeros
+rows_hold = refl

@@ -5,9 +5,9 @@
 ghost use Rattle.std.specs.Prelude.{[], ◌∷◌, ◌+◌, ◌≤◌, length};
 ghost use Rattle.text.specs.Scan.{comma};
 ghost use Rattle.text.specs.Number.{hexadecimal};
-ghost use Rattle.text.specs.Split.{joinLine, joinLines};
+ghost use Rattle.text.specs.Split.{join_line, join_lines};
 ghost use Rattle.text.specs.Write.{Wrote};
-ghost use Rattle.report.specs.Report.{faultFields, resultLine, registerLine, registerLines, resultText};
+ghost use Rattle.report.specs.Report.{fault_fields, result_line, register_line, register_lines, result_text};
 
 use model::{Fault, Ran};
 use text::print::{put_byte, put_decimal, put_hexadecimal};
@@ -25,7 +25,7 @@ fn put_field(buffer: &mut [u8], at: usize, n: u64) -> usize
 // The four fields of the fault record.
 fn put_fault(buffer: &mut [u8], at: usize, f: Fault) -> usize
     requires { at + 68 ≤ length buffer.old }
-    ensures wrote { Wrote buffer.old at (comma ∷ joinLine (faultFields f)) buffer.new result }
+    ensures wrote { Wrote buffer.old at (comma ∷ join_line (fault_fields f)) buffer.new result }
     ensures upper_bound { result ≤ at + 68 }
 {
     let a = put_field(buffer, at, f.occurred);
@@ -37,7 +37,7 @@ fn put_fault(buffer: &mut [u8], at: usize, f: Fault) -> usize
 // The first line, from the buffer's start on: 20 bytes for the number, 17 for each of 8 fields, and the line's end.
 fn put_result_line(buffer: &mut [u8], r: Ran) -> usize
     requires { 157 ≤ length buffer.old }
-    ensures wrote { Wrote buffer.old 0 (joinLines (resultLine r ∷ [])) buffer.new result }
+    ensures wrote { Wrote buffer.old 0 (join_lines (result_line r ∷ [])) buffer.new result }
     ensures upper_bound { result ≤ 157 }
 {
     let m = r.machine;
@@ -55,7 +55,7 @@ fn put_result_line(buffer: &mut [u8], r: Ran) -> usize
 // The line of register i, where its value is not 0.
 fn put_register(buffer: &mut [u8], at: usize, i: u64, v: u64) -> usize
     requires { at + 38 ≤ length buffer.old }
-    ensures wrote { Wrote buffer.old at (joinLines (registerLine i v)) buffer.new result }
+    ensures wrote { Wrote buffer.old at (join_lines (register_line i v)) buffer.new result }
     ensures upper_bound { result ≤ at + 38 }
 {
     if v == 0 {
@@ -69,7 +69,7 @@ fn put_register(buffer: &mut [u8], at: usize, i: u64, v: u64) -> usize
 // The lines of all registers.
 fn put_registers(buffer: &mut [u8], start: usize, x: [u64; 32]) -> usize
     requires { start + 1216 ≤ length buffer.old }
-    ensures wrote { Wrote buffer.old start (joinLines (registerLines 0 x)) buffer.new result }
+    ensures wrote { Wrote buffer.old start (join_lines (register_lines 0 x)) buffer.new result }
     ensures upper_bound { result ≤ start + 1216 }
 {
     let mut at = start;
@@ -84,7 +84,7 @@ fn put_registers(buffer: &mut [u8], start: usize, x: [u64; 32]) -> usize
 // A run's result: the first line and the registers' lines. 157 + 32 * 38 bytes are enough for every one.
 pub fn put_result(buffer: &mut [u8], r: Ran) -> usize
     requires { 1373 ≤ length buffer.old }
-    ensures wrote { Wrote buffer.old 0 (resultText r) buffer.new result }
+    ensures wrote { Wrote buffer.old 0 (result_text r) buffer.new result }
     ensures upper_bound { result ≤ 1373 }
 {
     let m = r.machine;

@@ -7,37 +7,37 @@ use lib.ListN.{length, take}
 use lib.Seq.{length-sets, length-take-le}
 use borrow.Author.Tests.{eq-eqb, ne_eqb}
 use Rattle.text.specs.Write.{Wrote}
-use Rattle.text.proofs.Writing.{wrote-parts}
+use Rattle.text.proofs.Writing.{wrote_parts}
 use Rattle.model.specs.declared.Machine.{Machine}
 use Rattle.model.specs.declared.Ran.{Ran}
-use Rattle.model.specs.Run.{ranWith, runCall}
+use Rattle.model.specs.Run.{ran_with, run_call}
 use Rattle.setup.specs.Setup.{machine_of}
 use Rattle.sheet.specs.declared.ReadSheet.{ReadSheet}
-use Rattle.sheet.specs.Words.{memoryOf}
-use Rattle.sheet.specs.Sheet.{readSheet, refusalText}
-use Rattle.report.specs.Report.{resultText, reportOver}
+use Rattle.sheet.specs.Words.{memory_of}
+use Rattle.sheet.specs.Sheet.{read_sheet, refusal_text}
+use Rattle.report.specs.Report.{result_text, report_over}
 use Rattle.respond.specs.Answered.{Answered}
 
 -- ---- the sheet s was read over a memory
-module _ (mem s : List ℕ) (h : ReadSheet) (e : h.refusal ≡ (readSheet s).refusal) where
-  pub report-refused : (h.refusal.question ≡ 0 → ⊥) → refusalText h.refusal.question h.refusal.lineno ≡ reportOver mem s
-  unfolding reportOver
-  report-refused n =
-      let y : (readSheet s).refusal.question ≡ 0 → ⊥ = λ z. n (ap (λ r. r.question) e ∙ z) in
-      ap (λ r. refusalText r.question r.lineno) e ∙ sym (rw (ne_eqb (readSheet s).refusal.question 0 y))
+module _ (mem s : List ℕ) (h : ReadSheet) (e : h.refusal ≡ (read_sheet s).refusal) where
+  pub report_refused : (h.refusal.question ≡ 0 → ⊥) → refusal_text h.refusal.question h.refusal.lineno ≡ report_over mem s
+  unfolding report_over
+  report_refused n =
+      let y : (read_sheet s).refusal.question ≡ 0 → ⊥ = λ z. n (ap (λ r. r.question) e ∙ z) in
+      ap (λ r. refusal_text r.question r.lineno) e ∙ sym (rw (ne_eqb (read_sheet s).refusal.question 0 y))
 
   -- it is run over the memory `filled`, which has its words
-  pub report-run : (filled last : List ℕ) (m : Machine) (r : Ran) → h.refusal.question ≡ 0 → h.setup ≡ (readSheet s).setup
-      → filled ≡ memoryOf mem (readSheet s).words → m ≡ machine_of h.setup → ranWith r last ≡ runCall m filled h.setup.budget
-      → resultText r ≡ reportOver mem s
-  unfolding reportOver
-  report-run filled last m r z t f g a =
-      let y : (readSheet s).refusal.question ≡ 0 = sym (ap (λ r. r.question) e) ∙ z in
-      ap (λ o. resultText o.result) a
-      ∙ ap (λ n. resultText (runCall n filled h.setup.budget).result) g
-      ∙ ap (λ k. resultText (runCall (machine_of k) filled k.budget).result) t
-      ∙ ap (λ k. resultText (runCall (machine_of (readSheet s).setup) k (readSheet s).setup.budget).result) f
-      ∙ sym (rw (eq-eqb (readSheet s).refusal.question 0 y))
+  pub report_run : (filled last : List ℕ) (m : Machine) (r : Ran) → h.refusal.question ≡ 0 → h.setup ≡ (read_sheet s).setup
+      → filled ≡ memory_of mem (read_sheet s).words → m ≡ machine_of h.setup → ran_with r last ≡ run_call m filled h.setup.budget
+      → result_text r ≡ report_over mem s
+  unfolding report_over
+  report_run filled last m r z t f g a =
+      let y : (read_sheet s).refusal.question ≡ 0 = sym (ap (λ r. r.question) e) ∙ z in
+      ap (λ o. result_text o.result) a
+      ∙ ap (λ n. result_text (run_call n filled h.setup.budget).result) g
+      ∙ ap (λ k. result_text (run_call (machine_of k) filled k.budget).result) t
+      ∙ ap (λ k. result_text (run_call (machine_of (read_sheet s).setup) k (read_sheet s).setup.budget).result) f
+      ∙ sym (rw (eq-eqb (read_sheet s).refusal.question 0 y))
 
 -- ---- a text was written from the start of a buffer that has room for it
 pub answered : (old text new : List ℕ) (r : ℕ) → Wrote old 0 text new r → r ≤ length old
@@ -45,6 +45,6 @@ pub answered : (old text new : List ℕ) (r : ℕ) → Wrote old 0 text new r �
 answered old text new r w h =
     let same : length new ≡ length old = ap length w.stored ∙ length-sets old 0 text in
     let le : r ≤ length new = omega arith in (
-      record { counted = omega (arith, w.after); holds = wrote-parts old 0 text new r (omega (arith, w.after)) w },
+      record { counted = omega (arith, w.after); holds = wrote_parts old 0 text new r (omega (arith, w.after)) w },
       (le, sym (length-take-le r new le)),
     )

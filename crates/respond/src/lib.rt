@@ -2,7 +2,7 @@
 #![tactic(auto)]
 
 ghost use Rattle.std.specs.Prelude.{◌≡◌, ◌≤◌, length, take};
-ghost use Rattle.report.specs.Report.{report, reportOver};
+ghost use Rattle.report.specs.Report.{report, report_over};
 ghost use Rattle.respond.specs.Answered.{Answered};
 
 use report::put_result;
@@ -16,7 +16,7 @@ pub const MOST: usize = 1373;
 // Reads the sheet over a memory, runs it there and writes the report, from the buffer's start on.
 fn respond_over(input: &[u8], output: &mut [u8], mem: &mut [u8; 65536]) -> usize
     requires { 1373 ≤ length output.old }
-    ensures answered { Answered output.old (reportOver mem.old input.now) output.new result }
+    ensures answered { Answered output.old (report_over mem.old input.now) output.new result }
     ensures upper_bound { (result ≤ length output.new) × (result ≡ length (take result output.new)) }
 {
     let sheet = read_sheet(input, mem);

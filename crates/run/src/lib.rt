@@ -2,9 +2,9 @@
 #![tactic(auto)]
 
 ghost use Rattle.std.specs.Prelude.{◌≡◌};
-ghost use Rattle.model.specs.Machine.{inside as isInside};
-ghost use Rattle.model.specs.Run.{run as run_of, ranWith, runCall};
-ghost use Rattle.hart.specs.State.{regionsOf, stateWith, hart};
+ghost use Rattle.model.specs.Machine.{inside as is_inside};
+ghost use Rattle.model.specs.Run.{run as run_of, ran_with, run_call};
+ghost use Rattle.hart.specs.State.{regions_of, state_with, hart};
 
 use hart::regions::{REGION_NUMBERS, numbers_of};
 use hart::state::{Control, control_of, inside, state_of};
@@ -58,8 +58,8 @@ fn run(
     mem: &mut [u8],
     budget: u64,
 ) -> Ran
-    requires { stateWith control (regionsOf numbers) ≡ m.hfi }
-    ensures { ranWith result mem.new ≡ run_of (isInside m.hfi) budget 0 m mem.old }
+    requires { state_with control (regions_of numbers) ≡ m.hfi }
+    ensures { ran_with result mem.new ≡ run_of (is_inside m.hfi) budget 0 m mem.old }
 {
     let mut x = m.x;
     let mut pc = m.pc;
@@ -83,9 +83,9 @@ fn run(
 }
 
 // A run of any machine over any memory, with any budget.
-#[tactic(auto, unfolding(model::specs::Run::runCall))]
+#[tactic(auto, unfolding(model::specs::Run::run_call))]
 pub fn run_call(m: Machine, mem: &mut [u8], budget: u64) -> Ran
-    ensures { ranWith result mem.new ≡ runCall m mem.old budget }
+    ensures { ran_with result mem.new ≡ run_call m mem.old budget }
 {
     if LONGEST < mem.len() {
         return refused(1, m);
@@ -96,7 +96,7 @@ pub fn run_call(m: Machine, mem: &mut [u8], budget: u64) -> Ran
     if !well_formed(m) {
         return refused(3, m);
     }
-    // Once is enough: no step brings it about (`run-is-step-calls` in model/proofs/Runs.antt).
+    // Once is enough: no step brings it about (`run_is_step_calls` in model/proofs/Runs.antt).
     let h = m.hfi;
     let hfi = control_of(h);
     let regions = h.regions;

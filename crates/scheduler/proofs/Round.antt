@@ -9,7 +9,7 @@ use lib.Dec.{leb, ltb}
 use borrow.Author.Tests.{leb-true, leb-false, ltb-true, ltb-false, le-leb}
 use Rattle.instructions.proofs.Tests.{and_both}
 use Rattle.model.proofs.Moves.{clash}
-use Rattle.scheduler.specs.Turn.{within, slot, stopped, place_in, following, firstUnstopped}
+use Rattle.scheduler.specs.Turn.{within, slot, stopped, place_in, following, first_unstopped}
 use Rattle.scheduler.specs.declared.Slot.{Slot}
 
 -- from m on and round, how many numbers stand before n
@@ -37,15 +37,15 @@ data Following (count n : ℕ) : ℕ → Type 0 where
   one_on : n < count → Following count n (suc n)
   first : count ≤ n → Following count n 1
 
-following-is : (count n : ℕ) → Following count n (following count n)
-following-is count n = go (ltb n count) refl
+following_is : (count n : ℕ) → Following count n (following count n)
+following_is count n = go (ltb n count) refl
   where
     go : (b : Bool) → ltb n count ≡ b → Following count n (cond b (suc n) 1)
     go true e = one_on (ltb-true n count e)
     go false e = first (ltb-false n count e)
 
-pub following-numbered : (count n : ℕ) → Numbered count n → Numbered count (following count n)
-following-numbered count n p = go (following-is count n)
+pub following_numbered : (count n : ℕ) → Numbered count n → Numbered count (following count n)
+following_numbered count n p = go (following_is count n)
   where
     go : {f : ℕ} → Following count n f → Numbered count f
     go (one_on h) = record { low = omega arith; high = h }
@@ -54,17 +54,17 @@ following-numbered count n p = go (following-is count n)
 -- ---- distances
 
 module _ (count m n : ℕ) (p : Numbered count m) (q : Numbered count n) where
-  pub distance-below : distance count m n < count
-  distance-below = go (distance_is count m n p)
+  pub distance_below : distance count m n < count
+  distance_below = go (distance_is count m n p)
     where
       go : {d : ℕ} → Distance count m n d → d < count
       go (ahead d e) = omega (arith, e, p.low, q.high)
       go (round d e h) = omega (arith, e, h)
 
   -- a number nearer than n is passed: the rest of the way to n is from the number after it
-  pub distance-past : (r : ℕ) → Numbered count r → distance count m r < distance count m n
+  pub distance_past : (r : ℕ) → Numbered count r → distance count m r < distance count m n
       → distance count m n ≡ distance count m r + suc (distance count (following count r) n)
-  distance-past r k = go (distance_is count m n p) (distance_is count m r p) (following-is count r)
+  distance_past r k = go (distance_is count m n p) (distance_is count m r p) (following_is count r)
     where
       last : {d c f : ℕ} → Distance count m n d → Distance count m r c → Following count r f → c < d → {e : ℕ} → Distance count f n e → d ≡ c + suc e
       last (ahead d a) (ahead c b) (one_on h) l (ahead e g) = omega (arith, a, b, g)
@@ -92,8 +92,8 @@ distance_self count m p = go (distance_is count m m p)
     go (round d a j) = absurd (omega (arith, j))
 
 -- two numbers as far away are one
-pub distance-one : (count m n k : ℕ) → Numbered count m → Numbered count n → Numbered count k → distance count m n ≡ distance count m k → n ≡ k
-distance-one count m n k p q r = go (distance_is count m n p) (distance_is count m k p)
+pub distance_one : (count m n k : ℕ) → Numbered count m → Numbered count n → Numbered count k → distance count m n ≡ distance count m k → n ≡ k
+distance_one count m n k p q r = go (distance_is count m n p) (distance_is count m k p)
   where
     go : {d c : ℕ} → Distance count m n d → Distance count m k c → d ≡ c → n ≡ k
     go (ahead d a) (ahead c b) e = omega (arith, a, b, e)
@@ -102,8 +102,8 @@ distance-one count m n k p q r = go (distance_is count m n p) (distance_is count
     go (round d a j) (round c b i) e = omega (arith, a, b, e)
 
 -- from the number after k on, k is the last
-pub distance-last : (count n k : ℕ) → Numbered count n → Numbered count k → (n ≡ k → ⊥) → distance count (following count k) n < distance count (following count k) k
-distance-last count n k p q ne = go (following-is count k)
+pub distance_last : (count n k : ℕ) → Numbered count n → Numbered count k → (n ≡ k → ⊥) → distance count (following count k) n < distance count (following count k) k
+distance_last count n k p q ne = go (following_is count k)
   where
     far : {f : ℕ} → Following count k f → {d c : ℕ} → Distance count f n d → Distance count f k c → d < c
     far (one_on h) (ahead d a) (ahead c b) = absurd (omega (arith, b))
@@ -131,11 +131,11 @@ pub record Found (ds : List Slot) (count m n r : ℕ) : Type 0 where
   pub near : distance count m r ≤ distance count m n
 
 pub first_found : (ds : List Slot) (count k m n : ℕ) → Numbered count m → Numbered count n → stopped (slot ds n) ≡ false → distance count m n < k
-    → Found ds count m n (firstUnstopped ds count k m)
-unfolding firstUnstopped
+    → Found ds count m n (first_unstopped ds count k m)
+unfolding first_unstopped
 first_found ds count zero m n p q u l = absurd (omega (arith, l))
 first_found ds count (suc k) m n p q u l =
-    go (stopped (slot ds m)) refl (λ f. first_found ds count k (following count m) n (following-numbered count m p) q u f)
+    go (stopped (slot ds m)) refl (λ f. first_found ds count k (following count m) n (following_numbered count m p) q u f)
   where
     apart : stopped (slot ds m) ≡ true → (i : ℕ) → stopped (slot ds i) ≡ false → m ≡ i → ⊥
     apart e i v same = clash v (ap (λ j. stopped (slot ds j)) (sym same) ∙ e)
@@ -144,67 +144,67 @@ first_found ds count (suc k) m n p q u l =
     past e i j v =
         let z = distance_self count m p in
         let h : distance count m m < distance count m i = step i j v z in
-        distance-past count m i p j m p h ∙ omega (arith, z)
+        distance_past count m i p j m p h ∙ omega (arith, z)
       where
         step : (i : ℕ) → Numbered count i → stopped (slot ds i) ≡ false → distance count m m ≡ 0 → distance count m m < distance count m i
         step i j v z = below (distance count m i) refl
           where
             below : (d : ℕ) → distance count m i ≡ d → distance count m m < distance count m i
-            below zero g = absurd (apart e i v (distance-one count m m i p p j (z ∙ sym g)))
+            below zero g = absurd (apart e i v (distance_one count m m i p p j (z ∙ sym g)))
             below (suc d) g = omega (arith, g, z)
 
     go : (b : Bool) → stopped (slot ds m) ≡ b
-        → (distance count (following count m) n < k → Found ds count (following count m) n (firstUnstopped ds count k (following count m)))
-        → Found ds count m n (cond b (firstUnstopped ds count k (following count m)) m)
+        → (distance count (following count m) n < k → Found ds count (following count m) n (first_unstopped ds count k (following count m)))
+        → Found ds count m n (cond b (first_unstopped ds count k (following count m)) m)
     go false e h = record { numbered = p; unstopped = e; near = let z = distance_self count m p in omega (arith, z) }
     go true e h =
         let s = past e n q u in
         let f = h (omega (arith, s, l)) in
-        let t = past e (firstUnstopped ds count k (following count m)) f.numbered f.unstopped in
+        let t = past e (first_unstopped ds count k (following count m)) f.numbered f.unstopped in
         record { numbered = f.numbered; unstopped = f.unstopped; near = let g = f.near in omega (arith, s, t, g) }
 
 -- what is found at all is one of the slots, and is not stopped
-pub found-unstopped : (ds : List Slot) (count k m : ℕ) → Numbered count m → (firstUnstopped ds count k m ≡ 0 → ⊥)
-    → Numbered count (firstUnstopped ds count k m) × (stopped (slot ds (firstUnstopped ds count k m)) ≡ false)
-unfolding firstUnstopped
-found-unstopped ds count zero m p n = absurd (n refl)
-found-unstopped ds count (suc k) m p n = go (stopped (slot ds m)) refl (found-unstopped ds count k (following count m) (following-numbered count m p)) n
+pub found_unstopped : (ds : List Slot) (count k m : ℕ) → Numbered count m → (first_unstopped ds count k m ≡ 0 → ⊥)
+    → Numbered count (first_unstopped ds count k m) × (stopped (slot ds (first_unstopped ds count k m)) ≡ false)
+unfolding first_unstopped
+found_unstopped ds count zero m p n = absurd (n refl)
+found_unstopped ds count (suc k) m p n = go (stopped (slot ds m)) refl (found_unstopped ds count k (following count m) (following_numbered count m p)) n
   where
     go : (b : Bool) → stopped (slot ds m) ≡ b
-        → ((firstUnstopped ds count k (following count m) ≡ 0 → ⊥)
-        → Numbered count (firstUnstopped ds count k (following count m)) × (stopped (slot ds (firstUnstopped ds count k (following count m))) ≡ false))
-        → (cond b (firstUnstopped ds count k (following count m)) m ≡ 0 → ⊥)
-        → Numbered count (cond b (firstUnstopped ds count k (following count m)) m) × (stopped (slot ds (cond b (firstUnstopped ds count k (following count m)) m)) ≡ false)
+        → ((first_unstopped ds count k (following count m) ≡ 0 → ⊥)
+        → Numbered count (first_unstopped ds count k (following count m)) × (stopped (slot ds (first_unstopped ds count k (following count m))) ≡ false))
+        → (cond b (first_unstopped ds count k (following count m)) m ≡ 0 → ⊥)
+        → Numbered count (cond b (first_unstopped ds count k (following count m)) m) × (stopped (slot ds (cond b (first_unstopped ds count k (following count m)) m)) ≡ false)
     go true e h f = h f
     go false e h f = (p, e)
 
 -- ---- for the loop
 
-pub first-none : (ds : List Slot) (count k n : ℕ) → k ≤ 0 → firstUnstopped ds count k n ≡ 0
-unfolding firstUnstopped
-first-none ds count k n h = let e : k ≡ 0 = omega arith in rw e refl
+pub first_none : (ds : List Slot) (count k n : ℕ) → k ≤ 0 → first_unstopped ds count k n ≡ 0
+unfolding first_unstopped
+first_none ds count k n h = let e : k ≡ 0 = omega arith in rw e refl
 
-pub first-here : (ds : List Slot) (count k n : ℕ) → 0 < k → stopped (slot ds n) ≡ false → firstUnstopped ds count k n ≡ n
-unfolding firstUnstopped
-first-here ds count k n h u = let e : k ≡ suc (k - 1) = omega arith in ap (λ i. firstUnstopped ds count i n) e ∙ rw u refl
+pub first_here : (ds : List Slot) (count k n : ℕ) → 0 < k → stopped (slot ds n) ≡ false → first_unstopped ds count k n ≡ n
+unfolding first_unstopped
+first_here ds count k n h u = let e : k ≡ suc (k - 1) = omega arith in ap (λ i. first_unstopped ds count i n) e ∙ rw u refl
 
-pub first_on : (ds : List Slot) (count k n : ℕ) → 0 < k → stopped (slot ds n) ≡ true → firstUnstopped ds count k n ≡ firstUnstopped ds count (k - 1) (following count n)
-unfolding firstUnstopped
-first_on ds count k n h u = let e : k ≡ suc (k - 1) = omega arith in ap (λ i. firstUnstopped ds count i n) e ∙ rw u refl
+pub first_on : (ds : List Slot) (count k n : ℕ) → 0 < k → stopped (slot ds n) ≡ true → first_unstopped ds count k n ≡ first_unstopped ds count (k - 1) (following count n)
+unfolding first_unstopped
+first_on ds count k n h u = let e : k ≡ suc (k - 1) = omega arith in ap (λ i. first_unstopped ds count i n) e ∙ rw u refl
 
 -- ---- the place
 
-pub within-numbered : (count n : ℕ) → within count n ≡ true → Numbered count n
-within-numbered count n e = let t = and_both (leb 1 n) (leb n count) e in record { low = leb-true 1 n t.0; high = leb-true n count t.1 }
+pub within_numbered : (count n : ℕ) → within count n ≡ true → Numbered count n
+within_numbered count n e = let t = and_both (leb 1 n) (leb n count) e in record { low = leb-true 1 n t.0; high = leb-true n count t.1 }
 
 pub numbered_within : (count n : ℕ) → Numbered count n → within count n ≡ true
 numbered_within count n p = rw (le-leb 1 n p.low) (le-leb n count p.high)
 
-pub place-numbered : (count place : ℕ) → 1 ≤ count → Numbered count (place_in count place)
-place-numbered count place h = go (within count place) refl
+pub place_numbered : (count place : ℕ) → 1 ≤ count → Numbered count (place_in count place)
+place_numbered count place h = go (within count place) refl
   where
     go : (b : Bool) → within count place ≡ b → Numbered count (cond b place 1)
-    go true e = within-numbered count place e
+    go true e = within_numbered count place e
     go false e = record { low = omega arith; high = h }
 
 pub place_same : (count place : ℕ) → Numbered count place → place_in count place ≡ place

@@ -6,10 +6,10 @@ use Prim.Native.Nat.{ℕ, ◌%◌, ◌<◌, ◌^◌}
 use native.Mathlib.Omega.{arith}
 use Rattle.model.specs.Machine.{sum}
 use Rattle.scheduler.specs.Turn.{Left}
-use Rattle.scheduler.specs.Turns.{Given, left, State, after, afterAll, in_turn}
+use Rattle.scheduler.specs.Turns.{Given, left, State, after, after_all, in_turn}
 use Rattle.scheduler.specs.Total.{SameTotal, counts, Total}
 use Rattle.scheduler.specs.declared.Slot.{Slot}
-use Rattle.scheduler.proofs.Turns.{in_turn-follows}
+use Rattle.scheduler.proofs.Turns.{in_turn_follows}
 use Rattle.scheduler.proofs.Turn.{Turn, turn_is}
 use Rattle.scheduler.proofs.Turn.Turn.{none, took}
 
@@ -34,10 +34,10 @@ total p (g ∷ gs) h f =
     rest ∙ omega (arith, one, same)
 
 -- "The reported total starts at 0": of a main loop that changes nothing, whatever the allowances
-pub total-in_turn : (p : State) (allowances : List ℕ) → p.scheduler.total ≡ 0
-    → (afterAll p (in_turn p allowances)).scheduler.total ≡ counts (in_turn p allowances) % 2 ^ 64
-total-in_turn p allowances z =
-    let e = total p (in_turn p allowances) (omega (arith, z)) (in_turn-follows SameTotal (λ q. record { total = refl }) p allowances) in
+pub total_in_turn : (p : State) (allowances : List ℕ) → p.scheduler.total ≡ 0
+    → (after_all p (in_turn p allowances)).scheduler.total ≡ counts (in_turn p allowances) % 2 ^ 64
+total_in_turn p allowances z =
+    let e = total p (in_turn p allowances) (omega (arith, z)) (in_turn_follows SameTotal (λ q. record { total = refl }) p allowances) in
     e ∙ omega (arith, z)
 
 -- all that the main loop may change: everything else

@@ -2,7 +2,7 @@
 -- Assumes nothing.
 use Rattle.std.specs.Prelude.{◌≡◌, List, [], ◌∷◌, ℕ, ◌+◌, ◌<◌, ◌^◌}
 use Rattle.model.specs.Machine.{sum}
-use Rattle.scheduler.specs.Turns.{Given, left, State, Follow, afterAll}
+use Rattle.scheduler.specs.Turns.{Given, left, State, Follow, after_all}
 
 -- each turn gets the total that the last one left; all else may be any
 pub record SameTotal (p q : State) : Type 0 where
@@ -15,4 +15,4 @@ counts (g ∷ gs) = (left g).result.count + counts gs
 
 abbrev pub Total : Type 0
 Total = (p : State) (gs : List Given) → p.scheduler.total < 2 ^ 64 → Follow SameTotal p gs
-    → (afterAll p gs).scheduler.total ≡ sum p.scheduler.total (counts gs)
+    → (after_all p gs).scheduler.total ≡ sum p.scheduler.total (counts gs)

@@ -2,11 +2,11 @@
 -- is a slot here.
 -- Slot, Scheduler, Turned and Put are declared in src/lib.rt, Machine in model/src/lib.rt. Assumes nothing.
 use Rattle.std.specs.Prelude.{Bool, true, false, cond, not, ◌&&◌, ◌||◌, List, ℕ, zero, suc, ◌-◌, eqb, leb, ltb, length, get_or, set, replicate}
-use Rattle.model.specs.Machine.{sum, locked, zeroRegions}
-use Rattle.model.specs.WellFormed.{wellFormed}
-use Rattle.model.specs.WritableCode.{exposesCode}
+use Rattle.model.specs.Machine.{sum, locked, zero_regions}
+use Rattle.model.specs.WellFormed.{well_formed}
+use Rattle.model.specs.WritableCode.{exposes_code}
 use Rattle.model.specs.Step.{longest}
-use Rattle.model.specs.Run.{runCall}
+use Rattle.model.specs.Run.{run_call}
 use Rattle.model.specs.declared.Machine.{Machine}
 use Rattle.model.specs.declared.Ran.{Ran}
 use Rattle.scheduler.specs.declared.Slot.{Slot}
@@ -15,11 +15,11 @@ use Rattle.scheduler.specs.declared.Turned.{Turned}
 use Rattle.scheduler.specs.declared.Put.{Put}
 
 -- "Take 1 to 4 machines and a step allowance of 1 to 10,000."
-abbrev pub mostSlots : ℕ
-mostSlots = 4
+abbrev pub most_slots : ℕ
+most_slots = 4
 
-abbrev pub largestAllowance : ℕ
-largestAllowance = 10000
+abbrev pub largest_allowance : ℕ
+largest_allowance = 10000
 
 abbrev pub within : ℕ → ℕ → Bool
 within most n = leb 1 n && leb n most
@@ -40,7 +40,7 @@ no_slot =
           options = 0;
           handler = 0;
           selector = 0;
-          regions = zeroRegions;
+          regions = zero_regions;
           fault = record { occurred = 0; region = 0; op = 0; address = 0 };
         };
       };
@@ -67,32 +67,32 @@ abbrev pub following : ℕ → ℕ → ℕ
 following count n = cond (ltb n count) (suc n) 1
 
 -- the first of k slots that is not stopped, from n on and round; 0 if there is none
-unfoldable pub firstUnstopped : List Slot → ℕ → ℕ → ℕ → ℕ
-firstUnstopped ds count zero n = 0
-firstUnstopped ds count (suc k) n = cond (stopped (slot ds n)) (firstUnstopped ds count k (following count n)) n
+unfoldable pub first_unstopped : List Slot → ℕ → ℕ → ℕ → ℕ
+first_unstopped ds count zero n = 0
+first_unstopped ds count (suc k) n = cond (stopped (slot ds n)) (first_unstopped ds count k (following count n)) n
 
 -- "the first deck not stopped, from the place on and round to the first": each of the slots is asked once
-abbrev pub nextSlot : Scheduler → ℕ
-nextSlot s = firstUnstopped s.slots s.count s.count (place_in s.count s.place)
+abbrev pub next_slot : Scheduler → ℕ
+next_slot s = first_unstopped s.slots s.count s.count (place_in s.count s.place)
 
 -- ---- refusals: a number, or 0 for none
 
 -- "stopped ones left out, 3, 4, 52": "52, a machine that isn't in locked HFI mode"
-unfoldable pub slotRefusal : Slot → ℕ
-slotRefusal d =
+unfoldable pub slot_refusal : Slot → ℕ
+slot_refusal d =
     cond (stopped d) 0
-    (cond (wellFormed d.machine) (cond (exposesCode d.machine.hfi) 4 (cond (locked d.machine.hfi) 0 52)) 3)
+    (cond (well_formed d.machine) (cond (exposes_code d.machine.hfi) 4 (cond (locked d.machine.hfi) 0 52)) 3)
 
 -- "deck by deck": k slots from n on
-unfoldable pub slotsRefusal : List Slot → ℕ → ℕ → ℕ
-slotsRefusal ds zero n = 0
-slotsRefusal ds (suc k) n = let r = slotRefusal (slot ds n) in cond (eqb r 0) (slotsRefusal ds k (suc n)) r
+unfoldable pub slots_refusal : List Slot → ℕ → ℕ → ℕ
+slots_refusal ds zero n = 0
+slots_refusal ds (suc k) n = let r = slot_refusal (slot ds n) in cond (eqb r 0) (slots_refusal ds k (suc n)) r
 
 -- "Refused: 50, the deck count; 51, the allowance; .. the order is 1, 50, 51, then deck by deck from 1"
 unfoldable pub refusal : Scheduler → ℕ → ℕ → ℕ
 refusal s size allowance =
     cond (ltb longest size) 1
-    (cond (within mostSlots s.count) (cond (within largestAllowance allowance) (slotsRefusal s.slots s.count 1) 51) 50)
+    (cond (within most_slots s.count) (cond (within largest_allowance allowance) (slots_refusal s.slots s.count 1) 51) 50)
 
 -- ---- the turn
 
@@ -102,12 +102,12 @@ pub record Left : Type 0 where
   pub memory : List ℕ
 
 -- the answer of a call, and the memory after it
-abbrev pub turnedWith : Turned → List ℕ → Left
-turnedWith r mem = record { result = r; memory = mem }
+abbrev pub turned_with : Turned → List ℕ → Left
+turned_with r mem = record { result = r; memory = mem }
 
 -- no run is made: "deck, count and address are then 0, and nothing has changed"
-abbrev pub noTurn : ℕ → Scheduler → Turned
-noTurn stop s = record { slot = 0; stop = stop; count = 0; address = 0; scheduler = s }
+abbrev pub no_turn : ℕ → Scheduler → Turned
+no_turn stop s = record { slot = 0; stop = stop; count = 0; address = 0; scheduler = s }
 
 -- "then the place becomes the deck after that one"; "each turn adds its run's count, modulo 2^64"
 abbrev pub advanced : Scheduler → ℕ → Ran → Scheduler
@@ -120,26 +120,26 @@ advanced s n r =
     }
 
 -- "It answers the deck and its run's stop, count and address."
-abbrev pub tookTurn : Scheduler → ℕ → Ran → Turned
-tookTurn s n r = record { slot = n; stop = r.stop; count = r.count; address = r.address; scheduler = advanced s n r }
+abbrev pub took_turn : Scheduler → ℕ → Ran → Turned
+took_turn s n r = record { slot = n; stop = r.stop; count = r.count; address = r.address; scheduler = advanced s n r }
 
 -- "A turn is one run, with the allowance as its budget": the run call of Run.antt. "With all decks stopped a turn makes no run, changes
 -- nothing and answers 0 for deck, stop, count and address."
-unfoldable pub turnCall : Scheduler → List ℕ → ℕ → Left
-turnCall s mem allowance =
+unfoldable pub turn_call : Scheduler → List ℕ → ℕ → Left
+turn_call s mem allowance =
     let r = refusal s (length mem) allowance in
-    let n = nextSlot s in
-    let e = runCall (slot s.slots n).machine mem allowance in
+    let n = next_slot s in
+    let e = run_call (slot s.slots n).machine mem allowance in
     cond (eqb r 0)
-    (cond (eqb n 0) (turnedWith (noTurn 0 s) mem) (turnedWith (tookTurn s n e.result) e.memory))
-    (turnedWith (noTurn r s) mem)
+    (cond (eqb n 0) (turned_with (no_turn 0 s) mem) (turned_with (took_turn s n e.result) e.memory))
+    (turned_with (no_turn r s) mem)
 
 -- ---- "until the main loop puts a machine there again"
 
 -- into slot n, which then has had no turn; a number that no slot has changes nothing
-unfoldable pub putCall : Scheduler → ℕ → Machine → Put
-putCall s n m =
-    cond (within mostSlots n)
+unfoldable pub put_call : Scheduler → ℕ → Machine → Put
+put_call s n m =
+    cond (within most_slots n)
     (record {
       done = true;
       scheduler = record {

@@ -1,7 +1,7 @@
 -- Turns one after another. The main loop may do anything between them; what it leaves alone is said by each theorem.
 -- Scheduler is declared in src/lib.rt, Left in Turn.antt. Assumes nothing.
 use Rattle.std.specs.Prelude.{cond, List, [], ◌∷◌, ℕ, eqb}
-use Rattle.scheduler.specs.Turn.{Left, turnCall}
+use Rattle.scheduler.specs.Turn.{Left, turn_call}
 use Rattle.scheduler.specs.declared.Scheduler.{Scheduler}
 
 -- what a turn is given
@@ -12,7 +12,7 @@ pub record Given : Type 0 where
 
 -- and what it leaves
 abbrev pub left : Given → Left
-left g = turnCall g.scheduler g.memory g.allowance
+left g = turn_call g.scheduler g.memory g.allowance
 
 -- between turns: a scheduler and a memory
 pub record State : Type 0 where
@@ -31,14 +31,14 @@ Follow Keeps p [] = Unit {0}
 Follow Keeps p (g ∷ gs) = Keeps p (before g) × Follow Keeps (after g) gs
 
 -- the state after the last of them
-abbrev pub afterAll : State → List Given → State
-afterAll p [] = p
-afterAll p (g ∷ gs) = afterAll (after g) gs
+abbrev pub after_all : State → List Given → State
+after_all p [] = p
+after_all p (g ∷ gs) = after_all (after g) gs
 
 -- slot n's turns among them
-unfoldable pub turnsOf : ℕ → List Given → List Given
-turnsOf n [] = []
-turnsOf n (g ∷ gs) = cond (eqb (left g).result.slot n) (g ∷ turnsOf n gs) (turnsOf n gs)
+unfoldable pub turns_of : ℕ → List Given → List Given
+turns_of n [] = []
+turns_of n (g ∷ gs) = cond (eqb (left g).result.slot n) (g ∷ turns_of n gs) (turns_of n gs)
 
 -- the turns, one for each allowance, of a main loop that changes nothing between them
 unfoldable pub in_turn : State → List ℕ → List Given

@@ -6,13 +6,13 @@ use Prim.Native.Nat.{ℕ}
 use lib.Dec.{eqb}
 use lib.ListN.{replicate}
 use Rattle.text.specs.Ascii.{ascii}
-use Rattle.text.specs.Split.{split, row_of, allWide}
+use Rattle.text.specs.Split.{split, row_of, all_wide}
 use Rattle.text.specs.Number.{spelled}
-use Rattle.model.specs.Machine.{noRegion}
-use Rattle.setup.specs.Setup.{permissionsInRange, setupRow, readSetup}
+use Rattle.model.specs.Machine.{no_region}
+use Rattle.setup.specs.Setup.{permissions_in_range, setup_row, read_setup}
 
 -- "13 fields, the other regions then being zero"
-pub example-setup : (readSetup (setupRow (ascii "0,5,100,200,10,3,0,0,0,0,fffffffffffffff0,4,a"))).setup
+pub example_setup : (read_setup (setup_row (ascii "0,5,100,200,10,3,0,0,0,0,fffffffffffffff0,4,a"))).setup
     ≡ record {
       pc = 0;
       options = 5;
@@ -21,11 +21,11 @@ pub example-setup : (readSetup (setupRow (ascii "0,5,100,200,10,3,0,0,0,0,ffffff
           record { base = 0x200; bound = 0x10; permission = 3 }
           ∷ record { base = 0; bound = 0; permission = 0 }
           ∷ record { base = 0; bound = 0xfffffffffffffff0; permission = 4 }
-          ∷ replicate 7 noRegion;
+          ∷ replicate 7 no_region;
       budget = 10;
     }
-unfolding readSetup row_of split spelled
-example-setup = refl
+unfolding read_setup row_of split spelled
+example_setup = refl
 
 -- ---- "34, with regions 1 to 10 in order and the budget last" (02, Job 7)
 
@@ -39,7 +39,7 @@ six = ascii ",41,42,43,51,52,53,61,62,63,71,72,73,81,82,83,91,92,93"
 abbrev ten : List ℕ
 ten = ascii ",a1,a2,a3"
 
-pub ten-regions : (readSetup (setupRow (three ++ six ++ ten ++ ascii ",a"))).setup
+pub ten_regions : (read_setup (setup_row (three ++ six ++ ten ++ ascii ",a"))).setup
     ≡ record {
       pc = 0;
       options = 5;
@@ -58,8 +58,8 @@ pub ten-regions : (readSetup (setupRow (three ++ six ++ ten ++ ascii ",a"))).set
           ∷ [];
       budget = 10;
     }
-unfolding readSetup row_of split spelled
-ten-regions = refl
+unfolding read_setup row_of split spelled
+ten_regions = refl
 
 -- line 1, and the question that it fails first
 abbrev pub questions : List (List ℕ × ℕ)
@@ -96,13 +96,13 @@ questions =
     ∷ (ascii "0,100,100,200,10,3,0,0,0,0,,4,a", 33)
     ∷ []
 
-abbrev pub allQuestions : List (List ℕ × ℕ) → Bool
-allQuestions [] = true
-allQuestions (q ∷ qs) = eqb (readSetup (setupRow q.0)).question q.1 && allQuestions qs
+abbrev pub all_questions : List (List ℕ × ℕ) → Bool
+all_questions [] = true
+all_questions (q ∷ qs) = eqb (read_setup (setup_row q.0)).question q.1 && all_questions qs
 
-pub questions-hold : allQuestions questions ≡ true
-unfolding readSetup row_of split spelled allWide permissionsInRange
-questions-hold = refl
+pub questions_hold : all_questions questions ≡ true
+unfolding read_setup row_of split spelled all_wide permissions_in_range
+questions_hold = refl
 
 -- ---- the digits of the budget in line 1, and the budget: "An empty budget now means 50,000." (02, Job 4)
 abbrev pub budgets : List (List ℕ × ℕ)
@@ -116,10 +116,10 @@ budgets =
     ∷ (ascii "ffffffff", 0xffffffff)
     ∷ []
 
-abbrev pub allBudgets : List ℕ → List (List ℕ × ℕ) → Bool
-allBudgets before [] = true
-allBudgets before (b ∷ bs) = eqb (readSetup (setupRow (before ++ ascii "," ++ b.0))).setup.budget b.1 && allBudgets before bs
+abbrev pub all_budgets : List ℕ → List (List ℕ × ℕ) → Bool
+all_budgets before [] = true
+all_budgets before (b ∷ bs) = eqb (read_setup (setup_row (before ++ ascii "," ++ b.0))).setup.budget b.1 && all_budgets before bs
 
-pub budgets-hold : (allBudgets three budgets ≡ true) × (allBudgets (three ++ six ++ ten) budgets ≡ true)
-unfolding readSetup row_of split spelled
-budgets-hold = (refl, refl)
+pub budgets_hold : (all_budgets three budgets ≡ true) × (all_budgets (three ++ six ++ ten) budgets ≡ true)
+unfolding read_setup row_of split spelled
+budgets_hold = (refl, refl)

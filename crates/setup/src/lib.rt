@@ -2,8 +2,8 @@
 #![tactic(auto)]
 
 ghost use Rattle.std.specs.Prelude.{◌≡◌, ◌++◌, ◌+◌, ◌-◌, ◌*◌, ◌≤◌, length, replicate};
-ghost use Rattle.model.specs.Machine.{lastRegion, noRegion, regionsFrom};
-ghost use Rattle.setup.specs.Setup.{regionsGiven, permissionsInRange, setupRow, readSetup, machine_of};
+ghost use Rattle.model.specs.Machine.{last_region, no_region, regions_from};
+ghost use Rattle.setup.specs.Setup.{regions_given, permissions_in_range, setup_row, read_setup, machine_of};
 
 use model::{Fault, HfiState, Machine, REGIONS, Region};
 use text::ask;
@@ -39,8 +39,8 @@ pub struct ReadSetup {
 
 // How many regions a line of so many fields gives.
 fn regions_given(count: usize) -> usize
-    ensures value { result ≡ regionsGiven count }
-    ensures upper_bound { result ≤ lastRegion }
+    ensures value { result ≡ regions_given count }
+    ensures upper_bound { result ≤ last_region }
 {
     if count == SHORT_FORM {
         FEW_REGIONS
@@ -51,8 +51,8 @@ fn regions_given(count: usize) -> usize
 
 // The regions, of which the first n are in the values from place `first` on; the others are zero.
 pub fn regions_from(values: &[u64], first: usize, n: usize) -> [Region; REGIONS]
-    requires { (n ≤ lastRegion) × (first + 3 * n ≤ length values.now) }
-    ensures { result ≡ regionsFrom values.now first n ++ replicate (lastRegion - n) noRegion }
+    requires { (n ≤ last_region) × (first + 3 * n ≤ length values.now) }
+    ensures { result ≡ regions_from values.now first n ++ replicate (last_region - n) no_region }
 {
     let none = Region {
         base: 0,
@@ -75,7 +75,7 @@ pub fn regions_from(values: &[u64], first: usize, n: usize) -> [Region; REGIONS]
 
 // Are all permissions at most ff?
 fn permissions_in_range(rs: [Region; REGIONS]) -> bool
-    ensures { result ≡ permissionsInRange rs }
+    ensures { result ≡ permissions_in_range rs }
 {
     let mut i = 0;
     while i < REGIONS {
@@ -90,7 +90,7 @@ fn permissions_in_range(rs: [Region; REGIONS]) -> bool
 
 // The line is taken apart once. Every test is worked out, and the first no is picked from the answers.
 pub fn read_setup(line: &[u8]) -> ReadSetup
-    ensures { result ≡ readSetup (setupRow line.now) }
+    ensures { result ≡ read_setup (setup_row line.now) }
 {
     let mut values = [0u64; LONG_FORM];
     let mut widths = [0u64; LONG_FORM];

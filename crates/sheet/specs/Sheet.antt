@@ -2,14 +2,14 @@
 -- Refusal is declared in src/lib.rt, Setup in setup/src/lib.rt, WordLine in Words.antt. Assumes nothing.
 use Rattle.std.specs.Prelude.{Bool, cond, not, ◌&&◌, ◌||◌, List, [], ◌∷◌, ◌++◌, ℕ, ◌+◌, ◌-◌, eqb, leb, length, get_or, drop}
 use Rattle.text.specs.Ascii.{ascii}
-use Rattle.text.specs.Scan.{newline, comma, firstThat, lineNumber}
-use Rattle.text.specs.Number.{isDigit, decimal}
+use Rattle.text.specs.Scan.{newline, comma, first_that, line_number}
+use Rattle.text.specs.Number.{is_digit, decimal}
 use Rattle.text.specs.Split.{lines, row_of}
-use Rattle.text.specs.Questions.{firstNo}
+use Rattle.text.specs.Questions.{first_no}
 use Rattle.setup.specs.declared.Setup.{Setup}
-use Rattle.setup.specs.Setup.{setupRow, readSetup}
+use Rattle.setup.specs.Setup.{setup_row, read_setup}
 use Rattle.sheet.specs.declared.Refusal.{Refusal}
-use Rattle.sheet.specs.Words.{WordLine, words_of, readWord}
+use Rattle.sheet.specs.Words.{WordLine, words_of, read_word}
 
 -- a question that is answered no, and the line that it is asked of; the question 0 refuses nothing
 abbrev pub refusal : ℕ → ℕ → Refusal
@@ -23,44 +23,44 @@ whole s = leb 1 (length s) && (leb (length s) 65536 && eqb (get_or s (length s -
 
 -- "a digit 0-9, a-f, comma or 0a", or else foreign to a sheet
 abbrev pub foreign : ℕ → Bool
-foreign b = not (isDigit b || (eqb b comma || eqb b newline))
+foreign b = not (is_digit b || (eqb b comma || eqb b newline))
 
 -- 31 asks whether the first foreign byte stands past the end
-abbrev pub fileQuestions : List ℕ → List (Bool × ℕ)
-fileQuestions s = (whole s, 30) ∷ (eqb (firstThat foreign s) (length s), 31) ∷ []
+abbrev pub file_questions : List ℕ → List (Bool × ℕ)
+file_questions s = (whole s, 30) ∷ (eqb (first_that foreign s) (length s), 31) ∷ []
 
-unfoldable pub fileNo : List ℕ → ℕ
-fileNo s = firstNo (fileQuestions s)
+unfoldable pub file_no : List ℕ → ℕ
+file_no s = first_no (file_questions s)
 
 -- "for 31 the line of the first such byte"; 0 where there is none
-abbrev pub foreignLine : List ℕ → ℕ
-foreignLine s = cond (eqb (firstThat foreign s) (length s)) 0 (lineNumber s (firstThat foreign s))
+abbrev pub foreign_line : List ℕ → ℕ
+foreign_line s = cond (eqb (first_that foreign s) (length s)) 0 (line_number s (first_that foreign s))
 
 -- "0 for 30"
-abbrev pub fileRefusal : List ℕ → Refusal
-fileRefusal s = refusal (fileNo s) (cond (eqb (fileNo s) 31) (foreignLine s) 0)
+abbrev pub file_refusal : List ℕ → Refusal
+file_refusal s = refusal (file_no s) (cond (eqb (file_no s) 31) (foreign_line s) 0)
 
 -- ---- "Then line by line". A line's number is that of its first byte's position: "one more than the number of 0a bytes before
 -- that line" (02, Job 3)
 
 -- the word lines of sheet s, of which the first begins at position `at`: 32 to 35 of it, then the next, which begins past its end
-unfoldable pub wordsRefusal : List ℕ → ℕ → ℕ → List (List ℕ) → Refusal
-wordsRefusal s at least [] = refusal 0 0
-wordsRefusal s at least (l ∷ ls) =
-    let w = readWord least (row_of 2 l) in
+unfoldable pub words_refusal : List ℕ → ℕ → ℕ → List (List ℕ) → Refusal
+words_refusal s at least [] = refusal 0 0
+words_refusal s at least (l ∷ ls) =
+    let w = read_word least (row_of 2 l) in
     cond (eqb w.question 0)
-    (wordsRefusal s (at + length l + 1) (w.address + 1) ls)
-    (refusal w.question (lineNumber s at))
+    (words_refusal s (at + length l + 1) (w.address + 1) ls)
+    (refusal w.question (line_number s at))
 
 -- line 1, which begins at position 0, then the word lines
-unfoldable pub linesRefusal : List ℕ → List (List ℕ) → Refusal
-linesRefusal s [] = refusal 0 0
-linesRefusal s (l ∷ ls) =
-    let h = readSetup (setupRow l) in
-    cond (eqb h.question 0) (wordsRefusal s (length l + 1) 0 ls) (refusal h.question (lineNumber s 0))
+unfoldable pub lines_refusal : List ℕ → List (List ℕ) → Refusal
+lines_refusal s [] = refusal 0 0
+lines_refusal s (l ∷ ls) =
+    let h = read_setup (setup_row l) in
+    cond (eqb h.question 0) (words_refusal s (length l + 1) 0 ls) (refusal h.question (line_number s 0))
 
-unfoldable pub sheetRefusal : List ℕ → Refusal
-sheetRefusal s = cond (eqb (fileNo s) 0) (linesRefusal s (lines s)) (fileRefusal s)
+unfoldable pub sheet_refusal : List ℕ → Refusal
+sheet_refusal s = cond (eqb (file_no s) 0) (lines_refusal s (lines s)) (file_refusal s)
 
 -- ---- the sheet; what a refused one has for a setup and for words is never used
 
@@ -69,20 +69,20 @@ pub record Sheet : Type 0 where
   pub setup : Setup
   pub words : List WordLine
 
-abbrev pub readSheet : List ℕ → Sheet
-readSheet s =
+abbrev pub read_sheet : List ℕ → Sheet
+read_sheet s =
     record {
-      refusal = sheetRefusal s;
-      setup = (readSetup (setupRow (get_or (lines s) 0 []))).setup;
+      refusal = sheet_refusal s;
+      setup = (read_setup (setup_row (get_or (lines s) 0 []))).setup;
       words = words_of (drop 1 (lines s));
     }
 
 -- ---- what is printed of a sheet that is refused
 
 -- "beginning with the word itself"
-abbrev pub sheetWord : List ℕ
-sheetWord = ascii "sheet"
+abbrev pub sheet_word : List ℕ
+sheet_word = ascii "sheet"
 
 -- "sheet, number, line number in decimal", for example `sheet,33,2`; "every printed line ends in 0a"
-abbrev pub refusalText : ℕ → ℕ → List ℕ
-refusalText question lineno = (sheetWord ++ (comma ∷ [])) ++ decimal question ++ (comma ∷ []) ++ decimal lineno ++ (newline ∷ [])
+abbrev pub refusal_text : ℕ → ℕ → List ℕ
+refusal_text question lineno = (sheet_word ++ (comma ∷ [])) ++ decimal question ++ (comma ∷ []) ++ decimal lineno ++ (newline ∷ [])

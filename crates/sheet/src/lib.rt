@@ -5,8 +5,8 @@ ghost use Rattle.std.specs.Prelude.{◌≡◌, ◌-◌, ◌≤◌, length, drop,
 ghost use Rattle.text.specs.Scan.{newline, LineStart};
 ghost use Rattle.text.specs.Split.{lines, row_of};
 ghost use Rattle.text.specs.Write.{Wrote};
-ghost use Rattle.sheet.specs.Words.{readWord, words_of, memoryOf};
-ghost use Rattle.sheet.specs.Sheet.{foreign as Sheet·foreign, foreignLine, fileRefusal, wordsRefusal, readSheet, refusalText};
+ghost use Rattle.sheet.specs.Words.{read_word, words_of, memory_of};
+ghost use Rattle.sheet.specs.Sheet.{foreign as foreign_of, foreign_line, file_refusal, words_refusal, read_sheet, refusal_text};
 
 use memory::bytes::write;
 use setup::{Setup, read_setup};
@@ -44,14 +44,14 @@ pub struct ReadSheet {
 
 // Is it a byte that no sheet has?
 fn foreign(b: u8) -> bool
-    ensures { result ≡ Sheet·foreign b }
+    ensures { result ≡ foreign_of b }
 {
     !(is_digit(b) | ((b == b',') | (b == b'\n')))
 }
 
 // The line of the first byte that no sheet has, 0 where there is none. The line number runs along.
 fn foreign_line(s: &[u8]) -> u64
-    ensures { result ≡ foreignLine s.now }
+    ensures { result ≡ foreign_line s.now }
 {
     let mut lineno: u64 = 1;
     let mut i = 0;
@@ -69,7 +69,7 @@ fn foreign_line(s: &[u8]) -> u64
 
 // 30 and 31, of the whole file. Only 31 has a line: that of the first foreign byte.
 fn file_refusal(s: &[u8]) -> Refusal
-    ensures { result ≡ fileRefusal s.now }
+    ensures { result ≡ file_refusal s.now }
 {
     let n = s.len();
     let lineno = foreign_line(s);
@@ -86,7 +86,7 @@ fn file_refusal(s: &[u8]) -> Refusal
 
 // One word line, whose address is to be at least `least`. Every test is worked out, and the first no is picked from the answers.
 fn read_word(line: &[u8], least: u64) -> ReadWord
-    ensures { result ≡ readWord least (row_of 2 line.now) }
+    ensures { result ≡ read_word least (row_of 2 line.now) }
 {
     let mut values = [0u64; WORD_FIELDS];
     let mut widths = [0u64; WORD_FIELDS];
@@ -106,8 +106,8 @@ fn read_word(line: &[u8], least: u64) -> ReadWord
 // number runs along. Where a line is refused, memory is left free: no refused sheet is run.
 fn read_words(s: &[u8], start: usize, startline: u64, mem: &mut [u8]) -> Refusal
     requires { (length mem.old ≡ 65536) × (start ≤ length s.now) × (length s.now ≤ 65536) × (get_or s.now (length s.now - 1) 0 ≡ newline) × LineStart s.now start startline }
-    ensures value { result ≡ wordsRefusal s.now start 0 (lines (drop start s.now)) }
-    ensures mem_after { result.question ≡ 0 → mem.new ≡ memoryOf mem.old (words_of (lines (drop start s.now))) }
+    ensures value { result ≡ words_refusal s.now start 0 (lines (drop start s.now)) }
+    ensures mem_after { result.question ≡ 0 → mem.new ≡ memory_of mem.old (words_of (lines (drop start s.now))) }
 {
     let mut at = start;
     let mut lineno = startline;
@@ -135,8 +135,8 @@ fn read_words(s: &[u8], start: usize, startline: u64, mem: &mut [u8]) -> Refusal
 // The refusal, the setup and, where the sheet is not refused, its words in memory; where it is, memory is left free.
 pub fn read_sheet(s: &[u8], mem: &mut [u8]) -> ReadSheet
     requires { length mem.old ≡ 65536 }
-    ensures refusal_value { (result.refusal ≡ (readSheet s.now).refusal) × (result.setup ≡ (readSheet s.now).setup) }
-    ensures mem_after { result.refusal.question ≡ 0 → mem.new ≡ memoryOf mem.old (readSheet s.now).words }
+    ensures refusal_value { (result.refusal ≡ (read_sheet s.now).refusal) × (result.setup ≡ (read_sheet s.now).setup) }
+    ensures mem_after { result.refusal.question ≡ 0 → mem.new ≡ memory_of mem.old (read_sheet s.now).words }
 {
     let line = line_at(s, 0);
     let head = read_setup(line);
@@ -160,7 +160,7 @@ pub fn read_sheet(s: &[u8], mem: &mut [u8]) -> ReadSheet
 // "sheet,", the question, the line number and the line's end, from the buffer's start on.
 pub fn put_refusal(buffer: &mut [u8], question: u64, lineno: u64) -> usize
     requires { 48 ≤ length buffer.old }
-    ensures wrote { Wrote buffer.old 0 (refusalText question lineno) buffer.new result }
+    ensures wrote { Wrote buffer.old 0 (refusal_text question lineno) buffer.new result }
     ensures upper_bound { result ≤ 48 }
 {
     let a = put_text(buffer, 0, b"sheet,");

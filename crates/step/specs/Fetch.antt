@@ -2,12 +2,12 @@
 -- of these.
 -- Region and Verdict are declared in model/src/lib.rt, Decoded in instructions/src/instruction.rt. Assumes nothing.
 use Rattle.std.specs.Prelude.{ℕ, cond, List, length}
-use Rattle.instructions.specs.Decode.{decodeWord}
+use Rattle.instructions.specs.Decode.{decode_word}
 use Rattle.instructions.specs.declared.instruction.Decoded.{Decoded}
-use Rattle.compressed.specs.Expand.{expandHalf, isLong}
+use Rattle.compressed.specs.Expand.{expand_half, is_long}
 use Rattle.model.specs.Machine.{sum}
 use Rattle.model.specs.Bytes.{value}
-use Rattle.model.specs.Access.{fetchAccess, verdict}
+use Rattle.model.specs.Access.{fetch_access, verdict}
 use Rattle.model.specs.declared.Region.{Region}
 use Rattle.model.specs.declared.Verdict.{Verdict}
 use Rattle.model.specs.declared.Verdict.TheVariants.{Passed, Refused, Absent}
@@ -18,18 +18,18 @@ and_then (Refused at region) v = Refused at region
 and_then (Absent at) v = Absent at
 and_then Passed v = v
 
-abbrev pub halfAt : List ℕ → ℕ → ℕ
-halfAt mem pc = value mem pc 0 2
+abbrev pub half_at : List ℕ → ℕ → ℕ
+half_at mem pc = value mem pc 0 2
 
 -- of the two bytes at pc and, where these are of a long word, of the next two
-unfoldable pub fetchVerdict : ℕ → List Region → List ℕ → ℕ → Verdict
-fetchVerdict mode rs mem pc =
-    and_then (verdict mode (length mem) (fetchAccess rs pc))
-    (cond (isLong (halfAt mem pc)) (verdict mode (length mem) (fetchAccess rs (sum pc 2))) Passed)
+unfoldable pub fetch_verdict : ℕ → List Region → List ℕ → ℕ → Verdict
+fetch_verdict mode rs mem pc =
+    and_then (verdict mode (length mem) (fetch_access rs pc))
+    (cond (is_long (half_at mem pc)) (verdict mode (length mem) (fetch_access rs (sum pc 2))) Passed)
 
 -- how long the word at pc is, and its instruction
 abbrev pub size_at : List ℕ → ℕ → ℕ
-size_at mem pc = cond (isLong (halfAt mem pc)) 4 2
+size_at mem pc = cond (is_long (half_at mem pc)) 4 2
 
 unfoldable pub word_at : List ℕ → ℕ → Decoded
-word_at mem pc = cond (isLong (halfAt mem pc)) (decodeWord (value mem pc 0 4)) (expandHalf (halfAt mem pc))
+word_at mem pc = cond (is_long (half_at mem pc)) (decode_word (value mem pc 0 4)) (expand_half (half_at mem pc))

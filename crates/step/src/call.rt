@@ -1,7 +1,7 @@
 // The calls by value: a step, and resuming after a system call.
 ghost use Rattle.std.specs.Prelude.{◌≡◌};
-ghost use Rattle.model.specs.Step.{stepCall, resumeCall};
-ghost use Rattle.model.specs.Outcome.{steppedWith};
+ghost use Rattle.model.specs.Step.{step_call, resume_call};
+ghost use Rattle.model.specs.Outcome.{stepped_with};
 
 use crate::step;
 use hart::regions::numbers_of;
@@ -22,9 +22,9 @@ fn refused(stop: u64, m: Machine) -> Stepped
 }
 
 // One step of any machine over any memory.
-#[tactic(auto, unfolding(model::specs::Step::stepCall))]
+#[tactic(auto, unfolding(model::specs::Step::step_call))]
 pub fn step_call(m: Machine, mem: &mut [u8]) -> Stepped
-    ensures { steppedWith result mem.new ≡ stepCall m mem.old }
+    ensures { stepped_with result mem.new ≡ step_call m mem.old }
 {
     if LONGEST < mem.len() {
         return refused(1, m);
@@ -55,9 +55,9 @@ pub fn step_call(m: Machine, mem: &mut [u8]) -> Stepped
 }
 
 // `v` in x10, and pc past the word that it stands at.
-#[tactic(auto, unfolding(model::specs::Step::resumeCall))]
+#[tactic(auto, unfolding(model::specs::Step::resume_call))]
 pub fn resume_call(m: Machine, v: u64) -> Stepped
-    ensures { result ≡ resumeCall m v }
+    ensures { result ≡ resume_call m v }
 {
     if !well_formed(m) {
         return refused(3, m);

@@ -1,8 +1,8 @@
 // The questions of a fetch, two bytes at a time, and the word that it brings.
 ghost use Rattle.std.specs.Prelude.{◌≡◌, ◌+◌, ◌≤◌, true, length};
-ghost use Rattle.compressed.specs.Expand.{isLong};
-ghost use Rattle.hart.specs.State.{regionsOf};
-ghost use Rattle.step.specs.Fetch.{halfAt, fetchVerdict, size_at, word_at};
+ghost use Rattle.compressed.specs.Expand.{is_long};
+ghost use Rattle.hart.specs.State.{regions_of};
+ghost use Rattle.step.specs.Fetch.{half_at, fetch_verdict, size_at, word_at};
 
 use decode::decode;
 use expand::{expand, is_long};
@@ -14,9 +14,9 @@ use model::Verdict;
 use std::num::wrapping_add_u64;
 
 // Questions 5 and 6 by halves: of the two bytes at `pc` and, where these are of a long word, of the next two.
-#[tactic(auto, unfolding(crate::specs::Fetch::fetchVerdict))]
+#[tactic(auto, unfolding(crate::specs::Fetch::fetch_verdict))]
 fn check_halves(mode: u64, rs: &[u64; REGION_NUMBERS], mem: &[u8], pc: u64) -> Verdict
-    ensures { result ≡ fetchVerdict mode (regionsOf rs.now) mem.now pc }
+    ensures { result ≡ fetch_verdict mode (regions_of rs.now) mem.now pc }
 {
     let len = mem.len() as u64;
     let v = check_fetch(mode, rs, len, pc);
@@ -36,7 +36,7 @@ fn check_halves(mode: u64, rs: &[u64; REGION_NUMBERS], mem: &[u8], pc: u64) -> V
 
 // Questions 5 and 6 of the word at `pc`. Where its four bytes pass whole, so does either half of them.
 pub fn check_word(mode: u64, rs: &[u64; REGION_NUMBERS], mem: &[u8], pc: u64) -> Verdict
-    ensures { result ≡ fetchVerdict mode (regionsOf rs.now) mem.now pc }
+    ensures { result ≡ fetch_verdict mode (regions_of rs.now) mem.now pc }
 {
     if fetches_whole(mode, rs, mem.len() as u64, pc) {
         Verdict::Passed
@@ -56,7 +56,7 @@ pub fn size_at(mem: &[u8], pc: u64) -> u64
 // The instruction of the word at `pc`.
 #[tactic(auto, unfolding(crate::specs::Fetch::word_at))]
 pub fn word_at(mem: &[u8], pc: u64) -> Decoded
-    requires { (pc + 2 ≤ length mem.now) × (isLong (halfAt mem.now pc) ≡ true → pc + 4 ≤ length mem.now) }
+    requires { (pc + 2 ≤ length mem.now) × (is_long (half_at mem.now pc) ≡ true → pc + 4 ≤ length mem.now) }
     ensures { result ≡ word_at mem.now pc }
 {
     let h = read(mem, pc, 2);

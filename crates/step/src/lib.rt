@@ -3,11 +3,11 @@
 #![tactic(auto)]
 
 ghost use Rattle.std.specs.Prelude.{◌≡◌, ◌+◌, ◌≤◌, true, length};
-ghost use Rattle.compressed.specs.Expand.{isLong};
-ghost use Rattle.model.specs.Step.{executeWord, step as step_of};
+ghost use Rattle.compressed.specs.Expand.{is_long};
+ghost use Rattle.model.specs.Step.{execute_word, step as step_of};
 ghost use Rattle.hart.specs.State.{hart};
-ghost use Rattle.hart.specs.Effect.{effectWith};
-ghost use Rattle.step.specs.Fetch.{halfAt, size_at, word_at};
+ghost use Rattle.hart.specs.Effect.{effect_with};
+ghost use Rattle.step.specs.Fetch.{half_at, size_at, word_at};
 
 use crate::fetch::{check_word, size_at, word_at};
 use execute::execute;
@@ -22,7 +22,7 @@ pub mod call;
 pub mod fetch;
 
 // Question 7, and the rest of the step.
-#[tactic(auto, unfolding(model::specs::Step::executeWord))]
+#[tactic(auto, unfolding(model::specs::Step::execute_word))]
 fn execute_word(
     x: &mut [u64; 32],
     pc: u64,
@@ -30,8 +30,8 @@ fn execute_word(
     rs: &mut [u64; REGION_NUMBERS],
     mem: &mut [u8],
 ) -> Effect
-    requires { (pc + 2 ≤ length mem.old) × (isLong (halfAt mem.old pc) ≡ true → pc + 4 ≤ length mem.old) }
-    ensures { effectWith result x.new rs.new mem.new ≡ executeWord (hart x.old pc hfi rs.old) mem.old (size_at mem.old pc) (word_at mem.old pc) }
+    requires { (pc + 2 ≤ length mem.old) × (is_long (half_at mem.old pc) ≡ true → pc + 4 ≤ length mem.old) }
+    ensures { effect_with result x.new rs.new mem.new ≡ execute_word (hart x.old pc hfi rs.old) mem.old (size_at mem.old pc) (word_at mem.old pc) }
 {
     let next = wrapping_add_u64(pc, size_at(mem, pc));
     let d = word_at(mem, pc);
@@ -49,7 +49,7 @@ pub fn step(
     rs: &mut [u64; REGION_NUMBERS],
     mem: &mut [u8],
 ) -> Effect
-    ensures { effectWith result x.new rs.new mem.new ≡ step_of (hart x.old pc hfi rs.old) mem.old }
+    ensures { effect_with result x.new rs.new mem.new ≡ step_of (hart x.old pc hfi rs.old) mem.old }
 {
     if pc % 2 != 0 {
         return stopped(10, pc, hfi);

@@ -11,75 +11,75 @@ use lib.ListN.{length, get_or, drop, drop_of_length-le, length-append}
 use lib.Seq.{drop-cons}
 use borrow.Author.Tests.{lt-ltb, le-ltb, le-leb, lt-leb, ne_eqb, ltb-true, ltb-false}
 use Rattle.text.specs.Scan.{count}
-use Rattle.text.specs.Number.{digitValue, spelled, digitByte, digits}
-use Rattle.text.proofs.Scanning.{count-append}
+use Rattle.text.specs.Number.{digit_value, spelled, digit_byte, digits}
+use Rattle.text.proofs.Scanning.{count_append}
 
 -- ---- reading: v is spelled by the digits before position i
-pub spelled-on : (s : List ℕ) (i base v : ℕ) → i < length s
-    → spelled base v (drop i s) ≡ spelled base (v * base + digitValue (get_or s i 0)) (drop (i + 1) s)
+pub spelled_on : (s : List ℕ) (i base v : ℕ) → i < length s
+    → spelled base v (drop i s) ≡ spelled base (v * base + digit_value (get_or s i 0)) (drop (i + 1) s)
 unfolding spelled
-spelled-on s i base v h = rw (drop-cons s i 0 h, add-one i)
+spelled_on s i base v h = rw (drop-cons s i 0 h, add-one i)
 
-pub spelled-off : (s : List ℕ) (i base v : ℕ) → length s ≤ i → spelled base v (drop i s) ≡ v
+pub spelled_off : (s : List ℕ) (i base v : ℕ) → length s ≤ i → spelled base v (drop i s) ≡ v
 unfolding spelled
-spelled-off s i base v h = rw (drop_of_length-le s h)
+spelled_off s i base v h = rw (drop_of_length-le s h)
 
 -- i digits are below 16 ^ i, in every base up to 16
-pub spelled-more : (base v d i : ℕ) → base ≤ 16 → v < 16 ^ i → d < 16 → v * base + d < 16 ^ (i + 1)
-spelled-more base v d i b h k = rw (add-one i, pow-succ') (omega (arith, mul-le-mul_left v b))
+pub spelled_more : (base v d i : ℕ) → base ≤ 16 → v < 16 ^ i → d < 16 → v * base + d < 16 ^ (i + 1)
+spelled_more base v d i b h k = rw (add-one i, pow-succ') (omega (arith, mul-le-mul_left v b))
 
 -- so one digit more after at most 15 fits 64 bits
-pub spelled-fits : (base v i : ℕ) → base ≤ 16 → v < 16 ^ i → i < 16 → v * base + 16 ≤ 2 ^ 64
-spelled-fits base v i b h k =
+pub spelled_fits : (base v i : ℕ) → base ≤ 16 → v < 16 ^ i → i < 16 → v * base + 16 ≤ 2 ^ 64
+spelled_fits base v i b h k =
     let m : i ≤ 15 = omega arith in
     let top : 16 ^ i ≤ 16 ^ 15 = pow-le-pow_right (lit< tt) m in
     omega (arith, mul-le-mul_left v b, lt_of_lt_of_le h top)
 
 -- ---- printing: one digit is left, or more than one
 module _ (base k n : ℕ) (z : k ≡ 0 → ⊥) where
-  digits-on : digits base k n ≡ cond (ltb n base) (digitByte n ∷ []) (digits base (k - 1) (n / base) ++ (digitByte (n % base) ∷ []))
+  digits_on : digits base k n ≡ cond (ltb n base) (digit_byte n ∷ []) (digits base (k - 1) (n / base) ++ (digit_byte (n % base) ∷ []))
   unfolding digits
-  digits-on =
+  digits_on =
       let e : k ≡ suc (k - 1) = omega arith in
       ap (λ j. digits base j n) e
 
-  pub digits-one : n < base → digits base k n ≡ digitByte n ∷ []
-  digits-one h = digits-on ∙ rw (lt-ltb n base h)
+  pub digits_one : n < base → digits base k n ≡ digit_byte n ∷ []
+  digits_one h = digits_on ∙ rw (lt-ltb n base h)
 
-  pub digits_more : base ≤ n → digits base k n ≡ digits base (k - 1) (n / base) ++ (digitByte (n % base) ∷ [])
-  digits_more h = digits-on ∙ rw (le-ltb n base h)
+  pub digits_more : base ≤ n → digits base k n ≡ digits base (k - 1) (n / base) ++ (digit_byte (n % base) ∷ [])
+  digits_more h = digits_on ∙ rw (le-ltb n base h)
 
-pub digits-none : (base k n : ℕ) → k ≡ 0 → digits base k n ≡ []
+pub digits_none : (base k n : ℕ) → k ≡ 0 → digits base k n ≡ []
 unfolding digits
-digits-none base k n e = ap (λ j. digits base j n) e
+digits_none base k n e = ap (λ j. digits base j n) e
 
 -- What holds of the digits of every number: it holds of no digits, of one digit, and of one digit more.
 -- P k n s speaks of the digits s of n, for which k positions are given. All laws below are cases of this one induction.
 module _ (base : ℕ) (P : ℕ → ℕ → List ℕ → Type 0)
     (none : (n : ℕ) → P 0 n [])
-    (one : (k n : ℕ) → n < base → P (suc k) n (digitByte n ∷ []))
-    (more : (k n : ℕ) (s : List ℕ) → base ≤ n → P k (n / base) s → P (suc k) n (s ++ (digitByte (n % base) ∷ []))) where
-  digits-ind : (k n : ℕ) → P k n (digits base k n)
+    (one : (k n : ℕ) → n < base → P (suc k) n (digit_byte n ∷ []))
+    (more : (k n : ℕ) (s : List ℕ) → base ≤ n → P k (n / base) s → P (suc k) n (s ++ (digit_byte (n % base) ∷ []))) where
+  digits_ind : (k n : ℕ) → P k n (digits base k n)
   unfolding digits
-  digits-ind zero n = none n
-  digits-ind (suc k) n = by (ltb n base) refl (digits-ind k (n / base))
+  digits_ind zero n = none n
+  digits_ind (suc k) n = by (ltb n base) refl (digits_ind k (n / base))
     where
       by : (t : Bool) → ltb n base ≡ t → P k (n / base) (digits base k (n / base))
-          → P (suc k) n (cond t (digitByte n ∷ []) (digits base k (n / base) ++ (digitByte (n % base) ∷ [])))
+          → P (suc k) n (cond t (digit_byte n ∷ []) (digits base k (n / base) ++ (digit_byte (n % base) ∷ [])))
       by true e h = one k n (ltb-true n base e)
       by false e h = more k n (digits base k (n / base)) (ltb-false n base e) h
 
 -- at most k of them, and at least one
 pub digits_le : (base k n : ℕ) → length (digits base k n) ≤ k
 digits_le base =
-    digits-ind base (λ k n s. length s ≤ k)
+    digits_ind base (λ k n s. length s ≤ k)
     (λ n. omega arith)
     (λ k n h. omega arith)
     (λ k n s h r. rw length-append (omega arith))
 
-pub digits-some : (base k n : ℕ) → 0 < k → 1 ≤ length (digits base k n)
-digits-some base =
-    digits-ind base (λ k n s. 0 < k → 1 ≤ length s)
+pub digits_some : (base k n : ℕ) → 0 < k → 1 ≤ length (digits base k n)
+digits_some base =
+    digits_ind base (λ k n s. 0 < k → 1 ≤ length s)
     (λ n z. omega arith)
     (λ k n h z. omega arith)
     (λ k n s h r z. rw length-append (omega arith))
@@ -89,29 +89,29 @@ byte_high : (t : Bool) (d : ℕ) → 48 ≤ cond t (48 + d) (87 + d)
 byte_high true d = omega arith
 byte_high false d = omega arith
 
-byte-without : (c d : ℕ) → c < 48 → count c (digitByte d ∷ []) ≡ 0
+byte_without : (c d : ℕ) → c < 48 → count c (digit_byte d ∷ []) ≡ 0
 unfolding count
-byte-without c d h =
-    let n : digitByte d ≡ c → ⊥ = λ e. omega (arith, byte_high (ltb d 10) d) in
-    rw (ne_eqb (digitByte d) c n)
+byte_without c d h =
+    let n : digit_byte d ≡ c → ⊥ = λ e. omega (arith, byte_high (ltb d 10) d) in
+    rw (ne_eqb (digit_byte d) c n)
 
-pub nil-without : (c : ℕ) → count c [] ≡ 0
+pub nil_without : (c : ℕ) → count c [] ≡ 0
 unfolding count
-nil-without c = refl
+nil_without c = refl
 
-pub digits-without : (c base k n : ℕ) → c < 48 → count c (digits base k n) ≡ 0
-digits-without c base k n z =
-    digits-ind base (λ k n s. count c s ≡ 0)
-    (λ n. nil-without c)
-    (λ k n h. byte-without c n z)
-    (λ k n s h r. omega (arith, count-append c s (digitByte (n % base) ∷ []), byte-without c (n % base) z))
+pub digits_without : (c base k n : ℕ) → c < 48 → count c (digits base k n) ≡ 0
+digits_without c base k n z =
+    digits_ind base (λ k n s. count c s ≡ 0)
+    (λ n. nil_without c)
+    (λ k n h. byte_without c n z)
+    (λ k n s h r. omega (arith, count_append c s (digit_byte (n % base) ∷ []), byte_without c (n % base) z))
     k n
 
 -- ---- the value of what is printed
-value-byte : (d : ℕ) → d < 16 → digitValue (digitByte d) ≡ d
-value-byte d h = by (ltb d 10) refl
+value_byte : (d : ℕ) → d < 16 → digit_value (digit_byte d) ≡ d
+value_byte d h = by (ltb d 10) refl
   where
-    by : (t : Bool) → ltb d 10 ≡ t → digitValue (cond t (48 + d) (87 + d)) ≡ d
+    by : (t : Bool) → ltb d 10 ≡ t → digit_value (cond t (48 + d) (87 + d)) ≡ d
     by true e =
         let s : d < 10 = ltb-true d 10 e in
         let a : 48 ≤ 48 + d = omega arith in
@@ -125,53 +125,53 @@ value-byte d h = by (ltb d 10) refl
         let g : 87 + d ≤ 102 = omega arith in
         rw (le-leb 48 (87 + d) a) (rw (lt-leb (87 + d) 57 b) (rw (le-leb 97 (87 + d) f) (rw (le-leb (87 + d) 102 g) (omega arith))))
 
-spelled-append : (base v : ℕ) (s t : List ℕ) → spelled base v (s ++ t) ≡ spelled base (spelled base v s) t
+spelled_append : (base v : ℕ) (s t : List ℕ) → spelled base v (s ++ t) ≡ spelled base (spelled base v s) t
 unfolding spelled
-spelled-append base v [] t = refl
-spelled-append base v (b ∷ bs) t = spelled-append base (v * base + digitValue b) bs t
+spelled_append base v [] t = refl
+spelled_append base v (b ∷ bs) t = spelled_append base (v * base + digit_value b) bs t
 
-spelled-one : (base v b : ℕ) → spelled base v (b ∷ []) ≡ v * base + digitValue b
+spelled_one : (base v b : ℕ) → spelled base v (b ∷ []) ≡ v * base + digit_value b
 unfolding spelled
-spelled-one base v b = refl
+spelled_one base v b = refl
 
-spelled-nil : (base v : ℕ) → spelled base v [] ≡ v
+spelled_nil : (base v : ℕ) → spelled base v [] ≡ v
 unfolding spelled
-spelled-nil base v = refl
+spelled_nil base v = refl
 
 -- n / base has one digit less
 fewer : (base k n : ℕ) → 0 < base → n < base ^ suc k → n / base < base ^ k
 fewer base k n z h = (div-lt_iff_lt-mul z).1 (rw (pow-succ', mul_comm base (base ^ k)) at h)
 
-pub spelled-digits : (base k n : ℕ) → 1 < base → base ≤ 16 → n < base ^ k → spelled base 0 (digits base k n) ≡ n
-spelled-digits base k n p q =
+pub spelled_digits : (base k n : ℕ) → 1 < base → base ≤ 16 → n < base ^ k → spelled base 0 (digits base k n) ≡ n
+spelled_digits base k n p q =
     let z : 0 < base = omega arith in
-    digits-ind base (λ k n s. n < base ^ k → spelled base 0 s ≡ n)
-    (λ n h. omega (arith, pow-zero base, spelled-nil base 0))
-    (λ k n l h. let d : n < 16 = omega arith in omega (arith, spelled-one base 0 (digitByte n), value-byte n d))
+    digits_ind base (λ k n s. n < base ^ k → spelled base 0 s ≡ n)
+    (λ n h. omega (arith, pow-zero base, spelled_nil base 0))
+    (λ k n l h. let d : n < 16 = omega arith in omega (arith, spelled_one base 0 (digit_byte n), value_byte n d))
     (λ k n s l r h.
     let d : n % base < 16 = omega (arith, mod-lt n z) in
-    spelled-append base 0 s (digitByte (n % base) ∷ [])
-    ∙ ap (λ v. spelled base v (digitByte (n % base) ∷ [])) (r (fewer base k n z h))
-    ∙ spelled-one base (n / base) (digitByte (n % base))
-    ∙ ap (λ v. n / base * base + v) (value-byte (n % base) d)
+    spelled_append base 0 s (digit_byte (n % base) ∷ [])
+    ∙ ap (λ v. spelled base v (digit_byte (n % base) ∷ [])) (r (fewer base k n z h))
+    ∙ spelled_one base (n / base) (digit_byte (n % base))
+    ∙ ap (λ v. n / base * base + v) (value_byte (n % base) d)
     ∙ div-add-mod' n base)
     k n
 
 -- no leading zero: a number that is not 0 has a first digit, and that is not 0
-byte-zero : (t : Bool) (d : ℕ) → 0 < d → cond t (48 + d) (87 + d) ≡ 48 → ⊥
-byte-zero true d h e = omega arith
-byte-zero false d h e = omega arith
+byte_zero : (t : Bool) (d : ℕ) → 0 < d → cond t (48 + d) (87 + d) ≡ 48 → ⊥
+byte_zero true d h e = omega arith
+byte_zero false d h e = omega arith
 
-lead-append : (s t : List ℕ) → (get_or s 0 48 ≡ 48 → ⊥) → get_or (s ++ t) 0 48 ≡ 48 → ⊥
-lead-append [] t p e = let z : ◌≡◌ {A = ℕ} 48 48 = refl in p z
-lead-append (b ∷ bs) t p e = p e
+lead_append : (s t : List ℕ) → (get_or s 0 48 ≡ 48 → ⊥) → get_or (s ++ t) 0 48 ≡ 48 → ⊥
+lead_append [] t p e = let z : ◌≡◌ {A = ℕ} 48 48 = refl in p z
+lead_append (b ∷ bs) t p e = p e
 
-pub digits-lead : (base k n : ℕ) → 1 < base → 0 < n → n < base ^ k → get_or (digits base k n) 0 48 ≡ 48 → ⊥
-digits-lead base k n p =
+pub digits_lead : (base k n : ℕ) → 1 < base → 0 < n → n < base ^ k → get_or (digits base k n) 0 48 ≡ 48 → ⊥
+digits_lead base k n p =
     let z : 0 < base = omega arith in
-    digits-ind base (λ k n s. 0 < n → n < base ^ k → get_or s 0 48 ≡ 48 → ⊥)
+    digits_ind base (λ k n s. 0 < n → n < base ^ k → get_or s 0 48 ≡ 48 → ⊥)
     (λ n q h e. omega (arith, pow-zero base))
-    (λ k n l q h e. byte-zero (ltb n 10) n q e)
+    (λ k n l q h e. byte_zero (ltb n 10) n q e)
     (λ k n s l r q h e.
-    lead-append s (digitByte (n % base) ∷ []) (r ((le-div_iff_mul-le z).1 (omega arith)) (fewer base k n z h)) e)
+    lead_append s (digit_byte (n % base) ∷ []) (r ((le-div_iff_mul-le z).1 (omega arith)) (fewer base k n z h)) e)
     k n

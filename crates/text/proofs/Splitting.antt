@@ -8,18 +8,18 @@ use lib.Dec.{eqb, leb}
 use lib.ListN.{length, get_or, drop, take, length-drop, drop_of_length-le}
 use lib.Seq.{take_all, drop-drop, get_or-drop, length-take-le}
 use borrow.Author.Tests.{eq-eqb, leb-true, leb-false}
-use Rattle.text.specs.Scan.{firstThat, is, newline, comma}
+use Rattle.text.specs.Scan.{first_that, is, newline, comma}
 use Rattle.text.specs.Split.{push, split, lines, fields}
-use Rattle.text.proofs.Scanning.{position, first-le, first-before}
+use Rattle.text.proofs.Scanning.{position, first_le, first_before}
 
 -- ---- one piece of a list: the first w bytes, and the pieces from w + 1 on
 abbrev pub Piece : ℕ → List (List ℕ) → List ℕ → ℕ → Type 0
 Piece c last s w = split c last s ≡ take w s ∷ split c last (drop (w + 1) s)
 
-pub split-more : (c : ℕ) (last : List (List ℕ)) (s : List ℕ) → position c s < length s → Piece c last s (position c s)
-unfolding split firstThat
-split-more c last [] h = let z : ⊥ = omega arith in absurd z
-split-more c last (b ∷ bs) h = by (eqb b c) h (λ k. split-more c last bs k)
+pub split_more : (c : ℕ) (last : List (List ℕ)) (s : List ℕ) → position c s < length s → Piece c last s (position c s)
+unfolding split first_that
+split_more c last [] h = let z : ⊥ = omega arith in absurd z
+split_more c last (b ∷ bs) h = by (eqb b c) h (λ k. split_more c last bs k)
   where
     by : (t : Bool) → cond t 0 (suc (position c bs)) < suc (length bs) → (position c bs < length bs → Piece c last bs (position c bs))
         → cond t ([] ∷ split c last bs) (push b (split c last bs))
@@ -31,10 +31,10 @@ split-more c last (b ∷ bs) h = by (eqb b c) h (λ k. split-more c last bs k)
         rw e (ap (push b) (f k))
 
 -- without c a text is one piece
-pub split-none : (c : ℕ) (last : List (List ℕ)) (s : List ℕ) → push 0 last ≡ (0 ∷ []) ∷ [] → 0 < length s → length s ≤ position c s → split c last s ≡ s ∷ []
-unfolding split firstThat
-split-none c last [] z h k = let y : ⊥ = omega arith in absurd y
-split-none c last (b ∷ []) z h k = by (eqb b c) k
+pub split_none : (c : ℕ) (last : List (List ℕ)) (s : List ℕ) → push 0 last ≡ (0 ∷ []) ∷ [] → 0 < length s → length s ≤ position c s → split c last s ≡ s ∷ []
+unfolding split first_that
+split_none c last [] z h k = let y : ⊥ = omega arith in absurd y
+split_none c last (b ∷ []) z h k = by (eqb b c) k
   where
     one : (l : List (List ℕ)) → push 0 l ≡ (0 ∷ []) ∷ [] → push b l ≡ (b ∷ []) ∷ []
     one [] e = refl
@@ -46,7 +46,7 @@ split-none c last (b ∷ []) z h k = by (eqb b c) k
     by : (t : Bool) → 1 ≤ cond t 0 (suc 0) → cond t ([] ∷ last) (push b last) ≡ (b ∷ []) ∷ []
     by true g = let y : ⊥ = omega arith in absurd y
     by false g = one last z
-split-none c last (b ∷ d ∷ bs) z h k = by (eqb b c) k (λ u. split-none c last (d ∷ bs) z (omega arith) u)
+split_none c last (b ∷ d ∷ bs) z h k = by (eqb b c) k (λ u. split_none c last (d ∷ bs) z (omega arith) u)
   where
     by : (t : Bool) → suc (suc (length bs)) ≤ cond t 0 (suc (position c (d ∷ bs))) → (suc (length bs) ≤ position c (d ∷ bs) → split c last (d ∷ bs) ≡ (d ∷ bs) ∷ [])
         → cond t ([] ∷ split c last (d ∷ bs)) (push b (split c last (d ∷ bs))) ≡ (b ∷ d ∷ bs) ∷ []
@@ -54,10 +54,10 @@ split-none c last (b ∷ d ∷ bs) z h k = by (eqb b c) k (λ u. split-none c la
     by false g f = let u : suc (length bs) ≤ position c (d ∷ bs) = omega arith in ap (push b) (f u)
 
 -- the first piece ends at the first c
-pub split-first : (c : ℕ) (last : List (List ℕ)) (s : List ℕ) → get_or last 0 [] ≡ [] → get_or (split c last s) 0 [] ≡ take (position c s) s
-unfolding split firstThat
-split-first c last [] e = e
-split-first c last (b ∷ bs) e = by (eqb b c) (split-first c last bs e)
+pub split_first : (c : ℕ) (last : List (List ℕ)) (s : List ℕ) → get_or last 0 [] ≡ [] → get_or (split c last s) 0 [] ≡ take (position c s) s
+unfolding split first_that
+split_first c last [] e = e
+split_first c last (b ∷ bs) e = by (eqb b c) (split_first c last bs e)
   where
     pushed : (ps : List (List ℕ)) → get_or (push b ps) 0 [] ≡ b ∷ get_or ps 0 []
     pushed [] = refl
@@ -71,48 +71,48 @@ split-first c last (b ∷ bs) e = by (eqb b c) (split-first c last bs e)
 -- the piece p begins at position `at` of a text
 module _ (c : ℕ) (last : List (List ℕ)) (z : get_or last 0 [] ≡ []) (s p : List ℕ) (at : ℕ) (e : p ≡ get_or (split c last (drop at s)) 0 []) where
   piece_is : p ≡ take (position c (drop at s)) (drop at s)
-  piece_is = e ∙ split-first c last (drop at s) z
+  piece_is = e ∙ split_first c last (drop at s) z
 
-  piece-width : length p ≡ position c (drop at s)
-  piece-width = ap length piece_is ∙ length-take-le (position c (drop at s)) (drop at s) (first-le (is c) (drop at s))
+  piece_width : length p ≡ position c (drop at s)
+  piece_width = ap length piece_is ∙ length-take-le (position c (drop at s)) (drop at s) (first_le (is c) (drop at s))
 
-  piece-more : Piece c last (drop at s) (position c (drop at s)) → split c last (drop at s) ≡ p ∷ split c last (drop (at + length p + 1) s)
-  piece-more h =
+  piece_more : Piece c last (drop at s) (position c (drop at s)) → split c last (drop at s) ≡ p ∷ split c last (drop (at + length p + 1) s)
+  piece_more h =
       let g : at + (length p + 1) ≡ at + length p + 1 = omega arith in
       h
       ∙ ap (λ l. l ∷ split c last (drop (position c (drop at s) + 1) (drop at s))) (sym piece_is)
-      ∙ ap (λ n. p ∷ split c last (drop (n + 1) (drop at s))) (sym piece-width)
+      ∙ ap (λ n. p ∷ split c last (drop (n + 1) (drop at s))) (sym piece_width)
       ∙ ap (λ l. p ∷ split c last l) (drop-drop (length p + 1) at s ∙ ap (λ n. drop n s) g)
 
 -- ---- fields
-fields-none : split comma ([] ∷ []) [] ≡ [] ∷ []
+fields_none : split comma ([] ∷ []) [] ≡ [] ∷ []
 unfolding split
-fields-none = refl
+fields_none = refl
 
-fields-last : (s : List ℕ) → length s ≤ position comma s → fields s ≡ s ∷ []
-fields-last [] h = fields-none
-fields-last (b ∷ bs) h = split-none comma ([] ∷ []) (b ∷ bs) refl (omega arith) h
+fields_last : (s : List ℕ) → length s ≤ position comma s → fields s ≡ s ∷ []
+fields_last [] h = fields_none
+fields_last (b ∷ bs) h = split_none comma ([] ∷ []) (b ∷ bs) refl (omega arith) h
 
 -- the field f begins at position `at` of a line
 module _ (line f : List ℕ) (at : ℕ) (e : f ≡ get_or (fields (drop at line)) 0 []) where
   field_is : f ≡ take (position comma (drop at line)) (drop at line)
   field_is = piece_is comma ([] ∷ []) refl line f at e
 
-  field-width : length f ≡ position comma (drop at line)
-  field-width = piece-width comma ([] ∷ []) refl line f at e
+  field_width : length f ≡ position comma (drop at line)
+  field_width = piece_width comma ([] ∷ []) refl line f at e
 
   pub field_fits : at ≤ length line → at + length f ≤ length line
-  field_fits h = omega (arith, field-width, first-le (is comma) (drop at line), length-drop at line)
+  field_fits h = omega (arith, field_width, first_le (is comma) (drop at line), length-drop at line)
 
-  pub field-more : at + length f < length line → fields (drop at line) ≡ f ∷ fields (drop (at + length f + 1) line)
-  field-more h =
-      let k : position comma (drop at line) < length (drop at line) = omega (arith, field-width, length-drop at line) in
-      piece-more comma ([] ∷ []) refl line f at e (split-more comma ([] ∷ []) (drop at line) k)
+  pub field_more : at + length f < length line → fields (drop at line) ≡ f ∷ fields (drop (at + length f + 1) line)
+  field_more h =
+      let k : position comma (drop at line) < length (drop at line) = omega (arith, field_width, length-drop at line) in
+      piece_more comma ([] ∷ []) refl line f at e (split_more comma ([] ∷ []) (drop at line) k)
 
-  pub field-last : length line ≤ at + length f → fields (drop at line) ≡ f ∷ []
-  field-last h =
-      let k : length (drop at line) ≤ position comma (drop at line) = omega (arith, field-width, length-drop at line) in
-      fields-last (drop at line) k ∙ ap (λ s. s ∷ []) (sym (field_is ∙ take_all (position comma (drop at line)) (drop at line) k))
+  pub field_last : length line ≤ at + length f → fields (drop at line) ≡ f ∷ []
+  field_last h =
+      let k : length (drop at line) ≤ position comma (drop at line) = omega (arith, field_width, length-drop at line) in
+      fields_last (drop at line) k ∙ ap (λ s. s ∷ []) (sym (field_is ∙ take_all (position comma (drop at line)) (drop at line) k))
 
 -- ---- lines
 pub lines_none : lines [] ≡ []
@@ -127,29 +127,29 @@ lines_more s h = by (leb (length s) (position newline s)) refl
     by true f =
         let k : length s ≤ position newline s = leb-true (length s) (position newline s) f in
         let g : length s ≤ position newline s + 1 = omega arith in
-        split-none newline [] s refl h k
+        split_none newline [] s refl h k
         ∙ ap (λ l. l ∷ []) (sym (take_all (position newline s) s k))
         ∙ ap (λ l. take (position newline s) s ∷ l) (sym (ap lines (drop_of_length-le s g) ∙ lines_none))
-    by false f = split-more newline [] s (leb-false (length s) (position newline s) f)
+    by false f = split_more newline [] s (leb-false (length s) (position newline s) f)
 
-pub lines-some : (s : List ℕ) → 0 < length s → 0 < length (lines s)
-lines-some s h = rw (lines_more s h) (omega arith)
+pub lines_some : (s : List ℕ) → 0 < length s → 0 < length (lines s)
+lines_some s h = rw (lines_more s h) (omega arith)
 
 -- the line that begins at position `at`
 module _ (s line : List ℕ) (at : ℕ) (e : line ≡ get_or (lines (drop at s)) 0 []) where
-  pub line-is : line ≡ take (position newline (drop at s)) (drop at s)
-  line-is = piece_is newline [] refl s line at e
+  pub line_is : line ≡ take (position newline (drop at s)) (drop at s)
+  line_is = piece_is newline [] refl s line at e
 
-  pub line-width : length line ≡ position newline (drop at s)
-  line-width = piece-width newline [] refl s line at e
+  pub line_width : length line ≡ position newline (drop at s)
+  line_width = piece_width newline [] refl s line at e
 
-  pub line-more : at < length s → lines (drop at s) ≡ line ∷ lines (drop (at + length line + 1) s)
-  line-more h = let k : 0 < length (drop at s) = omega (arith, length-drop at s) in piece-more newline [] refl s line at e (lines_more (drop at s) k)
+  pub line_more : at < length s → lines (drop at s) ≡ line ∷ lines (drop (at + length line + 1) s)
+  line_more h = let k : 0 < length (drop at s) = omega (arith, length-drop at s) in piece_more newline [] refl s line at e (lines_more (drop at s) k)
 
   -- where the text ends in 0a, so does every line
-  pub line-ends : at < length s → get_or s (length s - 1) 0 ≡ newline → at + length line < length s
-  line-ends h z =
+  pub line_ends : at < length s → get_or s (length s - 1) 0 ≡ newline → at + length line < length s
+  line_ends h z =
       let f : at + (length s - 1 - at) ≡ length s - 1 = omega arith in
       let g : length s - 1 - at < length (drop at s) = omega (arith, length-drop at s) in
       let p : get_or (drop at s) (length s - 1 - at) 0 ≡ newline = get_or-drop at s (length s - 1 - at) 0 ∙ ap (λ n. get_or s n 0) f ∙ z in
-      omega (arith, line-width, first-before (is newline) (drop at s) (length s - 1 - at) g (eq-eqb _ newline p))
+      omega (arith, line_width, first_before (is newline) (drop at s) (length s - 1 - at) g (eq-eqb _ newline p))

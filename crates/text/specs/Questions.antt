@@ -2,6 +2,6 @@
 use Rattle.std.specs.Prelude.{Bool, cond, List, [], ◌∷◌, ℕ}
 
 -- each question is a test and the number of its no; the first no, and 0 where every answer is yes
-abbrev pub firstNo : List (Bool × ℕ) → ℕ
-firstNo [] = 0
-firstNo (q ∷ qs) = cond q.0 (firstNo qs) q.1
+abbrev pub first_no : List (Bool × ℕ) → ℕ
+first_no [] = 0
+first_no (q ∷ qs) = cond q.0 (first_no qs) q.1

@@ -30,37 +30,37 @@ pub record Row : Type 0 where
   pub widths : List ℕ
 
 -- the count that a call answers, with the slots that it leaves
-abbrev pub rowWith : ℕ → List ℕ → List ℕ → Row
-rowWith n vs ws = record { count = n; values = vs; widths = ws }
+abbrev pub row_with : ℕ → List ℕ → List ℕ → Row
+row_with n vs ws = record { count = n; values = vs; widths = ws }
 
 -- the values, "lower-case hexadecimal", and the widths of the fields, one after another (`sets`) in as many slots as there are;
 -- a slot past the last field keeps what it held
-abbrev pub rowOver : List ℕ → List ℕ → List ℕ → Row
-rowOver vs ws line =
-    rowWith (length (fields line)) (sets vs 0 (map (number 16) (fields line))) (sets ws 0 (map length (fields line)))
+abbrev pub row_over : List ℕ → List ℕ → List ℕ → Row
+row_over vs ws line =
+    row_with (length (fields line)) (sets vs 0 (map (number 16) (fields line))) (sets ws 0 (map length (fields line)))
 
 -- a line in n slots: a field that it lacks has the value 0 and the width 0
 unfoldable pub row_of : ℕ → List ℕ → Row
-row_of n line = rowOver (replicate n 0) (replicate n 0) line
+row_of n line = row_over (replicate n 0) (replicate n 0) line
 
 -- "has each field 1 to 16 digits" (01, question 33)
 abbrev pub wide : ℕ → Bool
 wide w = leb 1 w && leb w 16
 
-unfoldable pub allWide : List ℕ → Bool
-allWide [] = true
-allWide (w ∷ ws) = wide w && allWide ws
+unfoldable pub all_wide : List ℕ → Bool
+all_wide [] = true
+all_wide (w ∷ ws) = wide w && all_wide ws
 
 -- a field and those after it, with commas between
-abbrev pub joinFields : List ℕ → List (List ℕ) → List ℕ
-joinFields f [] = f
-joinFields f (g ∷ gs) = f ++ (comma ∷ joinFields g gs)
+abbrev pub join_fields : List ℕ → List (List ℕ) → List ℕ
+join_fields f [] = f
+join_fields f (g ∷ gs) = f ++ (comma ∷ join_fields g gs)
 
 -- fields on one line, and a text of such lines
-abbrev pub joinLine : List (List ℕ) → List ℕ
-joinLine [] = []
-joinLine (f ∷ fs) = joinFields f fs
+abbrev pub join_line : List (List ℕ) → List ℕ
+join_line [] = []
+join_line (f ∷ fs) = join_fields f fs
 
-abbrev pub joinLines : List (List (List ℕ)) → List ℕ
-joinLines [] = []
-joinLines (r ∷ rs) = joinLine r ++ (newline ∷ joinLines rs)
+abbrev pub join_lines : List (List (List ℕ)) → List ℕ
+join_lines [] = []
+join_lines (r ∷ rs) = join_line r ++ (newline ∷ join_lines rs)

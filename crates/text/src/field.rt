@@ -1,13 +1,13 @@
 // The lines of a text, and the fields of a line.
 ghost use Rattle.std.specs.Prelude.{◌≡◌, [], get_or, drop, take};
-ghost use Rattle.text.specs.Scan.{firstThat, is};
+ghost use Rattle.text.specs.Scan.{first_that, is};
 ghost use Rattle.text.specs.Split.{lines, fields};
 
 use crate::scan::{front, position, rest};
 
 // What stands from a position on, before the first c there.
 fn piece_at(s: &[u8], at: usize, c: u8) -> &[u8]
-    ensures { result.now ≡ take (firstThat (is c) (drop at s.now)) (drop at s.now) }
+    ensures { result.now ≡ take (first_that (is c) (drop at s.now)) (drop at s.now) }
 {
     let r = rest(s, at);
     front(r, position(r, c))

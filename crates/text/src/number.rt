@@ -1,17 +1,17 @@
 // Digits, and the numbers that they spell.
 ghost use Rattle.std.specs.Prelude.{◌≡◌, ◌<◌, ◌≤◌};
-ghost use Rattle.text.specs.Number.{isDigit, digitValue, number as Number·number};
+ghost use Rattle.text.specs.Number.{is_digit, digit_value, number as number_of};
 
 // Is it a digit, 0-9 or a-f?
 pub fn is_digit(b: u8) -> bool
-    ensures { result ≡ isDigit b }
+    ensures { result ≡ is_digit b }
 {
     ((48 <= b) & (b <= 57)) | ((97 <= b) & (b <= 102))
 }
 
 // The value of a digit, 0 of any other byte.
 pub fn digit_value(b: u8) -> u64
-    ensures { (result ≡ digitValue b) × (result < 16) }
+    ensures { (result ≡ digit_value b) × (result < 16) }
 {
     match b {
         48..=57 => (b - 48) as u64,
@@ -23,7 +23,7 @@ pub fn digit_value(b: u8) -> u64
 // The number that at most 16 digits of a base spell, 0 of more digits.
 pub fn number(s: &[u8], base: u64) -> u64
     requires { base ≤ 16 }
-    ensures { result ≡ Number·number base s.now }
+    ensures { result ≡ number_of base s.now }
 {
     if 16 < s.len() {
         return 0;

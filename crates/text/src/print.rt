@@ -1,6 +1,6 @@
 // Writing into a lent buffer. Each function answers the position after what it wrote.
 ghost use Rattle.std.specs.Prelude.{◌≡◌, [], ◌∷◌, ◌+◌, ◌<◌, ◌≤◌, length};
-ghost use Rattle.text.specs.Number.{digitByte, digits, decimal, hexadecimal};
+ghost use Rattle.text.specs.Number.{digit_byte, digits, decimal, hexadecimal};
 ghost use Rattle.text.specs.Write.{Wrote};
 
 // One byte.
@@ -28,7 +28,7 @@ pub fn put_text(buffer: &mut [u8], at: usize, text: &[u8]) -> usize
 // The byte of a digit.
 fn digit_byte(d: u64) -> u8
     requires { d < 16 }
-    ensures { result ≡ digitByte d }
+    ensures { result ≡ digit_byte d }
 {
     let b = d as u8;
     if d < 10 { 48 + b } else { 87 + b }

@@ -1,6 +1,6 @@
 // The fields of a line as numbers, each field read once.
 ghost use Rattle.std.specs.Prelude.{◌≡◌, set};
-ghost use Rattle.text.specs.Split.{rowWith, rowOver, allWide};
+ghost use Rattle.text.specs.Split.{row_with, row_over, all_wide};
 
 use crate::field::field_at;
 use crate::number::number;
@@ -17,7 +17,7 @@ fn fill(slots: &mut [u64], k: usize, n: u64)
 
 // The values and the widths of a line's fields, in as many slots as are lent, and how many fields there are.
 pub fn read_row(line: &[u8], values: &mut [u64], widths: &mut [u64]) -> usize
-    ensures { rowWith result values.new widths.new ≡ rowOver values.old widths.old line.now }
+    ensures { row_with result values.new widths.new ≡ row_over values.old widths.old line.now }
 {
     let mut at = 0;
     let mut count = 0;
@@ -36,7 +36,7 @@ pub fn read_row(line: &[u8], values: &mut [u64], widths: &mut [u64]) -> usize
 
 // Have all fields of these widths 1 to 16 digits?
 pub fn all_wide(widths: &[u64]) -> bool
-    ensures { result ≡ allWide widths.now }
+    ensures { result ≡ all_wide widths.now }
 {
     let mut i = 0;
     while i < widths.len() {

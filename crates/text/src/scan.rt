@@ -1,10 +1,10 @@
 // Positions in a text, and the parts of it before and after a position.
 ghost use Rattle.std.specs.Prelude.{◌≡◌, ◌-◌, ◌≤◌, length, get_or, take, drop};
-ghost use Rattle.text.specs.Scan.{firstThat, is};
+ghost use Rattle.text.specs.Scan.{first_that, is};
 
 // The position of the first c, or the length.
 pub fn position(s: &[u8], c: u8) -> usize
-    ensures { (result ≡ firstThat (is c) s.now) × (result ≤ length s.now) }
+    ensures { (result ≡ first_that (is c) s.now) × (result ≤ length s.now) }
 {
     let mut i = 0;
     while i < s.len() {

@@ -2,7 +2,7 @@
 #![tactic(auto)]
 
 ghost use Rattle.std.specs.Prelude.{◌≡◌, ◌≤◌};
-ghost use Rattle.scheduler.specs.Turn.{mostSlots, noTurn, tookTurn, turnedWith, turnCall, putCall};
+ghost use Rattle.scheduler.specs.Turn.{most_slots, no_turn, took_turn, turned_with, turn_call, put_call};
 
 pub mod order;
 pub mod refusal;
@@ -14,7 +14,7 @@ use scheduler::{MOST_SLOTS, Put, Scheduler, Slot, Turned};
 
 // A turn in which no run is made: nothing has changed.
 fn no_turn(stop: u64, s: Scheduler) -> Turned
-    ensures { result ≡ noTurn stop s }
+    ensures { result ≡ no_turn stop s }
 {
     let t = s;
     Turned {
@@ -28,8 +28,8 @@ fn no_turn(stop: u64, s: Scheduler) -> Turned
 
 // Slot n has made the run that answered r: what that run left, and whose turn is next.
 fn took_turn(s: Scheduler, n: u64, r: Ran) -> Turned
-    requires { (1 ≤ n) × (n ≤ mostSlots) }
-    ensures { result ≡ tookTurn s n r }
+    requires { (1 ≤ n) × (n ≤ most_slots) }
+    ensures { result ≡ took_turn s n r }
 {
     let m = r.machine;
     let d = Slot {
@@ -51,7 +51,7 @@ fn took_turn(s: Scheduler, n: u64, r: Ran) -> Turned
 
 // A turn of any machines over any memory, with any allowance.
 pub fn turn_call(s: Scheduler, mem: &mut [u8], allowance: u64) -> Turned
-    ensures { turnedWith result mem.new ≡ turnCall s mem.old allowance }
+    ensures { turned_with result mem.new ≡ turn_call s mem.old allowance }
 {
     let stop = refusal(s, mem.len(), allowance);
     if stop != 0 {
@@ -68,9 +68,9 @@ pub fn turn_call(s: Scheduler, mem: &mut [u8], allowance: u64) -> Turned
 }
 
 // A machine put into slot n; a number that no slot has changes nothing.
-#[tactic(auto, unfolding(scheduler::specs::Turn::putCall))]
+#[tactic(auto, unfolding(scheduler::specs::Turn::put_call))]
 pub fn put_call(s: Scheduler, n: u64, m: Machine) -> Put
-    ensures { result ≡ putCall s n m }
+    ensures { result ≡ put_call s n m }
 {
     let mut t = s;
     if !within(MOST_SLOTS, n) {

@@ -1,19 +1,19 @@
 // Whose turn it is: "the first deck not stopped, from the place on and round to the first".
 ghost use Rattle.std.specs.Prelude.{◌≡◌, ◌≤◌};
-ghost use Rattle.scheduler.specs.Turn.{mostSlots, within as isWithin, slot, stopped as isStopped, place_in, following as followingOf, nextSlot};
+ghost use Rattle.scheduler.specs.Turn.{most_slots, within as is_within, slot, stopped as is_stopped, place_in, following as following_of, next_slot};
 
 use scheduler::{SLOTS, Scheduler, Slot};
 
 // From 1 to `most`?
 pub fn within(most: u64, n: u64) -> bool
-    ensures { result ≡ isWithin most n }
+    ensures { result ≡ is_within most n }
 {
     (1 <= n) & (n <= most)
 }
 
 // Slot n.
 pub fn slot_at(slots: [Slot; SLOTS], n: u64) -> Slot
-    requires { (1 ≤ n) × (n ≤ mostSlots) }
+    requires { (1 ≤ n) × (n ≤ most_slots) }
     ensures { result ≡ slot slots n }
 {
     slots[(n - 1) as usize]
@@ -21,7 +21,7 @@ pub fn slot_at(slots: [Slot; SLOTS], n: u64) -> Slot
 
 // Is it passed over?
 pub fn stopped(d: Slot) -> bool
-    ensures { result ≡ isStopped d }
+    ensures { result ≡ is_stopped d }
 {
     !((d.stop == 0) | (d.stop == 21))
 }
@@ -35,15 +35,15 @@ fn place_in(count: u64, place: u64) -> u64
 
 // The number after n, and 1 after the last.
 pub fn following(count: u64, n: u64) -> u64
-    ensures { result ≡ followingOf count n }
+    ensures { result ≡ following_of count n }
 {
     if n < count { n + 1 } else { 1 }
 }
 
 // The slot whose turn it is; 0 if all are stopped.
 pub fn next_slot(s: Scheduler) -> u64
-    requires { (1 ≤ s.count) × (s.count ≤ mostSlots) }
-    ensures { result ≡ nextSlot s }
+    requires { (1 ≤ s.count) × (s.count ≤ most_slots) }
+    ensures { result ≡ next_slot s }
 {
     let slots = s.slots;
     let count = s.count;

@@ -1,6 +1,6 @@
 // What a turn is refused for, "the order is 1, 50, 51, then deck by deck from 1, stopped ones left out, 3, 4, 52"; 0 for nothing.
 ghost use Rattle.std.specs.Prelude.{◌≡◌, ◌≤◌};
-ghost use Rattle.scheduler.specs.Turn.{mostSlots, slotRefusal, slotsRefusal, refusal as refusalOf};
+ghost use Rattle.scheduler.specs.Turn.{most_slots, slot_refusal, slots_refusal, refusal as refusal_of};
 
 use crate::order::{slot_at, stopped, within};
 use hart::regions::numbers_of;
@@ -11,9 +11,9 @@ use scheduler::{LARGEST_ALLOWANCE, MOST_SLOTS, SLOTS, Scheduler, Slot};
 use writable_code::exposes_code;
 
 // Of one slot.
-#[tactic(auto, unfolding(scheduler::specs::Turn::slotRefusal))]
+#[tactic(auto, unfolding(scheduler::specs::Turn::slot_refusal))]
 fn slot_refusal(d: Slot) -> u64
-    ensures { result ≡ slotRefusal d }
+    ensures { result ≡ slot_refusal d }
 {
     if stopped(d) {
         return 0;
@@ -37,8 +37,8 @@ fn slot_refusal(d: Slot) -> u64
 
 // Of the first slot that is refused.
 fn slots_refusal(slots: [Slot; SLOTS], count: u64) -> u64
-    requires { count ≤ mostSlots }
-    ensures { result ≡ slotsRefusal slots count 1 }
+    requires { count ≤ most_slots }
+    ensures { result ≡ slots_refusal slots count 1 }
 {
     let mut n: u64 = 1;
     while n <= count {
@@ -54,7 +54,7 @@ fn slots_refusal(slots: [Slot; SLOTS], count: u64) -> u64
 // Of a turn over a memory of `size` bytes.
 #[tactic(auto, unfolding(scheduler::specs::Turn::refusal))]
 pub fn refusal(s: Scheduler, size: usize, allowance: u64) -> u64
-    ensures { result ≡ refusalOf s size allowance }
+    ensures { result ≡ refusal_of s size allowance }
 {
     if LONGEST < size {
         return 1;

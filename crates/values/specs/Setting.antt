@@ -2,13 +2,13 @@
 -- Machine is declared in model/src/lib.rt. Assumes nothing.
 use Rattle.std.specs.Prelude.{List, ℕ, zero, suc, ◌+◌, ◌*◌, take, drop}
 use Rattle.model.specs.declared.Machine.{Machine}
-use Rattle.model.specs.Machine.{zeroRegions}
+use Rattle.model.specs.Machine.{zero_regions}
 use Rattle.model.specs.Bytes.{written}
 use Rattle.text.specs.Number.{number}
 
 -- all zero but the registers and pc
-abbrev pub machineAt : List ℕ → ℕ → Machine
-machineAt x pc =
+abbrev pub machine_at : List ℕ → ℕ → Machine
+machine_at x pc =
     record {
       x = x;
       pc = pc;
@@ -20,7 +20,7 @@ machineAt x pc =
             options = 0;
             handler = 0;
             selector = 0;
-            regions = zeroRegions;
+            regions = zero_regions;
             fault = record { occurred = 0; region = 0; op = 0; address = 0 };
           };
     }

@@ -1,6 +1,6 @@
 // What a case starts from: a machine outside HFI mode, and words in memory.
 ghost use Rattle.std.specs.Prelude.{◌≡◌, ◌+◌, ◌*◌, ◌≤◌, length};
-ghost use Rattle.values.specs.Setting.{machineAt, placed};
+ghost use Rattle.values.specs.Setting.{machine_at, placed};
 
 use columns::hexadecimal_at;
 use memory::bytes::write;
@@ -8,7 +8,7 @@ use model::{Fault, HfiState, Machine, REGIONS, Region};
 
 // All zero but the registers and pc.
 pub fn machine(x: [u64; 32], pc: u64) -> Machine
-    ensures { result ≡ machineAt x pc }
+    ensures { result ≡ machine_at x pc }
 {
     let none = Region {
         base: 0,

@@ -9,129 +9,129 @@ use borrow.Author.Tests.{eqb-false, not-true, not-false}
 use Rattle.words.specs.Word.{signed, word}
 use Rattle.words.specs.Integer.{quotient, remainder}
 use Rattle.words.proofs.Signed.{negative, not_negative}
-use Rattle.words.proofs.Residues.{word_lt, word-neg}
+use Rattle.words.proofs.Residues.{word_lt, word_neg}
 
 -- n or -n
-abbrev pub signedBy : Bool → ℕ → ℤ
-signedBy below n = cond below (neg_ℤ (pos n)) (pos n)
+abbrev pub signed_by : Bool → ℕ → ℤ
+signed_by below n = cond below (neg_ℤ (pos n)) (pos n)
 
-pub quot-signs : (n d : ℤ) → quot_z n d ≡ signedBy (xor (not (non_neg n)) (not (non_neg d))) (nat_abs n / nat_abs d)
+pub quot_signs : (n d : ℤ) → quot_z n d ≡ signed_by (xor (not (non_neg n)) (not (non_neg d))) (nat_abs n / nat_abs d)
 unfolding xor
-quot-signs (pos n) (pos d) = refl
-quot-signs (pos n) (negsuc d) = refl
-quot-signs (negsuc n) (pos d) = refl
-quot-signs (negsuc n) (negsuc d) = refl
+quot_signs (pos n) (pos d) = refl
+quot_signs (pos n) (negsuc d) = refl
+quot_signs (negsuc n) (pos d) = refl
+quot_signs (negsuc n) (negsuc d) = refl
 
-pub rem-sign : (n d : ℤ) → rem_z n d ≡ signedBy (not (non_neg n)) (nat_abs n % nat_abs d)
-rem-sign (pos n) d = refl
-rem-sign (negsuc n) d = refl
+pub rem_sign : (n d : ℤ) → rem_z n d ≡ signed_by (not (non_neg n)) (nat_abs n % nat_abs d)
+rem_sign (pos n) d = refl
+rem_sign (negsuc n) d = refl
 
 -- ---- the magnitude of k bits read as signed
 
-magnitude-negative : (k x : ℕ) → x < 2 ^ k → not (non_neg (signed k x)) ≡ true → 2 ^ k - 1 - x + 1 ≡ nat_abs (signed k x)
-magnitude-negative k x h e = rw (negative k x e).0 (omega arith)
+magnitude_negative : (k x : ℕ) → x < 2 ^ k → not (non_neg (signed k x)) ≡ true → 2 ^ k - 1 - x + 1 ≡ nat_abs (signed k x)
+magnitude_negative k x h e = rw (negative k x e).0 (omega arith)
 
-magnitude-positive : (k x : ℕ) → not (non_neg (signed k x)) ≡ false → x ≡ nat_abs (signed k x)
-magnitude-positive k x e = rw (not_negative k x e) refl
+magnitude_positive : (k x : ℕ) → not (non_neg (signed k x)) ≡ false → x ≡ nat_abs (signed k x)
+magnitude_positive k x e = rw (not_negative k x e) refl
 
 -- the magnitude is the number itself, or its opposite's bits
-pub magnitude-word : (k x : ℕ) (p : Bool) → x < 2 ^ k → p ≡ not (non_neg (signed k x)) → word k (signedBy p x) ≡ nat_abs (signed k x)
-magnitude-word k x true h e =
+pub magnitude_word : (k x : ℕ) (p : Bool) → x < 2 ^ k → p ≡ not (non_neg (signed k x)) → word k (signed_by p x) ≡ nat_abs (signed k x)
+magnitude_word k x true h e =
     let n = negative k x (sym e) in
     let l : 0 < x = lt_of_lt_of_le (pow_pos (k - 1)) n.1 in
-    let m = magnitude-negative k x h (sym e) in
-    word-neg k x (nat_abs (signed k x)) (omega arith) (ap (λ (r : ℕ). r % 2 ^ k) (omega arith) ∙ mod_self (2 ^ k))
-magnitude-word k x false h e = mod-eq_of_lt h ∙ magnitude-positive k x (sym e)
+    let m = magnitude_negative k x h (sym e) in
+    word_neg k x (nat_abs (signed k x)) (omega arith) (ap (λ (r : ℕ). r % 2 ^ k) (omega arith) ∙ mod_self (2 ^ k))
+magnitude_word k x false h e = mod-eq_of_lt h ∙ magnitude_positive k x (sym e)
 
 -- only 0 has the magnitude 0
-pub magnitude-zero : (k x : ℕ) {m : ℕ} → x < 2 ^ k → m ≡ nat_abs (signed k x) → m ≡ 0 → x ≡ 0
-magnitude-zero k x {m} h d e = go (not (non_neg (signed k x))) refl
+pub magnitude_zero : (k x : ℕ) {m : ℕ} → x < 2 ^ k → m ≡ nat_abs (signed k x) → m ≡ 0 → x ≡ 0
+magnitude_zero k x {m} h d e = go (not (non_neg (signed k x))) refl
   where
     go : (b : Bool) → not (non_neg (signed k x)) ≡ b → x ≡ 0
-    go true f = absurd (lt_irrefl 0 (omega (arith, magnitude-negative k x h f)))
-    go false f = magnitude-positive k x f ∙ sym d ∙ e
+    go true f = absurd (lt_irrefl 0 (omega (arith, magnitude_negative k x h f)))
+    go false f = magnitude_positive k x f ∙ sym d ∙ e
 
-pub magnitude-lt : (k x : ℕ) {m : ℕ} → x < 2 ^ k → m ≡ nat_abs (signed k x) → m < 2 ^ k
-magnitude-lt k x {m} h d = go (not (non_neg (signed k x))) refl
+pub magnitude_lt : (k x : ℕ) {m : ℕ} → x < 2 ^ k → m ≡ nat_abs (signed k x) → m < 2 ^ k
+magnitude_lt k x {m} h d = go (not (non_neg (signed k x))) refl
   where
     go : (b : Bool) → not (non_neg (signed k x)) ≡ b → m < 2 ^ k
-    go true f = omega (arith, magnitude-negative k x h f, (negative k x f).1, pow_pos (k - 1))
-    go false f = omega (arith, magnitude-positive k x f)
+    go true f = omega (arith, magnitude_negative k x h f, (negative k x f).1, pow_pos (k - 1))
+    go false f = omega (arith, magnitude_positive k x f)
 
 -- ---- the bits of a magnitude with a sign
 
 -- a sign and something to apply it to
-pub to-negate : (below : Bool) (m : ℕ) → (below && not (eqb m 0)) ≡ true → (below ≡ true) × (0 < m)
-to-negate true m e = (refl, omega (arith, eqb-false m 0 (not-true (eqb m 0) e)))
-to-negate false m e = absurd (true≢false (sym e))
+pub to_negate : (below : Bool) (m : ℕ) → (below && not (eqb m 0)) ≡ true → (below ≡ true) × (0 < m)
+to_negate true m e = (refl, omega (arith, eqb-false m 0 (not-true (eqb m 0) e)))
+to_negate false m e = absurd (true≢false (sym e))
 
 -- `top - m + 1`
-pub sign-applied : (k m top : ℕ) (below : Bool) → m < 2 ^ k → top ≡ 2 ^ k - 1 → (below && not (eqb m 0)) ≡ true
-    → top - m + 1 ≡ word k (signedBy below m)
-sign-applied k m top below l e b =
-    let h = (to-negate below m b).1 in
-    rw (to-negate below m b).0 (sym (word-neg k m (top - m + 1) (omega arith) (ap (λ (n : ℕ). n % 2 ^ k) (omega arith) ∙ mod_self (2 ^ k))))
+pub sign_applied : (k m top : ℕ) (below : Bool) → m < 2 ^ k → top ≡ 2 ^ k - 1 → (below && not (eqb m 0)) ≡ true
+    → top - m + 1 ≡ word k (signed_by below m)
+sign_applied k m top below l e b =
+    let h = (to_negate below m b).1 in
+    rw (to_negate below m b).0 (sym (word_neg k m (top - m + 1) (omega arith) (ap (λ (n : ℕ). n % 2 ^ k) (omega arith) ∙ mod_self (2 ^ k))))
 
-pub sign-absent : (k m : ℕ) (below : Bool) → m < 2 ^ k → (below && not (eqb m 0)) ≡ false → m ≡ word k (signedBy below m)
-sign-absent k m true l e = let z = eqb-true m 0 (not-false (eqb m 0) e) in rw z (sym (mod-eq_of_lt (omega arith)))
-sign-absent k m false l e = sym (mod-eq_of_lt l)
+pub sign_absent : (k m : ℕ) (below : Bool) → m < 2 ^ k → (below && not (eqb m 0)) ≡ false → m ≡ word k (signed_by below m)
+sign_absent k m true l e = let z = eqb-true m 0 (not-false (eqb m 0) e) in rw z (sym (mod-eq_of_lt (omega arith)))
+sign_absent k m false l e = sym (mod-eq_of_lt l)
 
 -- ---- quotients
 
-pub quotient-by-zero : (w : ℕ) (n d : ℤ) → nat_abs d ≡ 0 → quotient w n d ≡ 2 ^ w - 1
+pub quotient_by_zero : (w : ℕ) (n d : ℤ) → nat_abs d ≡ 0 → quotient w n d ≡ 2 ^ w - 1
 unfolding quotient
-quotient-by-zero w n d e = rw (eq-eqb (nat_abs d) 0 e) refl
+quotient_by_zero w n d e = rw (eq-eqb (nat_abs d) 0 e) refl
 
-quotient-word : (w : ℕ) (n d : ℤ) → (nat_abs d ≡ 0 → ⊥) → quotient w n d ≡ word w (quot_z n d)
+quotient_word : (w : ℕ) (n d : ℤ) → (nat_abs d ≡ 0 → ⊥) → quotient w n d ≡ word w (quot_z n d)
 unfolding quotient
-quotient-word w n d e = rw (ne_eqb (nat_abs d) 0 e) refl
+quotient_word w n d e = rw (ne_eqb (nat_abs d) 0 e) refl
 
-pub quotient-lt : (w : ℕ) (n d : ℤ) → quotient w n d < 2 ^ w
+pub quotient_lt : (w : ℕ) (n d : ℤ) → quotient w n d < 2 ^ w
 unfolding quotient
-quotient-lt w n d = go (eqb (nat_abs d) 0) refl
+quotient_lt w n d = go (eqb (nat_abs d) 0) refl
   where
     go : (b : Bool) → eqb (nat_abs d) 0 ≡ b → quotient w n d < 2 ^ w
     go true e = rw e (ones_lt w)
     go false e = rw e (word_lt w (quot_z n d))
 
 pub quotient_unsigned : (w a b : ℕ) → a < 2 ^ w → (b ≡ 0 → ⊥) → quotient w (pos a) (pos b) ≡ a / b
-quotient_unsigned w a b h e = quotient-word w (pos a) (pos b) e ∙ mod-eq_of_lt (lt_of_le_of_lt (div-le_self a b) h)
+quotient_unsigned w a b h e = quotient_word w (pos a) (pos b) e ∙ mod-eq_of_lt (lt_of_le_of_lt (div-le_self a b) h)
 
 -- ---- remainders
 
-pub rem-zero : (n d : ℤ) → nat_abs d ≡ 0 → n ≡ rem_z n d
-rem-zero (pos n) d e = ap pos (sym (ap (λ (m : ℕ). n % m) e ∙ mod-zero n))
-rem-zero (negsuc n) d e = ap (λ (m : ℕ). neg_ℤ (pos m)) (sym (ap (λ (m : ℕ). suc n % m) e ∙ mod-zero (suc n)))
+pub rem_zero : (n d : ℤ) → nat_abs d ≡ 0 → n ≡ rem_z n d
+rem_zero (pos n) d e = ap pos (sym (ap (λ (m : ℕ). n % m) e ∙ mod-zero n))
+rem_zero (negsuc n) d e = ap (λ (m : ℕ). neg_ℤ (pos m)) (sym (ap (λ (m : ℕ). suc n % m) e ∙ mod-zero (suc n)))
 
 -- by zero too
-pub remainder-word : (w : ℕ) (n d : ℤ) → remainder w n d ≡ word w (rem_z n d)
+pub remainder_word : (w : ℕ) (n d : ℤ) → remainder w n d ≡ word w (rem_z n d)
 unfolding remainder
-remainder-word w n d = go (eqb (nat_abs d) 0) refl
+remainder_word w n d = go (eqb (nat_abs d) 0) refl
   where
     go : (b : Bool) → eqb (nat_abs d) 0 ≡ b → remainder w n d ≡ word w (rem_z n d)
-    go true e = rw e (ap (word w) (rem-zero n d (eqb-true (nat_abs d) 0 e)))
+    go true e = rw e (ap (word w) (rem_zero n d (eqb-true (nat_abs d) 0 e)))
     go false e = rw e refl
 
-pub remainder-lt : (w : ℕ) (n d : ℤ) → remainder w n d < 2 ^ w
-remainder-lt w n d = rw (remainder-word w n d) (word_lt w (rem_z n d))
+pub remainder_lt : (w : ℕ) (n d : ℤ) → remainder w n d < 2 ^ w
+remainder_lt w n d = rw (remainder_word w n d) (word_lt w (rem_z n d))
 
 pub remainder_unsigned : (w a b : ℕ) → a < 2 ^ w → remainder w (pos a) (pos b) ≡ a % b
-remainder_unsigned w a b h = remainder-word w (pos a) (pos b) ∙ mod-eq_of_lt (lt_of_le_of_lt (mod-le a b) h)
+remainder_unsigned w a b h = remainder_word w (pos a) (pos b) ∙ mod-eq_of_lt (lt_of_le_of_lt (mod-le a b) h)
 
 -- ---- signed operands: their magnitudes m and n, and whether they are negative, p and q
 
-signed-zero : (w : ℕ) → nat_abs (signed w 0) ≡ 0
-signed-zero w = rw (lt-ltb 0 (2 ^ (w - 1)) (pow_pos (w - 1))) refl
+signed_zero : (w : ℕ) → nat_abs (signed w 0) ≡ 0
+signed_zero w = rw (lt-ltb 0 (2 ^ (w - 1)) (pow_pos (w - 1))) refl
 
-pub signed-by-zero : (w a b : ℕ) → b ≡ 0 → quotient w (signed w a) (signed w b) ≡ 2 ^ w - 1
-signed-by-zero w a b e = quotient-by-zero w (signed w a) (signed w b) (ap (λ (n : ℕ). nat_abs (signed w n)) e ∙ signed-zero w)
+pub signed_by_zero : (w a b : ℕ) → b ≡ 0 → quotient w (signed w a) (signed w b) ≡ 2 ^ w - 1
+signed_by_zero w a b e = quotient_by_zero w (signed w a) (signed w b) (ap (λ (n : ℕ). nat_abs (signed w n)) e ∙ signed_zero w)
 
 pub signed_quotient : (w a b : ℕ) {m n : ℕ} {p q : Bool} → m ≡ nat_abs (signed w a) → n ≡ nat_abs (signed w b) → p ≡ not (non_neg (signed w a))
-    → q ≡ not (non_neg (signed w b)) → b < 2 ^ w → (b ≡ 0 → ⊥) → word w (signedBy (xor p q) (m / n)) ≡ quotient w (signed w a) (signed w b)
+    → q ≡ not (non_neg (signed w b)) → b < 2 ^ w → (b ≡ 0 → ⊥) → word w (signed_by (xor p q) (m / n)) ≡ quotient w (signed w a) (signed w b)
 signed_quotient w a b em en ep eq h z =
-    rw (em, en, ep, eq) (ap (word w) (sym (quot-signs (signed w a) (signed w b))) ∙ sym (quotient-word w (signed w a) (signed w b) (λ e. z (magnitude-zero w b h refl e))))
+    rw (em, en, ep, eq) (ap (word w) (sym (quot_signs (signed w a) (signed w b))) ∙ sym (quotient_word w (signed w a) (signed w b) (λ e. z (magnitude_zero w b h refl e))))
 
-pub signed-remainder : (w a b : ℕ) {m n : ℕ} {p : Bool} → m ≡ nat_abs (signed w a) → n ≡ nat_abs (signed w b) → p ≡ not (non_neg (signed w a))
-    → word w (signedBy p (m % n)) ≡ remainder w (signed w a) (signed w b)
-signed-remainder w a b em en ep =
-    rw (em, en, ep) (ap (word w) (sym (rem-sign (signed w a) (signed w b))) ∙ sym (remainder-word w (signed w a) (signed w b)))
+pub signed_remainder : (w a b : ℕ) {m n : ℕ} {p : Bool} → m ≡ nat_abs (signed w a) → n ≡ nat_abs (signed w b) → p ≡ not (non_neg (signed w a))
+    → word w (signed_by p (m % n)) ≡ remainder w (signed w a) (signed w b)
+signed_remainder w a b em en ep =
+    rw (em, en, ep) (ap (word w) (sym (rem_sign (signed w a) (signed w b))) ∙ sym (remainder_word w (signed w a) (signed w b)))

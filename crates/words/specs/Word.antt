@@ -20,8 +20,8 @@ unfoldable pub sext : ℕ → ℕ → ℕ
 sext k x = word 64 (signed k x)
 
 -- x is what a signed field of k bits can express: the sign extension of its own k low bits
-abbrev pub fitsSigned : ℕ → ℕ → Bool
-fitsSigned k x = sext k (field x 0 k) == x
+abbrev pub fits_signed : ℕ → ℕ → Bool
+fits_signed k x = sext k (field x 0 k) == x
 
 -- pieces of a number, the highest first, each a width and a value
 abbrev pub width : List (ℕ × ℕ) → ℕ

@@ -4,7 +4,7 @@
 ghost use Rattle.std.specs.Prelude.{◌≡◌, ◌^◌, ◌<◌, ◌≤◌, pos, ◌*ℤ◌, neg_ℤ, if◌then◌else◌, unsigned_abs};
 ghost use Rattle.std.specs.Int.Signed.{non_neg};
 ghost use Rattle.words.specs.Word.{signed, word};
-ghost use Rattle.words.specs.Integer.{low_half, high_half, quotient, remainder as remainderOf};
+ghost use Rattle.words.specs.Integer.{low_half, high_half, quotient, remainder as remainder_of};
 
 use crate::{is_negative, ones};
 use std::num::{wrapping_add_u64, wrapping_sub_u64};
@@ -82,7 +82,7 @@ pub fn divide(a: u64, b: u64, width: u64) -> u64
 
 // The remainder, unsigned.
 pub fn remainder(a: u64, b: u64) -> u64
-    ensures { result ≡ remainderOf 64 (pos a) (pos b) }
+    ensures { result ≡ remainder_of 64 (pos a) (pos b) }
 {
     if b == 0 { a } else { a % b }
 }
@@ -103,7 +103,7 @@ pub fn divide_signed(a: u64, b: u64, width: u64) -> u64
 // The remainder, signed: that of the magnitudes, with the dividend's sign.
 pub fn remainder_signed(a: u64, b: u64, width: u64) -> u64
     requires { (0 < width) × (width ≤ 64) × (a < 2 ^ width) × (b < 2 ^ width) }
-    ensures { result ≡ remainderOf width (signed width a) (signed width b) }
+    ensures { result ≡ remainder_of width (signed width a) (signed width b) }
 {
     with_sign(
         is_negative(a, width),

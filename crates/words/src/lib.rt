@@ -3,7 +3,7 @@
 
 ghost use Rattle.std.specs.Prelude.{◌≡◌, ◌+◌, ◌-◌, ◌*◌, ◌^◌, ◌<◌, ◌≤◌, not, int_lt};
 ghost use Rattle.std.specs.Int.Signed.{non_neg, shr_z};
-ghost use Rattle.words.specs.Word.{field, signed, word, sext, fitsSigned};
+ghost use Rattle.words.specs.Word.{field, signed, word, sext, fits_signed};
 
 pub mod integer;
 
@@ -35,7 +35,7 @@ pub fn sign_extend(x: u64, width: u64) -> u64
 // Can a signed field of `width` bits express `x`?
 pub fn fits_signed(x: u64, width: u64) -> bool
     requires { (0 < width) × (width < 64) }
-    ensures { result ≡ fitsSigned width x }
+    ensures { result ≡ fits_signed width x }
 {
     sign_extend(bits(x, 0, width), width) == x
 }

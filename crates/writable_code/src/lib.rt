@@ -3,10 +3,10 @@
 #![tactic(auto)]
 
 ghost use Rattle.std.specs.Prelude.{◌≡◌, true, ◌<◌};
-ghost use Rattle.instructions.specs.HWords.{explicitRegions, among};
-ghost use Rattle.model.specs.Regions.{regionKind};
-ghost use Rattle.model.specs.WritableCode.{covers as isCovered, explicitCovers, writableAt, executableAt, bothAt, keepsRule, regionEnd, edgesOf, some, writableCode, exposesCode};
-ghost use Rattle.hart.specs.State.{regionsOf, stateWith};
+ghost use Rattle.instructions.specs.HWords.{explicit_regions, among};
+ghost use Rattle.model.specs.Regions.{region_kind};
+ghost use Rattle.model.specs.WritableCode.{covers as is_covered, explicit_covers, writable_at, executable_at, both_at, keeps_rule, region_end, edges_of, some, writable_code, exposes_code};
+ghost use Rattle.hart.specs.State.{regions_of, state_with};
 
 use hart::regions::{REGION_NUMBERS, region_at};
 use hart::state::{Control, locked};
@@ -17,7 +17,7 @@ use model::{CODE_REGIONS, DATA_REGIONS, EXECUTE, EXPLICIT_REGIONS, LAST_REGION, 
 // Does the explicit region have the byte at `a`, with the permission `wanted`?
 fn covers(wanted: u64, a: u64, r: Region) -> bool
     requires { wanted < 64 }
-    ensures { result ≡ isCovered wanted a r }
+    ensures { result ≡ is_covered wanted a r }
 {
     if explicit_rule(r) & permits(wanted, r) {
         (r.base <= a) & (a < r.base + r.bound)
@@ -29,7 +29,7 @@ fn covers(wanted: u64, a: u64, r: Region) -> bool
 // Does one of the explicit regions `ns`?
 fn explicit_covers(rs: &[u64; REGION_NUMBERS], ns: &[u64], wanted: u64, a: u64) -> bool
     requires { wanted < 64 }
-    ensures { result ≡ explicitCovers (regionsOf rs.now) ns.now wanted a }
+    ensures { result ≡ explicit_covers (regions_of rs.now) ns.now wanted a }
 {
     let mut i = 0;
     while i < ns.len() {
@@ -42,20 +42,20 @@ fn explicit_covers(rs: &[u64; REGION_NUMBERS], ns: &[u64], wanted: u64, a: u64) 
 }
 
 fn writable_at(rs: &[u64; REGION_NUMBERS], a: u64) -> bool
-    ensures { result ≡ writableAt (regionsOf rs.now) a }
+    ensures { result ≡ writable_at (regions_of rs.now) a }
 {
     grants(rs, &DATA_REGIONS, WRITE, a) | explicit_covers(rs, &EXPLICIT_REGIONS, WRITE, a)
 }
 
 fn executable_at(rs: &[u64; REGION_NUMBERS], a: u64) -> bool
-    ensures { result ≡ executableAt (regionsOf rs.now) a }
+    ensures { result ≡ executable_at (regions_of rs.now) a }
 {
     grants(rs, &CODE_REGIONS, EXECUTE, a)
 }
 
 // Is the byte at `a` both?
 fn both_at(rs: &[u64; REGION_NUMBERS], a: u64) -> bool
-    ensures { result ≡ bothAt (regionsOf rs.now) a }
+    ensures { result ≡ both_at (regions_of rs.now) a }
 {
     if executable_at(rs, a) {
         writable_at(rs, a)
@@ -66,7 +66,7 @@ fn both_at(rs: &[u64; REGION_NUMBERS], a: u64) -> bool
 
 // Is region `n` explicit?
 fn is_explicit(n: u64) -> bool
-    ensures { result ≡ among n explicitRegions }
+    ensures { result ≡ among n explicit_regions }
 {
     match n {
         1 => true,
@@ -79,7 +79,7 @@ fn is_explicit(n: u64) -> bool
 
 // Does the region keep the rule of number `n`'s kind?
 fn keeps_rule(n: u64, r: Region) -> bool
-    ensures { result ≡ keepsRule (regionKind n) r }
+    ensures { result ≡ keeps_rule (region_kind n) r }
 {
     if is_explicit(n) {
         explicit_rule(r)
@@ -90,8 +90,8 @@ fn keeps_rule(n: u64, r: Region) -> bool
 
 // Where a region that keeps its rule ends.
 fn region_end(n: u64, r: Region) -> u64
-    requires { keepsRule (regionKind n) r ≡ true }
-    ensures { result ≡ regionEnd (regionKind n) r }
+    requires { keeps_rule (region_kind n) r ≡ true }
+    ensures { result ≡ region_end (region_kind n) r }
 {
     if is_explicit(n) {
         r.base + r.bound
@@ -102,7 +102,7 @@ fn region_end(n: u64, r: Region) -> u64
 
 // Is a byte at an edge of region `n` both?
 fn edge_is_both(rs: &[u64; REGION_NUMBERS], n: u64, r: Region) -> bool
-    ensures { result ≡ some (bothAt (regionsOf rs.now)) (edgesOf (regionKind n) r) }
+    ensures { result ≡ some (both_at (regions_of rs.now)) (edges_of (region_kind n) r) }
 {
     if keeps_rule(n, r) {
         both_at(rs, r.base) | both_at(rs, region_end(n, r))
@@ -113,7 +113,7 @@ fn edge_is_both(rs: &[u64; REGION_NUMBERS], n: u64, r: Region) -> bool
 
 // Is some byte both?
 pub fn writable_code(rs: &[u64; REGION_NUMBERS]) -> bool
-    ensures { result ≡ writableCode (regionsOf rs.now) }
+    ensures { result ≡ writable_code (regions_of rs.now) }
 {
     let mut i: u64 = 0;
     while i < LAST_REGION {
@@ -126,9 +126,9 @@ pub fn writable_code(rs: &[u64; REGION_NUMBERS]) -> bool
 }
 
 // Is it a locked state with such a byte?
-#[tactic(auto, unfolding(model::specs::WritableCode::exposesCode))]
+#[tactic(auto, unfolding(model::specs::WritableCode::exposes_code))]
 pub fn exposes_code(h: Control, rs: &[u64; REGION_NUMBERS]) -> bool
-    ensures { result ≡ exposesCode (stateWith h (regionsOf rs.now)) }
+    ensures { result ≡ exposes_code (state_with h (regions_of rs.now)) }
 {
     if locked(h) { writable_code(rs) } else { false }
 }

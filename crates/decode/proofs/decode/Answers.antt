@@ -1,7 +1,7 @@
 use Rattle.std.proofs.Common.{ap, ◌∙◌}
-use Rattle.instructions.specs.Decode.{decodeFields, decodeWord}
+use Rattle.instructions.specs.Decode.{decode_fields, decode_word}
 use Rattle.decode.proofs.decode.Goals as goal
 
 pub returns : goal.returns
-unfolding decodeWord
-returns c = c.decode_fields.ensures ∙ ap decodeFields c.split.ensures
+unfolding decode_word
+returns c = c.decode_fields.ensures ∙ ap decode_fields c.split.ensures

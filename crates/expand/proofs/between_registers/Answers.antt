@@ -2,11 +2,11 @@
 use Rattle.std.proofs.Common.{◌≡◌, arith, refl}
 use Rattle.words.specs.Word.{field}
 use Rattle.words.proofs.Fields.{field_lt}
-use Rattle.compressed.specs.Expand.{expandHalf}
+use Rattle.compressed.specs.Expand.{expand_half}
 use Rattle.expand.proofs.between_registers.Goals as goal
 
 pub returns-in-2 : goal.returns-in-2
-unfolding expandHalf
+unfolding expand_half
 returns-in-2 c =
     let high : field c.args.h 12 1 ≡ 0 = omega (arith, field_lt c.args.h 5 2) in
     let low : field c.args.h 5 2 ≡ 2 = omega (arith, field_lt c.args.h 5 2) in
@@ -22,7 +22,7 @@ returns-in-2 c =
     ) refl
 
 pub returns-in-4 : goal.returns-in-4
-unfolding expandHalf
+unfolding expand_half
 returns-in-4 c =
     let high : field c.args.h 12 1 ≡ 1 = omega (arith, field_lt c.args.h 5 2) in
     let low : field c.args.h 5 2 ≡ 0 = omega (arith, field_lt c.args.h 5 2) in

@@ -5,11 +5,11 @@ use borrow.Author.Tests.{ne_eqb}
 use lib.Dec.{eqb}
 use Rattle.words.specs.Word.{field}
 use Rattle.words.proofs.Fields.{field_lt}
-use Rattle.compressed.specs.Expand.{expandHalf}
+use Rattle.compressed.specs.Expand.{expand_half}
 use Rattle.expand.proofs.jump_or_add.Goals as goal
 
 pub returns-then-second : goal.returns-then-second
-unfolding expandHalf
+unfolding expand_half
 returns-then-second c =
     let one : field c.args.h 12 1 ≡ 1 = omega (arith, field_lt c.args.h 12 1) in
     rw (

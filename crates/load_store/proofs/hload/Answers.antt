@@ -1,23 +1,23 @@
 use Rattle.std.proofs.Common.{length, ◌∙◌, pos, ◌+ℤ◌, rules}
-use Rattle.hart.specs.State.{regionsOf}
+use Rattle.hart.specs.State.{regions_of}
 use Rattle.model.specs.Step.{load}
-use Rattle.model.specs.Access.{explicitAccess, offset, load_width}
+use Rattle.model.specs.Access.{explicit_access, offset, load_width}
 use Rattle.model.specs.Regions.{read}
 use Rattle.model.specs.Machine.{region}
 use Rattle.words.proofs.Residues.{word_lt}
-use Rattle.memory.proofs.Widths.{load-is-width}
-use Rattle.memory.proofs.Fits.{passed-fits}
+use Rattle.memory.proofs.Widths.{load_is_width}
+use Rattle.memory.proofs.Fits.{passed_fits}
 use Rattle.load_store.proofs.hload.Goals as goal
 
 -- what passed lies in memory
 pub finish_load-requires : goal.finish_load-requires
 finish_load-requires c =
     let a = c.args in
-    let access = explicitAccess (regionsOf a.rs.now) a.region read (offset a.operand a.imm) (load_width a.k) in (
+    let access = explicit_access (regions_of a.rs.now) a.region read (offset a.operand a.imm) (load_width a.k) in (
       c.requires.0,
       rw (c.explicit_address-first.ensures, c.region_at.ensures)
-          (passed-fits a.hfi.mode (length a.mem.now) access (load-is-width a.k)
-          (word_lt 64 (pos (region (regionsOf a.rs.now) a.region).base +ℤ offset a.operand a.imm)) (search rules)
+          (passed_fits a.hfi.mode (length a.mem.now) access (load_is_width a.k)
+          (word_lt 64 (pos (region (regions_of a.rs.now) a.region).base +ℤ offset a.operand a.imm)) (search rules)
           (c.check_explicit-v.ensures ∙ rw c.load_width.ensures)),
     )
 

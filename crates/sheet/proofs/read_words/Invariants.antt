@@ -3,8 +3,8 @@
 use Rattle.std.proofs.Common.{◌≡◌, ◌-◌, ◌≤◌, length, drop}
 use Rattle.text.specs.Scan.{LineStart}
 use Rattle.text.specs.Split.{lines}
-use Rattle.sheet.specs.Words.{words_of, memoryOf}
-use Rattle.sheet.specs.Sheet.{wordsRefusal}
+use Rattle.sheet.specs.Words.{words_of, memory_of}
+use Rattle.sheet.specs.Sheet.{words_refusal}
 use Rattle.sheet.proofs.read_words.Given as goal
 
 abbrev pub invariant-loop-at : goal.invariant-loop-at
@@ -12,8 +12,8 @@ invariant-loop-at l =
     (length l.mem ≡ 65536)
     × (l.at ≤ length l.s)
     × LineStart l.s l.at l.lineno
-    × (wordsRefusal l.s l.at l.least (lines (drop l.at l.s)) ≡ wordsRefusal l.s l.start 0 (lines (drop l.start l.s)))
-    × (memoryOf l.mem (words_of (lines (drop l.at l.s))) ≡ memoryOf l.fn.mem (words_of (lines (drop l.start l.s))))
+    × (words_refusal l.s l.at l.least (lines (drop l.at l.s)) ≡ words_refusal l.s l.start 0 (lines (drop l.start l.s)))
+    × (memory_of l.mem (words_of (lines (drop l.at l.s))) ≡ memory_of l.fn.mem (words_of (lines (drop l.start l.s))))
 
 abbrev pub decreases-loop-at : goal.decreases-loop-at
 decreases-loop-at l = length l.s - l.at

@@ -1,11 +1,11 @@
 use Rattle.std.proofs.Common.{◌≡◌, length, ◌∙◌, arith, rules}
-use Rattle.model.specs.Machine.{lastRegion}
+use Rattle.model.specs.Machine.{last_region}
 use Rattle.hart.proofs.Permissions.{fit_next}
 use Rattle.hart.proofs.well_formed.permissions_fit.Goals as goal
 
 pub loop-i-preserved : goal.loop-i-preserved
 loop-i-preserved c =
-    let size : length c.args.rs ≡ lastRegion = search rules in
+    let size : length c.args.rs ≡ last_region = search rules in
     record {
       within = search rules;
       rest =

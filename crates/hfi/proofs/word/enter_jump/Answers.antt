@@ -1,7 +1,7 @@
 use Rattle.std.proofs.Common.{◌%◌}
 use borrow.Author.Tests.{eq-eqb, ne_eqb}
 use Rattle.model.specs.Outcome.{aligned}
-use Rattle.hart.specs.State.{regionsOf}
+use Rattle.hart.specs.State.{regions_of}
 use Rattle.hfi.proofs.Completes.{completes}
 use Rattle.hfi.proofs.word.enter_jump.Goals as goal
 
@@ -14,4 +14,4 @@ pub returns : goal.returns
 unfolding aligned
 returns c = λ x numbers mem.
     rw (eq-eqb (c.args.target % 2) 0 c.if-target-ne0.false)
-    (completes x numbers mem c.completed.ensures (c.entered.ensures (regionsOf numbers)))
+    (completes x numbers mem c.completed.ensures (c.entered.ensures (regions_of numbers)))

@@ -1,6 +1,6 @@
 use Rattle.std.proofs.Common.{sym, ◌∙◌}
 use borrow.Author.Tests.{le-ltb}
-use Rattle.model.specs.Machine.{largestOptions}
+use Rattle.model.specs.Machine.{largest_options}
 use Rattle.hfi.proofs.word.enter_stop.Goals as goal
 
 pub returns : goal.returns
@@ -10,5 +10,5 @@ returns c =
       c.exposes_code.ensures,
       c.entered.ensures,
       sym c.inside.ensures ∙ c.if-inside.false,
-      le-ltb largestOptions _ c.if-options-gt-LARGEST_OPTIONS.false,
+      le-ltb largest_options _ c.if-options-gt-LARGEST_OPTIONS.false,
     )

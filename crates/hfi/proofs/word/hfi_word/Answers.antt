@@ -1,12 +1,12 @@
 use Rattle.std.proofs.Common.{◌∙◌}
 use borrow.Author.Tests.{eq-eqb, ne_eqb}
-use Rattle.model.specs.Step.{perform, executeInstruction}
-use Rattle.model.specs.Hfi.{hfiStop}
+use Rattle.model.specs.Step.{perform, execute_instruction}
+use Rattle.model.specs.Hfi.{hfi_stop}
 use Rattle.model.specs.Outcome.{allowed}
 use Rattle.hfi.proofs.word.hfi_word.Goals as goal
 
 pub returns-then-stop-ne0 : goal.returns-then-stop-ne0
-unfolding perform executeInstruction allowed hfiStop
+unfolding perform execute_instruction allowed hfi_stop
 returns-then-stop-ne0 c = λ mem.
     rw (
       c.stopped.ensures,
@@ -16,7 +16,7 @@ returns-then-stop-ne0 c = λ mem.
     )
 
 pub returns : goal.returns
-unfolding perform executeInstruction allowed hfiStop
+unfolding perform execute_instruction allowed hfi_stop
 returns c = λ mem.
     c.perform.ensures mem ∙ rw (
       ← c.register.ensures,

@@ -1,7 +1,7 @@
 use Rattle.std.proofs.Common.{◌<◌, ap, ◌∙◌, arith, pow_pos, pow_mono}
 use Rattle.words.proofs.Shifts.{one_shl}
-use Rattle.model.specs.Regions.{implicitRuleAt}
-use Rattle.memory.proofs.Rules.{implicit-law}
+use Rattle.model.specs.Regions.{implicit_rule_at}
+use Rattle.memory.proofs.Rules.{implicit_law}
 use Rattle.memory.proofs.region.implicit_rule.Goals as goal
 
 pub overflow_sub-result : goal.overflow_sub-result
@@ -15,4 +15,4 @@ pub returns : goal.returns
 returns c =
     let r = c.args.r in
     let k = c.mask_zeros-k in
-    implicit-law k.result r.base r.bound c.if-k-gt48.false ∙ ap (λ z. implicitRuleAt z r.base r.bound) k.ensures
+    implicit_law k.result r.base r.bound c.if-k-gt48.false ∙ ap (λ z. implicit_rule_at z r.base r.bound) k.ensures

@@ -2,14 +2,14 @@
 use Rattle.std.proofs.Common.{◌+◌, ◌*◌, drop, sym, ap, ◌∙◌, arith, rules}
 use borrow.Author.Tests.{le-leb}
 use Rattle.text.specs.Number.{spelled}
-use Rattle.text.proofs.Numbers.{spelled-on, spelled-off, spelled-more, spelled-fits}
+use Rattle.text.proofs.Numbers.{spelled_on, spelled_off, spelled_more, spelled_fits}
 use Rattle.text.proofs.number.number.Goals as goal
 
 pub overflow_mul-v : goal.overflow_mul-v
-overflow_mul-v c = omega (arith, spelled-fits c.args.base c.loop-i.v c.loop-i.i c.requires c.loop-i.invariant.2 (omega arith))
+overflow_mul-v c = omega (arith, spelled_fits c.args.base c.loop-i.v c.loop-i.i c.requires c.loop-i.invariant.2 (omega arith))
 
 pub overflow_add-v : goal.overflow_add-v
-overflow_add-v c = omega (arith, spelled-fits c.args.base c.loop-i.v c.loop-i.i c.requires c.loop-i.invariant.2 (omega arith))
+overflow_add-v c = omega (arith, spelled_fits c.args.base c.loop-i.v c.loop-i.i c.requires c.loop-i.invariant.2 (omega arith))
 
 pub loop-i-preserved : goal.loop-i-preserved
 loop-i-preserved c =
@@ -18,13 +18,13 @@ loop-i-preserved c =
     let s = c.args.s.now in (
       search rules,
       search rules,
-      spelled-more base l.v c.digit_value.result l.i c.requires l.invariant.2 c.digit_value.ensures.1,
+      spelled_more base l.v c.digit_value.result l.i c.requires l.invariant.2 c.digit_value.ensures.1,
       ap (λ d. spelled base (l.v * base + d) (drop (l.i + 1) s)) c.digit_value.ensures.0
-          ∙ sym (spelled-on s l.i base l.v c.loop-i-test.true)
+          ∙ sym (spelled_on s l.i base l.v c.loop-i-test.true)
           ∙ l.invariant.3,
     )
 
 pub returns : goal.returns
 returns c =
     simp (le-leb _ _ c.loop-i.invariant.1)
-    (sym (spelled-off _ _ c.args.base _ c.loop-i-test.false) ∙ c.loop-i.invariant.3)
+    (sym (spelled_off _ _ c.args.base _ c.loop-i-test.false) ∙ c.loop-i.invariant.3)

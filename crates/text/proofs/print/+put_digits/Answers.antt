@@ -1,16 +1,16 @@
 -- It goes as the definition of `digits` does.
 use Rattle.std.proofs.Common.{[], ◌∷◌, ◌++◌, ◌-◌, ◌/◌, sym, ap, ◌∙◌, arith}
 use Rattle.text.specs.Number.{digits}
-use Rattle.text.proofs.Numbers.{digits_le, digits-none, digits-one, digits_more}
+use Rattle.text.proofs.Numbers.{digits_le, digits_none, digits_one, digits_more}
 use Rattle.text.proofs.Writing.{wrote_none, wrote_as, wrote_then}
 use Rattle.text.proofs.print.+put_digits.Goals as goal
 
 pub returns-then-room-eq0 : goal.returns-then-room-eq0
-returns-then-room-eq0 t c = wrote_as (sym (digits-none c.args.base c.args.room c.args.n c.if-room-eq0.true)) wrote_none
+returns-then-room-eq0 t c = wrote_as (sym (digits_none c.args.base c.args.room c.args.n c.if-room-eq0.true)) wrote_none
 
 pub returns-then-n-base : goal.returns-then-n-base
 returns-then-n-base t c =
-    let one = digits-one c.args.base c.args.room c.args.n c.if-room-eq0.false c.if-n-base.true in
+    let one = digits_one c.args.base c.args.room c.args.n c.if-room-eq0.false c.if-n-base.true in
     wrote_as (ap (λ b. b ∷ []) c.digit_byte.ensures ∙ sym one) c.put_byte.ensures
 
 pub put_byte-requires-2 : goal.put_byte-requires-2

@@ -2,8 +2,8 @@ use Rattle.std.proofs.Common.{pos, ap, ◌∙◌, rules}
 use lib.IntN.{*ℤ_comm}
 use Rattle.words.specs.Word.{signed}
 use Rattle.words.specs.Integer.{high_half}
-use Rattle.words.proofs.Residues.{word-signed}
-use Rattle.words.proofs.Products.{high-less}
+use Rattle.words.proofs.Residues.{word_signed}
+use Rattle.words.proofs.Products.{high_less}
 use Rattle.words.proofs.integer.multiply_high_signed.Goals as goal
 
 pub returns : goal.returns
@@ -11,5 +11,5 @@ returns c =
     let a = c.args in
     let y = signed 64 a.a in
     let m = c.multiply_high_mixed.ensures ∙ ap (high_half 64) (*ℤ_comm y (pos a.b)) in
-    high-less a.b a.a _ _ y (search rules) (search rules) (word-signed 64 a.a (search rules)) c.excess.ensures (c.wrapping_sub_u64.ensures.value ∙ m)
+    high_less a.b a.a _ _ y (search rules) (search rules) (word_signed 64 a.a (search rules)) c.excess.ensures (c.wrapping_sub_u64.ensures.value ∙ m)
     ∙ ap (high_half 64) (*ℤ_comm (signed 64 a.b) y)
