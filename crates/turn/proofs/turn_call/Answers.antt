@@ -26,13 +26,13 @@ unfolding turn_call
 returns-then-stop-ne0 c =
     let s = c.args.s in
     let mem = c.args.mem.now in
-    let r = c.refusal_stop.ensures in
+    let r = c.refusal-stop.ensures in
     rw (ne_eqb (refusal s (length mem) c.args.allowance) 0 (λ e. c.if-stop-ne0.true (r ∙ e)))
     (ap (λ (t : Turned). turned_with t mem) c.no_turn.ensures ∙ ap (λ k. turned_with (no_turn k s) mem) r)
 
 pub next_slot-n-requires : goal.next_slot-n-requires
 next_slot-n-requires c =
-    let k = counted c.args.s (length c.args.mem.now) c.args.allowance (sym c.refusal_stop.ensures ∙ c.if-stop-ne0.false) in
+    let k = counted c.args.s (length c.args.mem.now) c.args.allowance (sym c.refusal-stop.ensures ∙ c.if-stop-ne0.false) in
     (k.low, k.high)
 
 pub returns-then-n-eq0 : goal.returns-then-n-eq0
@@ -40,17 +40,17 @@ unfolding turn_call
 returns-then-n-eq0 c =
     let s = c.args.s in
     let mem = c.args.mem.now in
-    rw (eq-eqb (refusal s (length mem) c.args.allowance) 0 (sym c.refusal_stop.ensures ∙ c.if-stop-ne0.false), eq-eqb (next_slot s) 0 (sym c.next_slot-n.ensures ∙ c.if-n-eq0.true))
+    rw (eq-eqb (refusal s (length mem) c.args.allowance) 0 (sym c.refusal-stop.ensures ∙ c.if-stop-ne0.false), eq-eqb (next_slot s) 0 (sym c.next_slot-n.ensures ∙ c.if-n-eq0.true))
     (ap (λ (t : Turned). turned_with t mem) c.no_turn-then-n-eq0.ensures)
 
 pub slot_at-d-requires : goal.slot_at-d-requires
 slot_at-d-requires c =
-    let asked = sym c.refusal_stop.ensures ∙ c.if-stop-ne0.false in
+    let asked = sym c.refusal-stop.ensures ∙ c.if-stop-ne0.false in
     next_numbered c.args.s (length c.args.mem.now) c.args.allowance c.next_slot-n.result asked c.next_slot-n.ensures c.if-n-eq0.false
 
 pub took_turn-requires : goal.took_turn-requires
 took_turn-requires c =
-    let asked = sym c.refusal_stop.ensures ∙ c.if-stop-ne0.false in
+    let asked = sym c.refusal-stop.ensures ∙ c.if-stop-ne0.false in
     next_numbered c.args.s (length c.args.mem.now) c.args.allowance c.next_slot-n.result asked c.next_slot-n.ensures c.if-n-eq0.false
 
 pub returns : goal.returns
@@ -58,7 +58,7 @@ returns c =
     let s = c.args.s in
     let mem = c.args.mem.now in
     let n = c.next_slot-n.result in
-    let asked = sym c.refusal_stop.ensures ∙ c.if-stop-ne0.false in
+    let asked = sym c.refusal-stop.ensures ∙ c.if-stop-ne0.false in
     let ran = c.run_call.ensures ∙ ap (λ (d : Slot). run_call d.machine mem c.args.allowance) c.slot_at-d.ensures in
     ap (λ (t : Turned). turned_with t c.run_call.new.mem) c.took_turn.ensures
     ∙ ap (λ (e : Ended). turned_with (took_turn s n e.result) e.memory) ran
