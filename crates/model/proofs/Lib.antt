@@ -14,6 +14,7 @@ pub mod Decides
 pub mod Integer
 pub mod Isolation
 pub mod Reach
+pub mod Forms
 pub mod WritableCode
 pub mod Witness
 pub mod Runs

@@ -3,14 +3,13 @@
 use mathlib.Core.Path.{◌≡◌, refl, sym}
 use mathlib.Core.Bool.{Bool, true, false, cond, not, ◌&&◌}
 use mathlib.Core.List.{List, [], ◌∷◌}
-use mathlib.Core.Logic.{◌⊎◌, inl, inr}
-use Prim.Native.Nat.{ℕ, ◌+◌, ◌-◌, ◌*◌, ◌/◌, ◌%◌, ◌^◌, ◌<◌, ◌≤◌}
+use mathlib.Core.Logic.{◌⊎◌}
+use Prim.Native.Nat.{ℕ, ◌+◌, ◌-◌, ◌^◌, ◌<◌, ◌≤◌}
 use native.Mathlib.Omega.{arith}
 use lib.Dec.{eqb, lit<, lit≤}
 use lib.ListN.{set, replicate}
 use lib.Seq.{get_or-set_same}
 use lib.IntN.{ℤ, pos, ◌+ℤ◌}
-use Rattle.words.specs.Word.{sext}
 use Rattle.instructions.specs.Decode.{decode_word}
 use Rattle.instructions.specs.Encode.{in_range, encode_fields, encode_word}
 use Rattle.instructions.specs.Fields.{word_of}
@@ -19,17 +18,16 @@ use Rattle.instructions.specs.declared.kind.LoadKind.TheVariants.{Lb, Lh, Lw, Ld
 use Rattle.instructions.specs.declared.kind.StoreKind.{StoreKind}
 use Rattle.instructions.specs.declared.kind.StoreKind.TheVariants.{Sb, Sh, Sw, Sd}
 use Rattle.instructions.specs.declared.instruction.Instruction.{Instruction}
-use Rattle.instructions.specs.declared.instruction.Instruction.TheVariants.{Load, Store, HLoad, HStore}
 use Rattle.instructions.specs.declared.instruction.Decoded.TheVariants.{Legal}
 use Rattle.instructions.specs.HWords.{explicit_regions, among}
-use Rattle.instructions.proofs.RoundTrip.{decode_of_encode, decoded_range}
-use Rattle.instructions.proofs.Tests.{and_both, h_word_of, h_load_range, h_store_range}
+use Rattle.instructions.proofs.RoundTrip.{decode_of_encode}
+use Rattle.instructions.proofs.Tests.{and_both}
 use Rattle.instructions.proofs.HWords.{Each}
 use Rattle.model.specs.Machine.{reg, region}
-use Rattle.model.specs.Regions.{read, write, execute, permits, below, data_regions, code_regions, matches, first_match, granting, implicit_grants, explicit_rule, explicit_grants}
+use Rattle.model.specs.Regions.{permits, below, data_regions, matches, first_match, granting, implicit_grants, explicit_rule, explicit_grants}
 use Rattle.model.specs.Bytes.{byte_of}
 use Rattle.model.specs.Access.{effective_address, offset, load_width, store_width, implicit_access, explicit_access}
-use Rattle.model.specs.Reach.{Passes, Readable, Writable, Executable}
+use Rattle.model.specs.Reach.{Passes}
 use Rattle.model.specs.declared.Region.{Region}
 use Rattle.model.proofs.Intervals.{explicit_ends, granted_inside, inside_granted}
 
@@ -59,32 +57,32 @@ InData rs p b = InImplicit rs data_regions p b ⊎ InChosen rs explicit_regions 
 -- ---- registers by which an access reaches any byte
 
 -- 32 registers with v in x1
-through : ℕ → List ℕ
+pub through : ℕ → List ℕ
 through v = set (replicate 32 0) 1 v
 
-through_reg : (v : ℕ) → reg (through v) 1 ≡ v
+pub through_reg : (v : ℕ) → reg (through v) 1 ≡ v
 unfolding through
 through_reg v = get_or-set_same (replicate 32 0) 1 v 0 (lit< tt)
 
 -- ---- implicit regions
 
-through_there : (b : ℕ) → b < 2 ^ 64 → b ≡ byte_of (effective_address (through b) 1 0) 0
+pub through_there : (b : ℕ) → b < 2 ^ 64 → b ≡ byte_of (effective_address (through b) 1 0) 0
 through_there b h = omega (arith, through_reg b)
 
 module _ (rs : List Region) (ns : List ℕ) (p : ℕ) where
-  granted_there : (a n b : ℕ) → Passes (implicit_access rs ns p a n) b → InImplicit rs ns p b
+  pub granted_there : (a n b : ℕ) → Passes (implicit_access rs ns p a n) b → InImplicit rs ns p b
   granted_there a n b h =
       record {
         granted = rw h.there h.passes;
         address = rw h.there (omega arith);
       }
 
-  passes_there : (a n i b : ℕ) → i < n → b ≡ byte_of a i → InImplicit rs ns p b → Passes (implicit_access rs ns p a n) b
+  pub passes_there : (a n i b : ℕ) → i < n → b ≡ byte_of a i → InImplicit rs ns p b → Passes (implicit_access rs ns p a n) b
   passes_there a n i b l e h = record { index = i; within = l; there = e; passes = rw (sym e) h.granted }
 
 -- ---- explicit regions
 
-explicit_there : (rs : List Region) (n p : ℕ) (z : ℤ) (k b : ℕ) → Passes (explicit_access rs n p z k) b → InExplicit (region rs n) p b
+pub explicit_there : (rs : List Region) (n p : ℕ) (z : ℤ) (k b : ℕ) → Passes (explicit_access rs n p z k) b → InExplicit (region rs n) p b
 unfolding explicit_grants
 explicit_there rs n p z k b h =
     let r = region rs n in
@@ -98,7 +96,7 @@ explicit_there rs n p z k b h =
     }
 
 -- a byte's distance from base is the value of a register, and the immediate is 0
-passes_explicit : (rs : List Region) (n p b : ℕ) → InExplicit (region rs n) p b
+pub passes_explicit : (rs : List Region) (n p b : ℕ) → InExplicit (region rs n) p b
     → Passes (explicit_access rs n p (offset (reg (through (b - (region rs n).base)) 1) 0) 1) b
 passes_explicit rs n p b h =
     let r = region rs n in
@@ -130,53 +128,6 @@ store_width_lem Sd = lit≤ tt
 pub encodes : (i : Instruction) → in_range i ≡ true → decode_word (word_of (encode_fields i)) ≡ Legal i
 unfolding encode_word
 encodes i h = decode_of_encode i (word_of (encode_fields i)) (rw h refl)
-
--- ---- the theorems
-
-pub readable_form : (rs : List Region) (b : ℕ) → Readable rs b → InData rs read b
-readable_form rs b (Readable.by_load w x k rd rs1 imm e h) = inl (granted_there rs data_regions read _ _ b h)
-readable_form rs b (Readable.by_h_load w x k chosen rd rs1 imm e h) =
-    inr (record {
-      chosen = chosen;
-      listed = (h_load_range k chosen rd rs1 imm (decoded_range w _ e)).0;
-      inside = explicit_there rs chosen read (offset (reg x rs1) imm) (load_width k) b h;
-    })
-
-pub form_readable : (rs : List Region) (b : ℕ) → InData rs read b → Readable rs b
-unfolding sext
-form_readable rs b (inl h) =
-    Readable.by_load _ (through b) Lb 0 1 0 (encodes (Load Lb 0 1 0) refl)
-    (passes_there rs data_regions read _ 1 0 b (lit< tt) (through_there b h.address) h)
-form_readable rs b (inr h) =
-    let n = h.chosen in
-    Readable.by_h_load _ (through (b - (region rs n).base)) Lb n 0 1 0
-    (encodes (HLoad Lb n 0 1 0) (h_word_of n {a = 0} {b = 1} h.listed (lit< tt) (lit< tt) refl)) (passes_explicit rs n read b h.inside)
-
-pub writable_form : (rs : List Region) (b : ℕ) → Writable rs b → InData rs write b
-writable_form rs b (Writable.by_store w x k rs1 rs2 imm e h) = inl (granted_there rs data_regions write _ _ b h)
-writable_form rs b (Writable.by_h_store w x k chosen rs1 rs2 imm e h) =
-    inr (record {
-      chosen = chosen;
-      listed = (h_store_range k chosen rs1 rs2 imm (decoded_range w _ e)).0;
-      inside = explicit_there rs chosen write (offset (reg x rs1) imm) (store_width k) b h;
-    })
-
-pub form_writable : (rs : List Region) (b : ℕ) → InData rs write b → Writable rs b
-unfolding sext
-form_writable rs b (inl h) =
-    Writable.by_store _ (through b) Sb 1 0 0 (encodes (Store Sb 1 0 0) refl)
-    (passes_there rs data_regions write _ 1 0 b (lit< tt) (through_there b h.address) h)
-form_writable rs b (inr h) =
-    let n = h.chosen in
-    Writable.by_h_store _ (through (b - (region rs n).base)) Sb n 1 0 0
-    (encodes (HStore Sb n 1 0 0) (h_word_of n {a = 1} {b = 0} h.listed (lit< tt) (lit< tt) refl)) (passes_explicit rs n write b h.inside)
-
-pub executable_form : (rs : List Region) (b : ℕ) → Executable rs b → InImplicit rs code_regions execute b
-executable_form rs b (Executable.by_fetch pc q h) = granted_there rs code_regions execute pc 2 b h
-
-pub form_executable : (rs : List Region) (b : ℕ) → InImplicit rs code_regions execute b → Executable rs b
-form_executable rs b h =
-    Executable.by_fetch (b / 2 * 2) (omega arith) (passes_there rs code_regions execute (b / 2 * 2) 2 (b % 2) b (omega arith) (omega (arith, h.address)) h)
 
 -- ---- what implicit regions grant, one of them grants
 

@@ -29,7 +29,8 @@ use Rattle.model.specs.Isolation.{Locked, Agree}
 use Rattle.model.specs.declared.Region.{Region}
 use Rattle.model.specs.declared.Machine.{Machine}
 use Rattle.model.proofs.Intervals.{zero_matches_none, matches_inside}
-use Rattle.model.proofs.Reach.{InData, InExplicit, InImplicit, readable_form, form_readable, writable_form, form_writable, executable_form, granted_by}
+use Rattle.model.proofs.Reach.{InData, InExplicit, InImplicit, granted_by}
+use Rattle.model.proofs.Forms.{readable_form, form_readable, writable_form, form_writable, executable_form}
 use Rattle.model.proofs.Alike.{held}
 use Rattle.model.proofs.Rows.{Row, Answer, found, stated, x, pc, mode, reason, epc, options, base, bound, permission, puts, region_of, with, bytes}
 use Rattle.model.proofs.Rows.Question.{running}

@@ -21,7 +21,8 @@ use Rattle.model.specs.Reach.{Writable, Executable}
 use Rattle.model.specs.WritableCode.{WritableCode, covers, explicit_covers, writable_at, executable_at, both_at, keeps_rule, region_end, edges, some, writable_code}
 use Rattle.model.specs.declared.Region.{Region}
 use Rattle.model.proofs.Intervals.{implicit_kept, matches_inside, inside_matches, matches_low, broken_matches_none, explicit_ends}
-use Rattle.model.proofs.Reach.{InExplicit, InImplicit, InChosen, writable_form, form_writable, executable_form, form_executable, granted_by}
+use Rattle.model.proofs.Reach.{InExplicit, InImplicit, InChosen, granted_by}
+use Rattle.model.proofs.Forms.{writable_form, form_writable, executable_form, form_executable}
 
 -- ---- tests
 

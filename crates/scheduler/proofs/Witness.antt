@@ -30,7 +30,8 @@ use Rattle.model.specs.Run.{run_by, run_call}
 use Rattle.model.specs.Reach.{Writable}
 use Rattle.model.specs.declared.Region.{Region}
 use Rattle.model.proofs.Intervals.{zero_matches_none, matches_inside}
-use Rattle.model.proofs.Reach.{InData, InExplicit, InImplicit, readable_form, writable_form, form_writable, executable_form, granted_by}
+use Rattle.model.proofs.Reach.{InData, InExplicit, InImplicit, granted_by}
+use Rattle.model.proofs.Forms.{readable_form, writable_form, form_writable, executable_form}
 use Rattle.model.proofs.Rows.{x, pc, mode, options, base, bound, permission, bytes, with}
 use Rattle.scheduler.specs.Turn.{slot, first_unstopped, slot_refusal, slots_refusal, refusal, turn_call}
 use Rattle.scheduler.specs.Turns.{Given, left, State, after_all, turns_of, in_turn}
