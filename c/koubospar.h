@@ -1,6 +1,6 @@
 /* libkoubospar.a and libkoubospar_codec.a: an RV64IMC machine (of C the integer words) with HFI, for a controller.
  *
- * `rt lib --cpu=x86-64` in crates/koubospar and in crates/koubospar_codec builds them, in out/ there; nothing of them is
+ * `c/archives` builds them, in c/out, from the crates koubospar_c and koubospar_codec_c; nothing of them is
  * compiled unless it is proved. The second has koubospar_decode, koubospar_expand and koubospar_encode, the first all else. Numbers and
  * values are those of the scope paper, "document 01", with what "document 02" has changed. Every function takes every
  * value of every field; what it refuses, it answers with a number. What nothing checks is C's own: a machine is a
@@ -97,7 +97,7 @@ struct koubospar_machine {
 /* The bytes of stack that a call takes, what it is called with included: measured by painting, over every stop and every
  * kind of word, and rounded up. `c/try` measures them again and fails where a call takes more. Measured were 4,424 for a
  * step, 3,880 for a run, 576 for a resumption, 11,144 for a turn, 7,248 for putting a machine into a slot, 70,648 for a
- * sheet, 336 and 416 for decoding and encoding, 304 for expanding, 608 for the probe and 976 for a place. No call's stack grows with the memory, the budget or the sheet. */
+ * sheet, 336 and 416 for decoding and encoding, 304 for expanding, 608 for the probe and 944 for a place. No call's stack grows with the memory, the budget or the sheet. */
 #define KOUBOSPAR_STACK_STEP 4608
 #define KOUBOSPAR_STACK_RUN 4096
 #define KOUBOSPAR_STACK_RESUME 768

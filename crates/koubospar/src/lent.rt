@@ -26,8 +26,7 @@ pub struct RunStop {
 }
 
 // One step.
-#[unsafe(no_mangle)]
-pub extern "C" fn koubospar_step(m: &mut Machine, mem: &mut [u8]) -> Stop
+pub fn koubospar_step(m: &mut Machine, mem: &mut [u8]) -> Stop
     ensures { stepped_with (stop_with result m.new) mem.new ≡ step_call m.old mem.old }
 {
     let r = single_step(*m, mem);
@@ -39,8 +38,7 @@ pub extern "C" fn koubospar_step(m: &mut Machine, mem: &mut [u8]) -> Stop
 }
 
 // A run of at most `budget` steps.
-#[unsafe(no_mangle)]
-pub extern "C" fn koubospar_run(m: &mut Machine, mem: &mut [u8], budget: u64) -> RunStop
+pub fn koubospar_run(m: &mut Machine, mem: &mut [u8], budget: u64) -> RunStop
     ensures { ran_with (run_stop_with result m.new) mem.new ≡ run_call m.old mem.old budget }
 {
     let r = run::run_call(*m, mem, budget);
@@ -53,8 +51,7 @@ pub extern "C" fn koubospar_run(m: &mut Machine, mem: &mut [u8], budget: u64) ->
 }
 
 // `v` in x10, and pc past the word that it stands at: meant for stop 18.
-#[unsafe(no_mangle)]
-pub extern "C" fn koubospar_resume(m: &mut Machine, v: u64) -> Stop
+pub fn koubospar_resume(m: &mut Machine, v: u64) -> Stop
     ensures { stop_with result m.new ≡ resume_call m.old v }
 {
     let r = step::call::resume_call(*m, v);

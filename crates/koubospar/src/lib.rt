@@ -1,6 +1,5 @@
-// The library that a controller links: the calls on a lent machine and on lent slots, and the run sheet, in C's own terms. (Decoding and
-// encoding are in koubospar_codec.) No exported function has a condition that a caller must meet beyond C's own: valid
-// pointers, no overlap.
+// The calls on a lent machine and on lent slots, and the run sheet, in C's own terms; koubospar_c exports them. (Decoding and
+// encoding are in koubospar_codec.) No function has a condition that a caller must meet.
 #![tactic(auto)]
 
 pub mod lent;

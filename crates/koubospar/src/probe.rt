@@ -25,8 +25,7 @@ fn numbered(n: u64) -> Region
 
 // Place i of the record, counted in 64-bit words from its start, holds 1000 + i, but for the registers between x0 and
 // x31, which are 0.
-#[unsafe(no_mangle)]
-pub extern "C" fn koubospar_probe() -> Machine
+pub fn koubospar_probe() -> Machine
     ensures { result ≡ probe }
 {
     let mut x = [0u64; 32];
@@ -111,8 +110,7 @@ fn in_fault(f: Fault, i: u64) -> u64
 }
 
 // What stands in place i of the record; 0 for a register between x0 and x31, and past the end.
-#[unsafe(no_mangle)]
-pub extern "C" fn koubospar_place(m: Machine, i: u64) -> u64
+pub fn koubospar_place(m: Machine, i: u64) -> u64
     ensures { result ≡ at_place m i }
 {
     let hfi = m.hfi;

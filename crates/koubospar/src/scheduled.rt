@@ -17,8 +17,7 @@ pub struct TurnStop {
 }
 
 // One turn.
-#[unsafe(no_mangle)]
-pub extern "C" fn koubospar_turn(s: &mut Scheduler, mem: &mut [u8], allowance: u64) -> TurnStop
+pub fn koubospar_turn(s: &mut Scheduler, mem: &mut [u8], allowance: u64) -> TurnStop
     ensures { turned_with (turn_stop_with result s.new) mem.new ≡ turn_call s.old mem.old allowance }
 {
     let r = turn::turn_call(*s, mem, allowance);
@@ -32,8 +31,7 @@ pub extern "C" fn koubospar_turn(s: &mut Scheduler, mem: &mut [u8], allowance: u
 }
 
 // A machine put into slot n; or there is no such slot, and nothing has changed.
-#[unsafe(no_mangle)]
-pub extern "C" fn koubospar_put(s: &mut Scheduler, n: u64, m: &Machine) -> bool
+pub fn koubospar_put(s: &mut Scheduler, n: u64, m: &Machine) -> bool
     ensures { put_with result s.new ≡ put_call s.old n m.now }
 {
     let r = turn::put_call(*s, n, *m);

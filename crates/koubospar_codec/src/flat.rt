@@ -201,16 +201,14 @@ fn answer_decoded(d: Decoded) -> FlatDecoded
 }
 
 // The instruction of any word.
-#[unsafe(no_mangle)]
-pub extern "C" fn koubospar_decode(word: u32) -> FlatDecoded
+pub fn koubospar_decode(word: u32) -> FlatDecoded
     ensures { result ≡ flat_decoded (decode_word word) }
 {
     answer_decoded(decode(word))
 }
 
 // The instruction that any half-word stands for.
-#[unsafe(no_mangle)]
-pub extern "C" fn koubospar_expand(half: u16) -> FlatDecoded
+pub fn koubospar_expand(half: u16) -> FlatDecoded
     ensures { result ≡ flat_decoded (expand_half half) }
 {
     answer_decoded(expand(half))
@@ -226,8 +224,7 @@ fn answer_encoded(e: Encoded) -> FlatEncoded
 }
 
 // The word of any record: one that stands for no instruction is refused like a field out of range.
-#[unsafe(no_mangle)]
-pub extern "C" fn koubospar_encode(f: Flat) -> FlatEncoded
+pub fn koubospar_encode(f: Flat) -> FlatEncoded
     ensures { result ≡ flat_encoded (encode_flat f) }
 {
     let d = stands_for(f);

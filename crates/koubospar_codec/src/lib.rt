@@ -1,5 +1,4 @@
-// Decoding and encoding for C, as a library of its own: beside the run, decoding would have a second caller, and the
-// compiler would then keep it apart from the loop of steps (bench/README.md has what that costs).
+// Decoding and encoding in C's own terms; koubospar_codec_c exports them.
 #![tactic(auto)]
 
 pub mod flat;
