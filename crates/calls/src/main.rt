@@ -254,11 +254,20 @@ fn show_all(rt: &impl Print, s: &[u8]) -> io::Result<()> {
     Ok(())
 }
 
-// Makes each call of a file.
-fn show_file(rt: &(impl Files + Print + Eprint + Alloc), name: &str) -> io::Result<()> {
-    let mut room = vec![in rt.alloc(); 0u8; 655360]?;
-    let n = read_file(rt, name, &mut room);
+// Makes each call of a file for which there is room.
+fn show_in(
+    rt: &(impl Files + Print + Eprint),
+    name: &str,
+    room: &mut [u8; 655360],
+) -> io::Result<()> {
+    let n = read_file(rt, name, room);
     show_all(rt, &room[..n])
+}
+
+// Makes each call of a file.
+fn show_file(rt: &(impl Files + Print + Eprint), name: &str) -> io::Result<()> {
+    let mut room = [0u8; 655360];
+    show_in(rt, name, &mut room)
 }
 
 fn main(rt: HostRuntime) -> io::Result<()> {

@@ -99,9 +99,18 @@ fn cases(rt: &impl Print, s: &[u8]) -> io::Result<()> {
     Ok(())
 }
 
-// A line for each case of a file. What is printed is left free: no contract can speak of it, and the stored output has it.
-pub fn cases_of(rt: &(impl Files + Print + Eprint + Alloc), path: &str) -> io::Result<()> {
-    let mut room = vec![in rt.alloc(); 0u8; 524288]?;
-    let n = read_file(rt, path, &mut room);
+// A line for each case of a file for which there is room.
+fn cases_in(
+    rt: &(impl Files + Print + Eprint),
+    path: &str,
+    room: &mut [u8; 524288],
+) -> io::Result<()> {
+    let n = read_file(rt, path, room);
     cases(rt, &room[..n])
+}
+
+// A line for each case of a file. What is printed is left free: no contract can speak of it, and the stored output has it.
+pub fn cases_of(rt: &(impl Files + Print + Eprint), path: &str) -> io::Result<()> {
+    let mut room = [0u8; 524288];
+    cases_in(rt, path, &mut room)
 }
