@@ -2,7 +2,7 @@
 -- gives these numbers, each exactly for its clause; so does a whole step, and it leaves all as it was.
 -- Assumes nothing.
 use mathlib.Core.Path.{◌≡◌, refl, ap, sym, ◌∙◌}
-use mathlib.Core.Bool.{Bool, true, false, cond, not, ◌&&◌, ◌||◌, false≢true}
+use mathlib.Core.Bool.{Bool, true, false, cond, not, ◌&&◌, false≢true}
 use mathlib.Core.List.{List, [], ◌∷◌}
 use mathlib.Core.Logic.{◌⊎◌, inl, inr}
 use Prim.Native.Nat.{ℕ, ◌%◌, ◌<◌, ◌≤◌}
@@ -11,7 +11,6 @@ use lib.Dec.{eqb, leb, ltb}
 use lib.ListN.{length, get_or}
 use borrow.Author.Tests.{eqb-true, eqb-false, eq-eqb, ne_eqb, leb-false, lt-leb, ltb-true, lt-ltb, ltb-false, le-ltb, not-true}
 use Rattle.words.specs.Word.{field}
-use Rattle.instructions.specs.Kinds.{hfi_code}
 use Rattle.instructions.specs.Decode.{decode_word}
 use Rattle.instructions.specs.declared.kind.LoadKind.{LoadKind}
 use Rattle.instructions.specs.declared.kind.StoreKind.{StoreKind}
@@ -46,23 +45,11 @@ use Rattle.model.proofs.WritableCode.{code_tested, tested_code}
 use Rattle.model.proofs.Permissions.{fitting, permissions_fitting}
 use Rattle.model.proofs.Forbidden.{of_each, hfi_stops, is_hfi_stop, stop_nonzero}
 use Rattle.model.proofs.Moves.{other_stops, is_other, clash, perform_other}
+use Rattle.model.proofs.HfiWords.{Enters, lockable, of_selection, enter_forms, locked_25, unselected_14}
 use Rattle.model.proofs.Runs.{run_ind, call_ind, is_locked, locked_is}
 use Rattle.model.proofs.Exposed.{Comes, exposes, step_made}
 
 -- ---- the clauses
-
--- either enter form
-pub data Enters : HfiKind → Type 0 where
-  plain : Enters Enter
-  jump : Enters EnterJump
-
--- "funct7 3 to 9, 11 or 12"
-abbrev pub lockable : HfiKind → Bool
-lockable k = (leb 3 (hfi_code k) && leb (hfi_code k) 9) || (eqb (hfi_code k) 11 || eqb (hfi_code k) 12)
-
--- "funct7 4 to 9"
-abbrev pub of_selection : HfiKind → Bool
-of_selection k = leb 4 (hfi_code k) && leb (hfi_code k) 9
 
 -- HFI does not allow this instruction, and this is the number
 pub data Breaks (m : Machine) : Instruction → ℕ → Type 0 where
@@ -139,45 +126,6 @@ begins_exposed h a l w = rw (eq-eqb (field a 0 1) 1 l) (code_tested h.regions w)
 exposed_begins : (h : HfiState) (a : ℕ) → exposes_code (entered h a) ≡ true → (field a 0 1 ≡ 1) × WritableCode h.regions
 unfolding exposes_code
 exposed_begins h a t = let p = and_both (bit 0 a) (writable_code h.regions) t in (eqb-true _ _ p.0, tested_code h.regions p.1)
-
-module _ (h : HfiState) (a : ℕ) where
-  abbrev stop : HfiKind → ℕ
-  stop k = first_broken (word_rules h k a)
-
-  -- both enter forms have the rules of the plain one
-  enter_forms : (k : HfiKind) → Enters k → word_rules h k a ≡ word_rules h Enter a
-  enter_forms k Enters.plain = refl
-  enter_forms k Enters.jump = refl
-
-  locked_25 : (k : HfiKind) → lockable k ≡ true → locked h ≡ true → stop k ≡ 25
-  locked_25 Enter t l = absurd (false≢true t)
-  locked_25 EnterJump t l = absurd (false≢true t)
-  locked_25 Exit t l = absurd (false≢true t)
-  locked_25 SelectRegion t l = rw l refl
-  locked_25 SetBase t l = rw l refl
-  locked_25 GetBase t l = rw l refl
-  locked_25 SetBound t l = rw l refl
-  locked_25 GetBound t l = rw l refl
-  locked_25 SetPermission t l = rw l refl
-  locked_25 GetPermission t l = rw l refl
-  locked_25 SetHandler t l = absurd (false≢true t)
-  locked_25 GetHandler t l = rw l refl
-  locked_25 ResetRegions t l = rw l refl
-
-  unselected_14 : (k : HfiKind) → of_selection k ≡ true → locked h ≡ false → eqb h.selector 0 ≡ true → stop k ≡ 14
-  unselected_14 Enter t l s = absurd (false≢true t)
-  unselected_14 EnterJump t l s = absurd (false≢true t)
-  unselected_14 Exit t l s = absurd (false≢true t)
-  unselected_14 SelectRegion t l s = absurd (false≢true t)
-  unselected_14 SetBase t l s = rw (l, s) refl
-  unselected_14 GetBase t l s = rw (l, s) refl
-  unselected_14 SetBound t l s = rw (l, s) refl
-  unselected_14 GetBound t l s = rw (l, s) refl
-  unselected_14 SetPermission t l s = rw (l, s) refl
-  unselected_14 GetPermission t l s = rw (l, s) refl
-  unselected_14 SetHandler t l s = absurd (false≢true t)
-  unselected_14 GetHandler t l s = absurd (false≢true t)
-  unselected_14 ResetRegions t l s = absurd (false≢true t)
 
 pub rule_number : (m : Machine) (i : Instruction) (n : ℕ) → Breaks m i n → hfi_stop m i ≡ n
 unfolding hfi_stop

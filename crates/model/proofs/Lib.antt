@@ -21,6 +21,7 @@ pub mod Runs
 pub mod Exposed
 pub mod Forbidden
 pub mod Permissions
+pub mod HfiWords
 pub mod Broken
 pub mod Formed
 pub mod Moves

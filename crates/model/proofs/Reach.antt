@@ -60,7 +60,7 @@ InData rs p b = InImplicit rs data_regions p b ⊎ InChosen rs explicit_regions 
 pub through : ℕ → List ℕ
 through v = set (replicate 32 0) 1 v
 
-pub through_reg : (v : ℕ) → reg (through v) 1 ≡ v
+through_reg : (v : ℕ) → reg (through v) 1 ≡ v
 unfolding through
 through_reg v = get_or-set_same (replicate 32 0) 1 v 0 (lit< tt)
 

@@ -108,10 +108,10 @@ module _ (s : Scheduler) (mem : List ℕ) (a k : ℕ) (t : Took s mem a k) where
       go : (b : Bool) → eqb k j ≡ b → Taking s j × (regions_at (past s mem a k).scheduler j ≡ regions_at s j)
       go true e =
           let x = eqb-true k j e in
-          let at-k : regions_at (past s mem a k).scheduler k ≡ regions_at s k =
+          let at_k : regions_at (past s mem a k).scheduler k ≡ regions_at s k =
           ap (λ (d : Slot). d.machine.hfi.regions) (slot_same s.slots k _ (there s.slots k t.ready)) ∙ regions_kept (slot s.slots k) mem a t.ready in (
             record { first = i.first; last = i.last; unstopped = subst (λ (l : ℕ). stopped (slot s.slots l) ≡ false) x t.unstopped },
-            subst (λ (l : ℕ). regions_at (past s mem a k).scheduler l ≡ regions_at s l) x at-k,
+            subst (λ (l : ℕ). regions_at (past s mem a k).scheduler l ≡ regions_at s l) x at_k,
           )
       go false e =
           let x = slot_other s.slots k j (ran (run_call (slot s.slots k).machine mem a).result) t.numbered.low i.first (eqb-false k j e) in
@@ -211,10 +211,10 @@ carried_own : (p q : State) (n : ℕ) (g : Given) (gs : List Given) → (left g)
     ((left u).result.slot ≡ 1) × (told g ≡ told u) × Alike (after g) (after u) n gs (turns_alone (after u) n gs))
     → Alike p q n (g ∷ gs) (turns_alone q n (g ∷ gs))
 unfolding in_turn
-carried_own p q n g gs mine-it r h =
+carried_own p q n g gs mine_it r h =
     let u : Given = record { scheduler = q.scheduler; memory = q.memory; allowance = g.allowance } in
     let us = turns_alone (after u) n gs in
-    let e = mine n g gs mine-it in
+    let e = mine n g gs mine_it in
     record {
       slots = rw e h.2.slots;
       turns = rw e (ap (λ (x : Told). x ∷ map told (turns_of n gs)) h.1 ∙ ap (λ (xs : List Told). told u ∷ xs) h.2.turns);
@@ -241,13 +241,13 @@ own_turn : (p : State) (g : Given) (gs : List Given) (n : ℕ) (d : Slot) (place
 own_turn p g gs n d place total men t h same later =
     let a = g.allowance in
     let e = run_call d.machine men a in
-    let alone-left = alone_took g.scheduler g.memory a n t d men h place total in
+    let alone_left = alone_took g.scheduler g.memory a n t d men h place total in
     let tied : Tied n (after g) (ran e.result) e.memory = subst (λ (l : State). Tied n l (ran e.result) e.memory) (sym (ap state_of t.left)) (after_own g.scheduler g.memory a n t d men h) in
-    let there-too = ap (λ (c : Slot). c.machine.hfi.regions) tied.same ∙ regions_kept d men a (ready g.scheduler g.memory a n t d men h) ∙ ap (λ (c : Slot). c.machine.hfi.regions) (sym h.same) ∙ same in
-    carried_own p (lone d place total men) n g gs (ap (λ (l : Left). l.result.slot) t.left) there-too (
-      ap (λ (l : Left). l.result.slot) alone-left,
-      ap tells t.left ∙ ap run_tells (same_answer g.scheduler g.memory a n t d men h) ∙ sym (ap tells alone-left),
-      subst (λ (l : State). Alike (after g) l n gs (turns_alone l n gs)) (sym (ap state_of alone-left)) (later (ran e.result) 1 (sum total e.result.count) e.memory tied),
+    let there_too = ap (λ (c : Slot). c.machine.hfi.regions) tied.same ∙ regions_kept d men a (ready g.scheduler g.memory a n t d men h) ∙ ap (λ (c : Slot). c.machine.hfi.regions) (sym h.same) ∙ same in
+    carried_own p (lone d place total men) n g gs (ap (λ (l : Left). l.result.slot) t.left) there_too (
+      ap (λ (l : Left). l.result.slot) alone_left,
+      ap tells t.left ∙ ap run_tells (same_answer g.scheduler g.memory a n t d men h) ∙ sym (ap tells alone_left),
+      subst (λ (l : State). Alike (after g) l n gs (turns_alone l n gs)) (sym (ap state_of alone_left)) (later (ran e.result) 1 (sum total e.result.count) e.memory tied),
     )
 
 go_on : (p : State) (gs : List Given) (n : ℕ) (d : Slot) (place total : ℕ) (men : List ℕ) → Follow Untouched p gs → Tied n p d men
