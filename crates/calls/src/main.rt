@@ -254,7 +254,7 @@ fn show_all(rt: &impl Print, s: &[u8]) -> io::Result<()> {
     Ok(())
 }
 
-// Makes each call of a file for which there is room.
+// Makes each call of a file. The room is made elsewhere: the prover takes no part of so large an array where it is made.
 fn show_in(
     rt: &(impl Files + Print + Eprint),
     name: &str,

@@ -99,7 +99,7 @@ fn cases(rt: &impl Print, s: &[u8]) -> io::Result<()> {
     Ok(())
 }
 
-// A line for each case of a file for which there is room.
+// A line for each case of a file. The room is made elsewhere: the prover takes no part of so large an array where it is made.
 fn cases_in(
     rt: &(impl Files + Print + Eprint),
     path: &str,
