@@ -1,2 +1,0 @@
-pub mod Permissions
-pub mod Numbers

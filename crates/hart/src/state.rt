@@ -1,116 +1,60 @@
 // Reading and changing the parts of the HFI state.
-ghost use Rattle.std.specs.Prelude.{◌≡◌, false, cond, List, [], ◌<◌};
-ghost use Rattle.model.specs.Machine.{inside as is_inside, bit, locked as is_locked, redirects_calls, redirects_exits, entered as entered_of, exited as exited_of};
-ghost use Rattle.model.specs.declared.Region.{Region as RegionOf};
-ghost use Rattle.hart.specs.State.{regions_of, state_with};
+ghost use Rattle.std.specs.Prelude.{◌≡◌, false, cond, ◌<◌};
+ghost use Rattle.model.specs.Machine.{inside as is_inside, bit, locked as is_locked, redirects_calls, redirects_exits, entered, exited};
 
-use crate::regions::{REGION_NUMBERS, regions_of};
-use model::{Fault, HfiState};
-
-// The HFI state but for its regions. What is said of a state that it makes holds whatever the regions are.
-#[derive(Clone, Copy)]
-pub struct Control {
-    pub mode: u64,
-    pub reason: u64,
-    pub epc: u64,
-    pub options: u64,
-    pub handler: u64,
-    pub selector: u64,
-    pub fault: Fault,
-}
-
-// The state without its regions.
-pub fn control_of(h: HfiState) -> Control
-    ensures { state_with result h.regions ≡ h }
-{
-    let fault = h.fault;
-    Control {
-        mode: h.mode,
-        reason: h.reason,
-        epc: h.epc,
-        options: h.options,
-        handler: h.handler,
-        selector: h.selector,
-        fault,
-    }
-}
-
-// The state with the regions that the numbers stand for.
-pub fn state_of(h: Control, numbers: &[u64; REGION_NUMBERS]) -> HfiState
-    ensures { result ≡ state_with h (regions_of numbers.now) }
-{
-    let regions = regions_of(numbers);
-    let fault = h.fault;
-    HfiState {
-        mode: h.mode,
-        reason: h.reason,
-        epc: h.epc,
-        options: h.options,
-        handler: h.handler,
-        selector: h.selector,
-        regions,
-        fault,
-    }
-}
+use model::HfiState;
+use words::bits;
 
 // In HFI mode?
-pub fn inside(h: Control) -> bool
-    ensures { result ≡ is_inside (state_with h []) }
+pub fn inside(h: &HfiState) -> bool
+    ensures { result ≡ is_inside h.now }
 {
     h.mode == 1
 }
 
 // In HFI mode with option bit `n` set?
-fn inside_with(h: Control, n: u64) -> bool
+fn inside_with(h: &HfiState, n: u64) -> bool
     requires { n < 64 }
-    ensures { result ≡ cond (is_inside (state_with h [])) (bit n h.options) false }
+    ensures { result ≡ cond (is_inside h.now) (bit n h.now.options) false }
 {
-    if inside(h) {
-        words::bits(h.options, n, 1) == 1
-    } else {
-        false
-    }
+    inside(h) && bits(h.options, n, 1) == 1
 }
 
 // Are the regions locked?
-pub fn locked(h: Control) -> bool
-    ensures { result ≡ is_locked (state_with h []) }
+pub fn locked(h: &HfiState) -> bool
+    ensures { result ≡ is_locked h.now }
 {
     inside_with(h, 0)
 }
 
 // Are system calls redirected?
-pub fn redirects_calls(h: Control) -> bool
-    ensures { result ≡ redirects_calls (state_with h []) }
+pub fn redirects_calls(h: &HfiState) -> bool
+    ensures { result ≡ redirects_calls h.now }
 {
     inside_with(h, 1)
 }
 
 // Are exits redirected?
-pub fn redirects_exits(h: Control) -> bool
-    ensures { result ≡ redirects_exits (state_with h []) }
+pub fn redirects_exits(h: &HfiState) -> bool
+    ensures { result ≡ redirects_exits h.now }
 {
-    words::bits(h.options, 2, 1) == 1
+    bits(h.options, 2, 1) == 1
 }
 
-// In HFI mode with new options; the fault record keeps all but `occurred`.
-pub fn entered(h: Control, options: u64) -> Control
-    ensures { (rs : List RegionOf) → state_with result rs ≡ entered_of (state_with h rs) options }
+// Into HFI mode with new options; the fault record keeps all but `occurred`.
+pub fn enter(h: &mut HfiState, options: u64)
+    ensures { h.new ≡ entered h.old options }
 {
-    let mut n = h;
-    n.mode = 1;
-    n.options = options;
-    n.fault.occurred = 0;
-    n
+    h.mode = 1;
+    h.options = options;
+    h.fault.occurred = 0;
 }
 
 // Out of HFI mode, for a reason, from this pc.
-pub fn exited(h: Control, reason: u64, pc: u64) -> Control
-    ensures { (rs : List RegionOf) → state_with result rs ≡ exited_of (state_with h rs) reason pc }
+pub fn exit(h: &mut HfiState, reason: u64, pc: u64)
+    ensures { h.new ≡ exited h.old reason pc }
 {
-    let mut n = h;
-    n.mode = 0;
-    n.reason = reason;
-    n.epc = pc;
-    n
+    h.mode = 0;
+    h.reason = reason;
+    h.epc = pc;
 }

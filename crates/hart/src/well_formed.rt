@@ -3,7 +3,8 @@ ghost use Rattle.std.specs.Prelude.{◌≡◌};
 ghost use Rattle.model.specs.Regions.{region_kind, permission_bits, permission_fits};
 ghost use Rattle.model.specs.WellFormed.{clear_handler, permissions_fit, fault_fits, state_fits, well_formed};
 
-use model::{FETCH_OP, Fault, HfiState, LARGEST_OPTIONS, LAST_REGION, Machine, REGIONS, Region};
+use model::stop::Op;
+use model::{Fault, HfiState, LARGEST_OPTIONS, LAST_REGION, Machine, REGIONS, Region};
 
 // A handler with bits 0, 1, 62 and 63 cleared.
 pub fn clear_handler(v: u64) -> u64
@@ -36,40 +37,39 @@ pub fn permission_fits(n: u64, permission: u64) -> bool
     (permission & permission_bits(n)) == permission
 }
 
-fn permissions_fit(rs: [Region; REGIONS]) -> bool
-    ensures { result ≡ permissions_fit 1 rs }
+fn permissions_fit(rs: &[Region; REGIONS]) -> bool
+    ensures { result ≡ permissions_fit 1 rs.now }
 {
-    let mut i: u64 = 0;
-    while i < LAST_REGION {
-        let r = rs[i as usize];
-        i += 1;
-        if !permission_fits(i, r.permission) {
+    for i in 0..REGIONS {
+        if !permission_fits(i as u64 + 1, rs[i].permission) {
             return false;
         }
     }
     true
 }
 
-fn fault_fits(f: Fault) -> bool
-    ensures { result ≡ fault_fits f }
+fn fault_fits(f: &Fault) -> bool
+    ensures { result ≡ fault_fits f.now }
 {
-    (f.occurred <= 1) & ((f.region <= LAST_REGION) & (f.op <= FETCH_OP))
+    f.occurred <= 1 && f.region <= LAST_REGION && f.op <= Op::Fetch.number()
 }
 
-pub fn state_fits(h: HfiState) -> bool
-    ensures { result ≡ state_fits h }
+#[tactic(auto, unfolding(model::specs::WellFormed::state_fits))]
+pub fn state_fits(h: &HfiState) -> bool
+    ensures { result ≡ state_fits h.now }
 {
-    let rs = h.regions;
-    let fault = h.fault;
-    let parts = (h.selector <= LAST_REGION) & (permissions_fit(rs) & fault_fits(fault));
-    let numbers = (h.options <= LARGEST_OPTIONS)
-        & ((clear_handler(h.handler) == h.handler) & parts);
-    (h.mode <= 1) & ((h.reason <= 2) & numbers)
+    h.mode <= 1
+        && h.reason <= 2
+        && h.options <= LARGEST_OPTIONS
+        && clear_handler(h.handler) == h.handler
+        && h.selector <= LAST_REGION
+        && permissions_fit(&h.regions)
+        && fault_fits(&h.fault)
 }
 
-pub fn well_formed(m: Machine) -> bool
-    ensures { result ≡ well_formed m }
+#[tactic(auto, unfolding(model::specs::WellFormed::well_formed))]
+pub fn well_formed(m: &Machine) -> bool
+    ensures { result ≡ well_formed m.now }
 {
-    let h = m.hfi;
-    (m.x[0] == 0) & state_fits(h)
+    m.x[0] == 0 && state_fits(&m.hfi)
 }

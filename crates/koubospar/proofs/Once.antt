@@ -14,7 +14,7 @@ use Rattle.model.specs.WritableCode.{exposes_code}
 use Rattle.model.specs.Step.{step, longest, step_call}
 use Rattle.model.specs.Run.{Ended, ended, ran_with, run_by, run, run_call}
 use Rattle.model.specs.declared.Machine.{Machine}
-use Rattle.model.specs.declared.Ran.{Ran}
+use Rattle.model.specs.Run.{RunAnswer}
 use Rattle.model.proofs.Runs.{no_address}
 use Rattle.koubospar.specs.Single.{as_step}
 
@@ -53,5 +53,5 @@ call_once m mem =
     go false false c r o e = refl
 
 -- so the answer of a run with budget 1 is, as a step's, the step's
-pub single : (m : Machine) (mem : List ℕ) (r : Ran) (s : List ℕ) → ran_with r s ≡ run_call m mem 1 → stepped_with (as_step r) s ≡ step_call m mem
+pub single : (m : Machine) (mem : List ℕ) (r : RunAnswer) (s : List ℕ) → ran_with r s ≡ run_call m mem 1 → stepped_with (as_step r) s ≡ step_call m mem
 single m mem r s e = ap as_outcome e ∙ call_once m mem

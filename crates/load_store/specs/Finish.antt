@@ -9,7 +9,7 @@ use Rattle.model.specs.Access.{load_width, store_width}
 use Rattle.model.specs.Arithmetic.{extended}
 use Rattle.model.specs.Outcome.{Outcome, completed, assigned, with_pc, settle}
 use Rattle.model.specs.declared.Machine.{Machine}
-use Rattle.model.specs.declared.Verdict.{Verdict}
+use Rattle.model.specs.Access.{Verdict}
 
 abbrev pub finish_load : Machine → List ℕ → ℕ → Verdict → LoadKind → ℕ → ℕ → Outcome
 finish_load m mem next v k rd a = settle m mem load_op 16 17 v (completed (assigned m next rd (extended k (value mem a 0 (load_width k)))) mem)

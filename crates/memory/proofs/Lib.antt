@@ -1,6 +1,6 @@
 pub mod Truth
 pub mod Rules
-pub mod Halves
+pub mod ByBytes
 pub mod Widths
 pub mod Loops
 pub mod Whole

@@ -1,13 +1,13 @@
 -- What the loops over the bytes of an access find is what the definitions ask.
 -- Assumes nothing.
-use Rattle.std.proofs.Common.{◌≡◌, ℕ, ◌+◌, ◌%◌, ◌^◌, ◌<◌, ◌≤◌, Bool, true, cond, ◌&&◌, ◌||◌, eqb, ltb, pos, ◌+ℤ◌, sym, refl, arith, le-ltb, lt-ltb}
+use Rattle.std.proofs.Common.{◌≡◌, ℕ, ◌+◌, ◌%◌, ◌^◌, ◌<◌, ◌≤◌, Bool, true, Err, cond, ◌&&◌, ◌||◌, eqb, ltb, pos, ◌+ℤ◌, sym, refl, arith, le-ltb, lt-ltb}
 use Rattle.words.specs.Word.{fits_signed}
 use Rattle.model.specs.Regions.{permits, below, explicit_rule, explicit_grants}
 use Rattle.model.specs.Bytes.{byte_of}
 use Rattle.model.specs.Access.{Access, offset, first_refused, verdict}
 use Rattle.model.specs.declared.Region.{Region}
-use Rattle.model.specs.declared.Verdict.{Verdict}
-use Rattle.model.specs.declared.Verdict.TheVariants.{Refused}
+use Rattle.model.specs.Access.{Verdict}
+use Rattle.model.specs.declared.stop.Denied.TheVariants.{Refused}
 use Rattle.model.proofs.Offset.{below_offset}
 use Rattle.model.proofs.Intervals.{explicit_ends}
 use Rattle.memory.specs.Loops.{presence_of}
@@ -28,7 +28,7 @@ explicit_asked far mode r wanted v imm i low high f l p q s e =
 -- ---- the verdict, from what the loops find
 
 pub refused_verdict : (mode length : ℕ) (a : Access) {i at recorded : ℕ} → i ≡ first_refused mode a → i < a.count
-    → at ≡ byte_of a.first i → recorded ≡ a.fault_region i → Refused at recorded ≡ verdict mode length a
+    → at ≡ byte_of a.first i → recorded ≡ a.fault_region i → Err (Refused at recorded) ≡ verdict mode length a
 unfolding verdict
 refused_verdict mode length a {i} e p q b = rw (← e) (rw (lt-ltb i a.count p, q, b) refl)
 

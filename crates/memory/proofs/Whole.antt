@@ -8,8 +8,7 @@ use Rattle.instructions.proofs.Tests.{and_both}
 use Rattle.model.specs.Machine.{region}
 use Rattle.model.specs.Regions.{execute, code_regions, permits, mask_zeros, implicit_rule, matches, first_match, implicit_grants}
 use Rattle.model.specs.Bytes.{byte_of}
-use Rattle.model.specs.Access.{implicit_access, fetch_access, first_refused, verdict}
-use Rattle.model.specs.declared.Verdict.TheVariants.{Passed}
+use Rattle.model.specs.Access.{implicit_access, fetch_access, first_refused, verdict, passed}
 use Rattle.model.proofs.Cleared.{passes}
 use Rattle.model.specs.declared.Region.{Region}
 use Rattle.model.proofs.Scan.{scan_all}
@@ -128,7 +127,7 @@ whole_passes mode rs ns wanted a n z l s g =
 
 -- and where the four bytes of a fetch pass so, either half does
 pub whole_fetched : (mode : ℕ) (rs : List Region) (size pc : ℕ) → pc < 2 ^ 64 → size < 2 ^ 64 → fetches_whole mode rs size pc ≡ true
-    → (verdict mode size (fetch_access rs pc) ≡ Passed) × (verdict mode size (fetch_access rs (byte_of pc 2)) ≡ Passed)
+    → (verdict mode size (fetch_access rs pc) ≡ passed) × (verdict mode size (fetch_access rs (byte_of pc 2)) ≡ passed)
 whole_fetched mode rs size pc l m g = (half 0 pc (λ i h. omega arith) (lit≤ tt), half 2 (byte_of pc 2) (λ i h. let e = leb-true (pc + 4) size q.0 in omega (arith, e)) (lit≤ tt))
   where
     q : (leb (pc + 4) size ≡ true) × (passes_whole mode rs code_regions execute pc 4 ≡ true)
@@ -139,7 +138,7 @@ whole_fetched mode rs size pc l m g = (half 0 pc (λ i h. omega arith) (lit≤ t
     each j h false e = whole_granted rs code_regions execute pc 4 j refl l (lit≤ tt) h e
 
     -- byte i of a half is byte k + i of the word
-    half : (k a : ℕ) → ((i : ℕ) → i < 2 → byte_of a i ≡ byte_of pc (k + i)) → k ≤ 2 → verdict mode size (fetch_access rs a) ≡ Passed
+    half : (k a : ℕ) → ((i : ℕ) → i < 2 → byte_of a i ≡ byte_of pc (k + i)) → k ≤ 2 → verdict mode size (fetch_access rs a) ≡ passed
     half k a same u =
         passes mode size (fetch_access rs a) (record {
           granted = λ i h. rw (same i h) (each (k + i) (omega arith) (eqb mode 0) q.1);

@@ -1,14 +1,14 @@
 -- What the loops of `access` find. No promise rests on this file: each of these is proved to be what model's definitions ask.
--- Region and Verdict are declared in model/src/lib.rt. Assumes nothing.
-use Rattle.std.specs.Prelude.{ℕ, ◌+◌, ◌-◌, ◌%◌, ◌^◌, Bool, true, false, cond, ◌&&◌, List, [], ◌∷◌, ℤ, pos, ◌+ℤ◌, ◌==◌, bit_and, nat_le, nat_lt}
+-- Region is declared in model/src/lib.rt, Denied in model/src/stop.rt. Assumes nothing.
+use Rattle.std.specs.Prelude.{ℕ, ◌+◌, ◌-◌, ◌%◌, ◌^◌, Bool, true, false, cond, ◌&&◌, List, [], ◌∷◌, ℤ, pos, ◌+ℤ◌, ◌==◌, bit_and, nat_le, nat_lt, Err}
 use Rattle.words.specs.Word.{word}
 use Rattle.model.specs.Machine.{region}
 use Rattle.model.specs.Regions.{execute, code_regions, permits, implicit_rule, explicit_grants}
 use Rattle.model.specs.Bytes.{byte_of}
 use Rattle.model.specs.Access.{scan, first_absent}
 use Rattle.model.specs.declared.Region.{Region}
-use Rattle.model.specs.declared.Verdict.{Verdict}
-use Rattle.model.specs.declared.Verdict.TheVariants.{Passed, Absent}
+use Rattle.model.specs.Access.{Verdict, passed}
+use Rattle.model.specs.declared.stop.Denied.TheVariants.{Absent}
 
 -- ---- whether one implicit region decides the whole access: the bytes from a on, of which `last` is the last
 
@@ -45,7 +45,7 @@ explicit_refused mode r wanted offset n = scan (λ i. cond (mode == 0) true (exp
 abbrev pub presence_of : ℕ → ℕ → ℕ → Verdict
 presence_of length first count =
     let i = first_absent length first count in
-    cond (nat_lt i count) (Absent (byte_of first i)) Passed
+    cond (nat_lt i count) (Err (Absent (byte_of first i))) passed
 
 abbrev pub explicit_first : Region → ℤ → ℕ
 explicit_first r offset = word 64 (pos r.base +ℤ offset)

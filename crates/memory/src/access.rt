@@ -1,70 +1,72 @@
-// The questions that every byte of an access is asked before any is touched. `wanted` is a permission by its bit number, `ns` the
-// numbers of the implicit regions that decide, in their order, and `rs` the regions as numbers.
-ghost use Rattle.std.specs.Prelude.{◌≡◌, ◌<◌, ◌≤◌, true, length};
+// The questions that every byte of an access is asked before any is touched. `ns` are the numbers of the implicit regions that decide, in their
+// order; `len` is the memory's length, and the access is of the `n` bytes from `a` on.
+ghost use Rattle.std.specs.Prelude.{◌≡◌, ℕ, Bool, ◌<◌, ◌≤◌, true, length};
 ghost use Rattle.words.specs.Word.{fits_signed};
 ghost use Rattle.model.specs.Machine.{region};
-ghost use Rattle.model.specs.Regions.{first_match, implicit_grants};
-ghost use Rattle.model.specs.Access.{fetch_access, data_access, implicit_access, explicit_access, offset, first_refused, first_absent, verdict};
-ghost use Rattle.hart.specs.State.{regions_of};
+ghost use Rattle.model.specs.Regions.{permission_bit, first_match, implicit_grants};
+ghost use Rattle.model.specs.Access.{fetch_access, data_access, implicit_access, explicit_access, offset, scan, first_refused, first_absent, verdict};
 ghost use Rattle.memory.specs.Loops.{explicit_refused, presence_of, explicit_first, has_whole, touches as is_touched, grants_whole, passes_whole, fetches_whole};
 
 use crate::region::{explicit_rule, implicit_rule, matches, permits};
-use hart::regions::{REGION_NUMBERS, region_at};
-use model::{CODE_REGIONS, DATA_REGIONS, EXECUTE, Region, Verdict};
-use std::num::{wrapping_add_u64, wrapping_sub_u64};
+use hart::regions::region_at;
+use model::permission::Permission;
+use model::stop::Denied;
+use model::{CODE_REGIONS, DATA_REGIONS, HfiState, REGIONS, Region};
 
-// The lowest-numbered implicit region that matches the byte at `a`, or 0.
-pub fn first_match(rs: &[u64; REGION_NUMBERS], ns: &[u64], a: u64) -> u64
-    ensures { result ≡ first_match (regions_of rs.now) ns.now a }
+// The lowest-numbered implicit region that matches the byte at `a`, or 0: the fault record's own number for none.
+pub fn first_match(rs: &[Region; REGIONS], ns: &[u64], a: u64) -> u64
+    ensures { result ≡ first_match rs.now ns.now a }
 {
-    let mut i = 0;
-    while i < ns.len() {
-        let n = ns[i];
+    for &n in ns {
         if matches(region_at(rs, n), a) {
             return n;
         }
-        i += 1;
     }
     0
 }
 
 // Does the region that decides grant the byte at `a`?
-pub fn grants(rs: &[u64; REGION_NUMBERS], ns: &[u64], wanted: u64, a: u64) -> bool
-    requires { wanted < 64 }
-    ensures { result ≡ implicit_grants (regions_of rs.now) ns.now wanted a }
+#[tactic(auto, unfolding(model::specs::Regions::implicit_grants))]
+pub fn grants(rs: &[Region; REGIONS], ns: &[u64], wanted: Permission, a: u64) -> bool
+    ensures { result ≡ implicit_grants rs.now ns.now (permission_bit wanted) a }
 {
     let n = first_match(rs, ns, a);
     (n != 0) & permits(wanted, region_at(rs, n))
 }
 
-// The first byte, of the `n` from `a` on, that is not granted, or `n`.
-fn first_refused_implicit(
-    mode: u64,
-    rs: &[u64; REGION_NUMBERS],
-    ns: &[u64],
-    wanted: u64,
-    a: u64,
-    n: u64,
-) -> u64
-    requires { wanted < 64 }
-    ensures { result ≡ first_refused mode (implicit_access (regions_of rs.now) ns.now wanted a n) }
+// The first of the `n` bytes of an access that does not pass, or `n`.
+fn first_failing<F: Fn(u64) -> bool>(n: u64, passes: F) -> u64
+    requires { (i : ℕ) → i < n → F.pre passes i }
+    ensures { (ok : ℕ → Bool) → ((i : ℕ) (t : Bool) → i < n → F.post passes i t → t ≡ ok i) → result ≡ scan ok 0 n }
 {
     let mut i: u64 = 0;
     loop {
         if n <= i {
             break i;
         }
-        if !((mode == 0) | grants(rs, ns, wanted, wrapping_add_u64(a, i))) {
+        if !passes(i) {
             break i;
         }
         i += 1;
     }
 }
 
+// The first byte that is not granted, or `n`.
+fn first_refused_implicit(
+    h: &HfiState,
+    ns: &[u64],
+    wanted: Permission,
+    a: u64,
+    n: u64,
+) -> u64
+    ensures { result ≡ first_refused h.now.mode (implicit_access h.now.regions ns.now (permission_bit wanted) a n) }
+{
+    first_failing(n, |i| h.mode == 0 || grants(&h.regions, ns, wanted, a.wrapping_add(i)))
+}
+
 // Does the implicit region keep its rule and have the bytes at `a` and `last`, with the permission? Then it has those between.
-fn has_whole(r: Region, wanted: u64, a: u64, last: u64) -> bool
-    requires { wanted < 64 }
-    ensures { result ≡ has_whole r wanted a last }
+fn has_whole(r: Region, wanted: Permission, a: u64, last: u64) -> bool
+    ensures { result ≡ has_whole r (permission_bit wanted) a last }
 {
     if ((a & r.bound) == r.base) & (((last & r.bound) == r.base) & permits(wanted, r)) {
         implicit_rule(r)
@@ -79,7 +81,7 @@ fn touches(r: Region, last: u64, n: u64) -> bool
     requires { 0 < n }
     ensures { result ≡ is_touched r last n }
 {
-    if wrapping_sub_u64(last, r.base) <= wrapping_add_u64(!r.bound, n - 1) {
+    if last.wrapping_sub(r.base) <= (!r.bound).wrapping_add(n - 1) {
         implicit_rule(r)
     } else {
         false
@@ -88,21 +90,19 @@ fn touches(r: Region, last: u64, n: u64) -> bool
 
 // Does the first region that has a byte of the access have all of them, with the permission? Then it decides each of them. A rule is
 // asked where the addresses do not tell, and not for each byte.
-fn grants_whole(rs: &[u64; REGION_NUMBERS], ns: &[u64], wanted: u64, a: u64, n: u64) -> bool
-    requires { (wanted < 64) × (0 < n) }
-    ensures { result ≡ grants_whole (regions_of rs.now) ns.now wanted a n }
+fn grants_whole(rs: &[Region; REGIONS], ns: &[u64], wanted: Permission, a: u64, n: u64) -> bool
+    requires { 0 < n }
+    ensures { result ≡ grants_whole rs.now ns.now (permission_bit wanted) a n }
 {
-    let last = wrapping_add_u64(a, n - 1);
-    let mut i = 0;
-    while i < ns.len() {
-        let r = region_at(rs, ns[i]);
+    let last = a.wrapping_add(n - 1);
+    for &number in ns {
+        let r = region_at(rs, number);
         if has_whole(r, wanted, a, last) {
             return true;
         }
         if touches(r, last, n) {
             return false;
         }
-        i += 1;
     }
     false
 }
@@ -112,126 +112,94 @@ fn grants_whole(rs: &[u64; REGION_NUMBERS], ns: &[u64], wanted: u64, a: u64, n: 
 const FAR: u64 = 0x4000_0000_0000_0000;
 
 // The first byte that the explicit region does not grant, or `n`; `operand` is the value of rs1.
-fn first_refused_explicit(mode: u64, r: Region, wanted: u64, operand: u64, imm: u64, n: u64) -> u64
-    requires { (wanted < 64) × (fits_signed 12 imm ≡ true) × (n ≤ 8) }
-    ensures { result ≡ explicit_refused mode r wanted (offset operand imm) n }
+fn first_refused_explicit(
+    mode: u64,
+    r: Region,
+    wanted: Permission,
+    operand: u64,
+    imm: u64,
+    n: u64,
+) -> u64
+    requires { (fits_signed 12 imm ≡ true) × (n ≤ 8) }
+    ensures { result ≡ explicit_refused mode r (permission_bit wanted) (offset operand imm) n }
 {
     let ok = (explicit_rule(r) & permits(wanted, r)) & (operand < FAR);
-    let sum = wrapping_add_u64(operand, imm);
-    let mut i: u64 = 0;
-    loop {
-        if n <= i {
-            break i;
-        }
-        if !((mode == 0) | (ok & (wrapping_add_u64(sum, i) < r.bound))) {
-            break i;
-        }
-        i += 1;
-    }
+    let sum = operand.wrapping_add(imm);
+    first_failing(n, |i| (mode == 0) | (ok & (sum.wrapping_add(i) < r.bound)))
 }
 
 // The first byte that is not in a memory of `len` bytes, or `n`.
 fn first_absent(len: u64, a: u64, n: u64) -> u64
     ensures { result ≡ first_absent len a n }
 {
-    let mut i: u64 = 0;
-    loop {
-        if n <= i {
-            break i;
-        }
-        if len <= wrapping_add_u64(a, i) {
-            break i;
-        }
-        i += 1;
-    }
+    first_failing(n, |i| a.wrapping_add(i) < len)
 }
 
 // What is left to ask of an access whose bytes are all granted.
-fn presence(len: u64, a: u64, n: u64) -> Verdict
+fn presence(len: u64, a: u64, n: u64) -> Result<(), Denied>
     ensures { result ≡ presence_of len a n }
 {
     let i = first_absent(len, a, n);
     if i < n {
-        Verdict::Absent(wrapping_add_u64(a, i))
-    } else {
-        Verdict::Passed
+        return Err(Denied::Absent(a.wrapping_add(i)));
     }
+    Ok(())
 }
 
 // The verdict on an access, byte by byte.
 fn check_bytes(
-    mode: u64,
-    rs: &[u64; REGION_NUMBERS],
+    h: &HfiState,
     ns: &[u64],
-    wanted: u64,
+    wanted: Permission,
     len: u64,
     a: u64,
     n: u64,
-) -> Verdict
-    requires { wanted < 64 }
-    ensures { result ≡ verdict mode len (implicit_access (regions_of rs.now) ns.now wanted a n) }
+) -> Result<(), Denied>
+    ensures { result ≡ verdict h.now.mode len (implicit_access h.now.regions ns.now (permission_bit wanted) a n) }
 {
-    let i = first_refused_implicit(mode, rs, ns, wanted, a, n);
+    let i = first_refused_implicit(h, ns, wanted, a, n);
     if i < n {
-        let at = wrapping_add_u64(a, i);
-        return Verdict::Refused(at, first_match(rs, ns, at));
+        let at = a.wrapping_add(i);
+        return Err(Denied::Refused(at, first_match(&h.regions, ns, at)));
     }
     presence(len, a, n)
 }
 
 // Is no byte refused, as the mode or one region tells?
-fn passes_whole(
-    mode: u64,
-    rs: &[u64; REGION_NUMBERS],
-    ns: &[u64],
-    wanted: u64,
-    a: u64,
-    n: u64,
-) -> bool
-    requires { (wanted < 64) × (0 < n) }
-    ensures { result ≡ passes_whole mode (regions_of rs.now) ns.now wanted a n }
+fn passes_whole(h: &HfiState, ns: &[u64], wanted: Permission, a: u64, n: u64) -> bool
+    requires { 0 < n }
+    ensures { result ≡ passes_whole h.now.mode h.now.regions ns.now (permission_bit wanted) a n }
 {
-    if mode == 0 {
-        true
-    } else {
-        grants_whole(rs, ns, wanted, a, n)
-    }
+    h.mode == 0 || grants_whole(&h.regions, ns, wanted, a, n)
 }
 
 // Do the four bytes at `pc` pass questions 5 and 6, as the mode or one region tells? Then so does either half of them.
-pub fn fetches_whole(mode: u64, rs: &[u64; REGION_NUMBERS], len: u64, pc: u64) -> bool
-    ensures { result ≡ fetches_whole mode (regions_of rs.now) len pc }
+pub fn fetches_whole(h: &HfiState, len: u64, pc: u64) -> bool
+    ensures { result ≡ fetches_whole h.now.mode h.now.regions len pc }
 {
-    if (pc < len) & (4 <= wrapping_sub_u64(len, pc)) {
-        passes_whole(mode, rs, &CODE_REGIONS, EXECUTE, pc, 4)
+    if (pc < len) & (4 <= len.wrapping_sub(pc)) {
+        passes_whole(h, &CODE_REGIONS, Permission::Execute, pc, 4)
     } else {
         false
     }
 }
 
 // Questions 5 and 6 of the two bytes at `a`.
-pub fn check_fetch(mode: u64, rs: &[u64; REGION_NUMBERS], len: u64, a: u64) -> Verdict
-    ensures { result ≡ verdict mode len (fetch_access (regions_of rs.now) a) }
+pub fn check_fetch(h: &HfiState, len: u64, a: u64) -> Result<(), Denied>
+    ensures { result ≡ verdict h.now.mode len (fetch_access h.now.regions a) }
 {
-    check_bytes(mode, rs, &CODE_REGIONS, EXECUTE, len, a, 2)
+    check_bytes(h, &CODE_REGIONS, Permission::Execute, len, a, 2)
 }
 
 // Questions 10 and 11 of an ordinary load or store.
-pub fn check_data(
-    mode: u64,
-    rs: &[u64; REGION_NUMBERS],
-    wanted: u64,
-    len: u64,
-    a: u64,
-    n: u64,
-) -> Verdict
-    requires { (wanted < 64) × (0 < n) × (n ≤ 8) }
-    ensures { result ≡ verdict mode len (data_access (regions_of rs.now) wanted a n) }
+pub fn check_data(h: &HfiState, wanted: Permission, len: u64, a: u64, n: u64) -> Result<(), Denied>
+    requires { (0 < n) × (n ≤ 8) }
+    ensures { result ≡ verdict h.now.mode len (data_access h.now.regions (permission_bit wanted) a n) }
 {
-    if passes_whole(mode, rs, &DATA_REGIONS, wanted, a, n) {
+    if passes_whole(h, &DATA_REGIONS, wanted, a, n) {
         presence(len, a, n)
     } else {
-        check_bytes(mode, rs, &DATA_REGIONS, wanted, len, a, n)
+        check_bytes(h, &DATA_REGIONS, wanted, len, a, n)
     }
 }
 
@@ -239,28 +207,27 @@ pub fn check_data(
 pub fn explicit_address(r: Region, operand: u64, imm: u64) -> u64
     ensures { result ≡ explicit_first r (offset operand imm) }
 {
-    wrapping_add_u64(r.base, wrapping_add_u64(operand, imm))
+    r.base.wrapping_add(operand.wrapping_add(imm))
 }
 
 // Questions 10 and 11 of an h-load or h-store, of which region `number` decides.
 pub fn check_explicit(
-    mode: u64,
-    rs: &[u64; REGION_NUMBERS],
+    h: &HfiState,
     number: u64,
-    wanted: u64,
+    wanted: Permission,
     len: u64,
     operand: u64,
     imm: u64,
     n: u64,
-) -> Verdict
-    requires { (wanted < 64) × (fits_signed 12 imm ≡ true) × (n ≤ 8) }
-    ensures { result ≡ verdict mode len (explicit_access (regions_of rs.now) number wanted (offset operand imm) n) }
+) -> Result<(), Denied>
+    requires { (fits_signed 12 imm ≡ true) × (n ≤ 8) }
+    ensures { result ≡ verdict h.now.mode len (explicit_access h.now.regions number (permission_bit wanted) (offset operand imm) n) }
 {
-    let r = region_at(rs, number);
-    let i = first_refused_explicit(mode, r, wanted, operand, imm, n);
+    let r = region_at(&h.regions, number);
+    let i = first_refused_explicit(h.mode, r, wanted, operand, imm, n);
     let a = explicit_address(r, operand, imm);
     if i < n {
-        return Verdict::Refused(wrapping_add_u64(a, i), number);
+        return Err(Denied::Refused(a.wrapping_add(i), number));
     }
     presence(len, a, n)
 }

@@ -1,15 +1,16 @@
 // One region: its rule, its permission and the bytes that it matches.
-ghost use Rattle.std.specs.Prelude.{◌≡◌, ◌+◌, ◌^◌, ◌<◌, nat_le};
-ghost use Rattle.model.specs.Regions.{permits as is_permitted, mask_zeros, implicit_rule, small_rule, large_rule, explicit_rule, matches as is_matched};
+ghost use Rattle.std.specs.Prelude.{◌≡◌, ◌+◌, ◌^◌, nat_le};
+ghost use Rattle.model.specs.Regions.{permission_bit, permits as is_permitted, mask_zeros, implicit_rule, small_rule, large_rule, explicit_rule, matches as is_matched};
 
-use model::{LARGE, Region};
+use model::Region;
+use model::permission::Permission;
+use words::bits;
 
-// Does region `r` have the permission `wanted`, a bit number?
-pub fn permits(wanted: u64, r: Region) -> bool
-    requires { wanted < 64 }
-    ensures { result ≡ is_permitted wanted r }
+// Does region `r` have the permission `wanted`?
+pub fn permits(wanted: Permission, r: Region) -> bool
+    ensures { result ≡ is_permitted (permission_bit wanted) r }
 {
-    words::bits(r.permission, wanted, 1) == 1
+    bits(r.permission, wanted.bit(), 1) == 1
 }
 
 // The count of the mask's trailing zero bits.
@@ -35,11 +36,7 @@ pub fn implicit_rule(r: Region) -> bool
 fn ends_low(r: Region) -> bool
     ensures { result ≡ nat_le (r.base + r.bound) (2 ^ 48) }
 {
-    if r.bound <= 0x1_0000_0000_0000 {
-        r.base <= 0x1_0000_0000_0000 - r.bound
-    } else {
-        false
-    }
+    r.bound <= 0x1_0000_0000_0000 && r.base <= 0x1_0000_0000_0000 - r.bound
 }
 
 fn small_rule(r: Region) -> bool
@@ -55,15 +52,15 @@ fn small_rule(r: Region) -> bool
 fn large_rule(r: Region) -> bool
     ensures { result ≡ large_rule r }
 {
-    (words::bits(r.base, 0, 16) == 0)
-        & ((words::bits(r.bound, 0, 16) == 0) & ((r.bound != 0) & ends_low(r)))
+    bits(r.base, 0, 16) == 0 && bits(r.bound, 0, 16) == 0 && r.bound != 0 && ends_low(r)
 }
 
 // Does an explicit region keep its rule?
+#[tactic(auto, unfolding(model::specs::Regions::explicit_rule))]
 pub fn explicit_rule(r: Region) -> bool
     ensures { result ≡ explicit_rule r }
 {
-    if permits(LARGE, r) {
+    if permits(Permission::Large, r) {
         large_rule(r)
     } else {
         small_rule(r)
@@ -71,6 +68,7 @@ pub fn explicit_rule(r: Region) -> bool
 }
 
 // Does the implicit region match the byte at `a`?
+#[tactic(auto, unfolding(model::specs::Regions::matches))]
 pub fn matches(r: Region, a: u64) -> bool
     ensures { result ≡ is_matched r a }
 {

@@ -1,6 +1,7 @@
 -- Document 02, Job 6, "Which HFI rule was broken": question 8's paragraph a clause at a time, each with its number (and Job 5's 22). The table
 -- gives these numbers, each exactly for its clause; so does a whole step, and it leaves all as it was.
 -- Assumes nothing.
+use Rattle.std.specs.Prelude.{Ok, Err}
 use mathlib.Core.Path.{◌≡◌, refl, ap, sym, ◌∙◌}
 use mathlib.Core.Bool.{Bool, true, false, cond, not, ◌&&◌, false≢true}
 use mathlib.Core.List.{List, [], ◌∷◌}
@@ -39,8 +40,8 @@ use Rattle.model.specs.Hfi.{first_broken, word_rules, rules, hfi_stop}
 use Rattle.model.specs.Isolation.{Locked}
 use Rattle.model.specs.declared.HfiState.{HfiState}
 use Rattle.model.specs.declared.Machine.{Machine}
-use Rattle.model.specs.declared.Verdict.{Verdict}
-use Rattle.model.specs.declared.Verdict.TheVariants.{Passed, Refused, Absent}
+use Rattle.model.specs.Access.{Verdict, passed}
+use Rattle.model.specs.declared.stop.Denied.TheVariants.{Refused, Absent}
 use Rattle.model.proofs.WritableCode.{code_tested, tested_code}
 use Rattle.model.proofs.Permissions.{fitting, permissions_fitting}
 use Rattle.model.proofs.Forbidden.{of_each, hfi_stops, is_hfi_stop, stop_nonzero}
@@ -282,12 +283,12 @@ pub record HalfWord (m : Machine) (mem : List ℕ) (size : ℕ) (i : Instruction
 pub record LongWord (m : Machine) (mem : List ℕ) (size : ℕ) (i : Instruction) : Type 0 where
   pub four : size ≡ 4
   pub long : is_long (value mem m.pc 0 2) ≡ true
-  pub passed : verdict m.hfi.mode (length mem) (fetch_access m.hfi.regions (sum m.pc 2)) ≡ Passed
+  pub passed : verdict m.hfi.mode (length mem) (fetch_access m.hfi.regions (sum m.pc 2)) ≡ passed
   pub legal : decode_word (value mem m.pc 0 4) ≡ Legal i
 
 pub record Fetches (m : Machine) (mem : List ℕ) (i : Instruction) : Type 0 where
   pub multiple : m.pc % 2 ≡ 0
-  pub passed : verdict m.hfi.mode (length mem) (fetch_access m.hfi.regions m.pc) ≡ Passed
+  pub passed : verdict m.hfi.mode (length mem) (fetch_access m.hfi.regions m.pc) ≡ passed
   pub size : ℕ
   pub word : HalfWord m mem size i ⊎ LongWord m mem size i
 
@@ -332,15 +333,15 @@ pub record Forbids (m : Machine) (mem : List ℕ) (n : ℕ) : Type 0 where
 
 -- a fetch that was stopped has no such number
 fetching_passed : (m : Machine) (mem : List ℕ) (a : ℕ) (o : Outcome) → is_hfi_stop (fetching m mem a o).result.stop ≡ true
-    → (verdict m.hfi.mode (length mem) (fetch_access m.hfi.regions a) ≡ Passed) × (is_hfi_stop o.result.stop ≡ true)
+    → (verdict m.hfi.mode (length mem) (fetch_access m.hfi.regions a) ≡ passed) × (is_hfi_stop o.result.stop ≡ true)
 unfolding fetching settle
 fetching_passed m mem a o q = go (verdict m.hfi.mode (length mem) (fetch_access m.hfi.regions a)) refl q
   where
     go : (v : Verdict) → verdict m.hfi.mode (length mem) (fetch_access m.hfi.regions a) ≡ v → is_hfi_stop (settle m mem fetch_op 11 12 v o).result.stop ≡ true
-        → (verdict m.hfi.mode (length mem) (fetch_access m.hfi.regions a) ≡ Passed) × (is_hfi_stop o.result.stop ≡ true)
-    go (Refused at region) r q = absurd (false≢true q)
-    go (Absent at) r q = absurd (false≢true q)
-    go Passed r q = (r, q)
+        → (verdict m.hfi.mode (length mem) (fetch_access m.hfi.regions a) ≡ passed) × (is_hfi_stop o.result.stop ≡ true)
+    go (Err (Refused at region)) r q = absurd (false≢true q)
+    go (Err (Absent at)) r q = absurd (false≢true q)
+    go (Ok tt) r q = (r, q)
 
 -- nor has an illegal word
 record Decodes (d : Decoded) : Type 0 where
@@ -370,7 +371,7 @@ step_stopped m mem q = go (eqb (m.pc % 2) 0) refl q
         let e = ap (λ (o : Outcome). o.result.stop) (fetched_step m mem i f) in
         record { instruction = i; fetched = f; rule = rw e (instruction_stopped m mem _ i (fetched_range m mem i f) (rw e at q)) }
 
-    fetched : m.pc % 2 ≡ 0 → verdict m.hfi.mode (length mem) (fetch_access m.hfi.regions m.pc) ≡ Passed → (b : Bool) → is_long h ≡ b
+    fetched : m.pc % 2 ≡ 0 → verdict m.hfi.mode (length mem) (fetch_access m.hfi.regions m.pc) ≡ passed → (b : Bool) → is_long h ≡ b
         → is_hfi_stop (cond b (fetching m mem (sum m.pc 2) (execute_word m mem 4 (decode_word w))) (execute_word m mem 2 (expand_half h))).result.stop ≡ true → Forbidden
     fetched e p true l q =
         let g = fetching_passed m mem (sum m.pc 2) _ q in

@@ -1,5 +1,6 @@
 -- An access is passed exactly when every one of its bytes is granted and in memory.
 -- Assumes nothing.
+use Rattle.std.specs.Prelude.{Ok, Err}
 use mathlib.Core.Path.{◌≡◌, refl}
 use mathlib.Core.Bool.{Bool, true, false, cond}
 use Prim.Native.Nat.{ℕ, zero, suc, ◌+◌, ◌-◌, ◌^◌, ◌<◌, ◌≤◌}
@@ -7,9 +8,9 @@ use native.Mathlib.Omega.{arith}
 use lib.Dec.{eqb, ltb}
 use borrow.Author.Tests.{ltb-true, ltb-false, lt-ltb, le-ltb}
 use Rattle.model.specs.Bytes.{byte_of}
-use Rattle.model.specs.Access.{Access, scan, first_refused, first_absent, verdict}
+use Rattle.model.specs.Access.{Access, scan, first_refused, first_absent, verdict, passed}
 use Rattle.model.specs.Reach.{Passes}
-use Rattle.model.specs.declared.Verdict.TheVariants.{Passed, Refused, Absent}
+use Rattle.model.specs.declared.stop.Denied.TheVariants.{Refused, Absent}
 use Rattle.model.proofs.Scan.{scan_passed, scan_all}
 
 -- every byte is granted in this mode, and in a memory of this length
@@ -17,12 +18,12 @@ pub record Cleared (mode length : ℕ) (a : Access) : Type 0 where
   pub granted : (i : ℕ) → i < a.count → cond (eqb mode 0) true (a.grants i) ≡ true
   pub present : (i : ℕ) → i < a.count → byte_of a.first i < length
 
-neither : (b c : Bool) (x r y : ℕ) → cond b (Refused x r) (cond c (Absent y) Passed) ≡ Passed → (b ≡ false) × (c ≡ false)
+neither : (b c : Bool) (x r y : ℕ) → cond b (Err (Refused x r)) (cond c (Err (Absent y)) passed) ≡ passed → (b ≡ false) × (c ≡ false)
 neither true c x r y h = let z : ◌≡◌ {A = ℕ} 0 1 = cc in absurd (omega arith)
 neither false true x r y h = let z : ◌≡◌ {A = ℕ} 0 1 = cc in absurd (omega arith)
 neither false false x r y h = (refl, refl)
 
-pub cleared : (mode length : ℕ) (a : Access) → verdict mode length a ≡ Passed → Cleared mode length a
+pub cleared : (mode length : ℕ) (a : Access) → verdict mode length a ≡ passed → Cleared mode length a
 unfolding verdict first_refused first_absent
 cleared mode length a h =
     let n = a.count in
@@ -34,7 +35,7 @@ cleared mode length a h =
       present = λ k p. ltb-true _ _ (scan_passed (λ k. ltb (byte_of a.first k) length) n 0 (omega (arith, ltb-false j n b.1)) k (omega arith) (omega arith));
     }
 
-pub passes : (mode length : ℕ) (a : Access) → Cleared mode length a → verdict mode length a ≡ Passed
+pub passes : (mode length : ℕ) (a : Access) → Cleared mode length a → verdict mode length a ≡ passed
 unfolding verdict first_refused first_absent
 passes mode length a h =
     let n = a.count in
@@ -43,7 +44,7 @@ passes mode length a h =
     rw (e, f) (rw (le-ltb (0 + n) n (omega arith)) refl)
 
 -- in HFI mode each byte of a passed access passes its region
-pub passing : (mode length : ℕ) (a : Access) → mode ≡ 1 → verdict mode length a ≡ Passed → (j : ℕ) → j < a.count → Passes a (byte_of a.first j)
+pub passing : (mode length : ℕ) (a : Access) → mode ≡ 1 → verdict mode length a ≡ passed → (j : ℕ) → j < a.count → Passes a (byte_of a.first j)
 passing mode length a on h j p = record { index = j; within = p; there = refl; passes = rw on at ((cleared mode length a h).granted j p) }
 
 -- no byte of an access that is all in memory wraps

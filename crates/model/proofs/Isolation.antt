@@ -1,6 +1,7 @@
 -- Demand 3: two runs of a locked machine over memories that agree on what it may read or execute cannot be told apart.
 -- One step first, by what a step can do (Moves.antt): three doors to memory, and all else; then the run, by its budget.
 -- Assumes nothing.
+use Rattle.std.specs.Prelude.{Ok, Err}
 use mathlib.Core.Path.{◌≡◌, refl, ap, ap₂, sym, ◌∙◌}
 use mathlib.Core.Bool.{Bool, true, false, cond, not}
 use mathlib.Core.List.{List}
@@ -26,9 +27,9 @@ use Rattle.model.specs.Step.{load, store, execute_word, fetching, execute_fetche
 use Rattle.model.specs.Run.{Ended, ended, run_by, run, run_call, largest_budget}
 use Rattle.model.specs.Isolation.{Locked, Agree, Isolated, Isolation}
 use Rattle.model.specs.declared.Machine.{Machine}
-use Rattle.model.specs.declared.Ran.{Ran}
-use Rattle.model.specs.declared.Verdict.{Verdict}
-use Rattle.model.specs.declared.Verdict.TheVariants.{Passed, Refused, Absent}
+use Rattle.model.specs.Run.{RunAnswer}
+use Rattle.model.specs.Access.{Verdict, passed}
+use Rattle.model.specs.declared.stop.Denied.TheVariants.{Refused, Absent}
 use Rattle.model.proofs.Bytes.{value_same, value_halves, written_same}
 use Rattle.model.proofs.Cleared.{passing}
 use Rattle.model.proofs.Moves.{Settings, Move, enact, Executed, Ranged, word_executed}
@@ -43,12 +44,12 @@ record Related (s t : List ℕ) (o p : Outcome) : Type 0 where
 quiet : (s t : List ℕ) (stop at : ℕ) (k : Machine) → Related s t (outcome stop at k s) (outcome stop at k t)
 quiet s t stop at k = record { result = refl; agreeing = λ b e. e }
 
-settle_related : (m : Machine) (s t : List ℕ) (op refused absent : ℕ) (v : Verdict) (o p : Outcome) → (v ≡ Passed → Related s t o p)
+settle_related : (m : Machine) (s t : List ℕ) (op refused absent : ℕ) (v : Verdict) (o p : Outcome) → (v ≡ passed → Related s t o p)
     → Related s t (settle m s op refused absent v o) (settle m t op refused absent v p)
 unfolding settle
-settle_related m s t op refused absent (Refused at region) o p r = quiet s t refused 0 _
-settle_related m s t op refused absent (Absent at) o p r = quiet s t absent at m
-settle_related m s t op refused absent Passed o p r = r refl
+settle_related m s t op refused absent (Err (Refused at region)) o p r = quiet s t refused 0 _
+settle_related m s t op refused absent (Err (Absent at)) o p r = quiet s t absent at m
+settle_related m s t op refused absent (Ok tt) o p r = r refl
 
 -- ---- one step
 
@@ -207,10 +208,10 @@ runs_isolated m s t budget e f p q mode lock lengths readable executable =
     let l : Locked m = record { mode = mode; lock = lock } in
     let a : Agree m s t = record { lengths = lengths; readable = readable; executable = executable } in
     let i : Isolated m s t e f = rw (p, q) (isolation m s t budget l a) in (
-      ap (λ (r : Ran). r.stop) i.answers,
-      ap (λ (r : Ran). r.count) i.answers,
-      ap (λ (r : Ran). r.address) i.answers,
-      ap (λ (r : Ran). r.machine) i.answers,
+      ap (λ (r : RunAnswer). r.stop) i.answers,
+      ap (λ (r : RunAnswer). r.count) i.answers,
+      ap (λ (r : RunAnswer). r.address) i.answers,
+      ap (λ (r : RunAnswer). r.machine) i.answers,
       i.lengths.0,
       i.lengths.1,
       i.agreeing,

@@ -2,6 +2,7 @@
 -- most 8; and what happens to the machine. The only proof that goes through what the instructions do; all others cite it. Question 8's table has its own,
 -- Forbidden.antt.
 -- Assumes nothing.
+use Rattle.std.specs.Prelude.{Ok, Err}
 use mathlib.Core.Path.{◌≡◌, refl, ap, sym, ◌∙◌}
 use mathlib.Core.Bool.{Bool, true, false, cond, not, ◌&&◌, ◌||◌}
 use mathlib.Core.List.{List, [], ◌∷◌}
@@ -43,8 +44,8 @@ use Rattle.model.specs.Step.{load, store, perform, execute_instruction, execute_
 use Rattle.model.specs.declared.Region.{Region}
 use Rattle.model.specs.declared.HfiState.{HfiState}
 use Rattle.model.specs.declared.Machine.{Machine}
-use Rattle.model.specs.declared.Verdict.{Verdict}
-use Rattle.model.specs.declared.Verdict.TheVariants.{Passed, Refused, Absent}
+use Rattle.model.specs.Access.{Verdict, passed}
+use Rattle.model.specs.declared.stop.Denied.TheVariants.{Refused, Absent}
 use Rattle.model.proofs.Forbidden.{every, of_each, is_hfi_stop, breaks_none, allowed_breaks_none, forbidden_listed}
 use Rattle.model.proofs.Formed.{Good, good, formed, zero_kept, changed_fits, selected_fits, entered_fits, exited_fits, handler_fits, regions_fit, fault_fits_lem}
 use Rattle.model.proofs.WritableCode.{or_second}
@@ -446,7 +447,7 @@ pub record Stored (m : Machine) (before after : List ℕ) : Type 0 where
   pub access : Access
   pub stored : ℕ
   pub may : Writes m access
-  pub passed : verdict m.hfi.mode (length before) access ≡ Passed
+  pub passed : verdict m.hfi.mode (length before) access ≡ passed
   pub bytes : after ≡ written before access.first 0 access.count stored
 
 -- what a step from m over a memory can do, with a stop of the kind S
@@ -457,26 +458,26 @@ pub record Does (S : ℕ → Bool) (m : Machine) (mem : List ℕ) (o : Outcome) 
 
 -- the fault region of a verdict
 abbrev Faults : Verdict → Type 0
-Faults (Refused at region) = leb region last_region ≡ true
-Faults (Absent at) = Unit {0}
-Faults Passed = Unit {0}
+Faults (Err (Refused at region)) = leb region last_region ≡ true
+Faults (Err (Absent at)) = Unit {0}
+Faults (Ok tt) = Unit {0}
 
 faults : (mode length : ℕ) (a : Access) → ((i : ℕ) → leb (a.fault_region i) last_region ≡ true) → Faults (verdict mode length a)
 unfolding verdict
 faults mode length a h = go (ltb _ a.count) (ltb _ a.count) _ _ (a.fault_region _) (h _)
   where
-    go : (b c : Bool) (x y r : ℕ) → leb r last_region ≡ true → Faults (cond b (Refused x r) (cond c (Absent y) Passed))
+    go : (b c : Bool) (x y r : ℕ) → leb r last_region ≡ true → Faults (cond b (Err (Refused x r)) (cond c (Err (Absent y)) passed))
     go true c x y r e = e
     go false true x y r e = tt
     go false false x y r e = tt
 
 module _ (m : Machine) (mem : List ℕ) where
   settles : {S : ℕ → Bool} (op refused absent : ℕ) (v : Verdict) (o : Outcome) → leb op fetch_op ≡ true → proper S refused 0 ≡ true → ((at : ℕ) → proper S absent at ≡ true)
-      → Faults v → (v ≡ Passed → Does S m mem o) → Does S m mem (settle m mem op refused absent v o)
+      → Faults v → (v ≡ passed → Does S m mem o) → Does S m mem (settle m mem op refused absent v o)
   unfolding settle
-  settles op refused absent (Refused at region) o l p q f d = record { kept = faulted_kept m op at region l f; stop = p; memory = inl refl }
-  settles op refused absent (Absent at) o l p q f d = record { kept = same_kept m; stop = q at; memory = inl refl }
-  settles op refused absent Passed o l p q f d = d refl
+  settles op refused absent (Err (Refused at region)) o l p q f d = record { kept = faulted_kept m op at region l f; stop = p; memory = inl refl }
+  settles op refused absent (Err (Absent at)) o l p q f d = record { kept = same_kept m; stop = q at; memory = inl refl }
+  settles op refused absent (Ok tt) o l p q f d = d refl
 
   enacted : {ns : List ℕ} (v : Move ns m) → Does (one_of ns) m mem (enact m mem v)
   unfolding load store

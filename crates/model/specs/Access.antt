@@ -1,6 +1,6 @@
 -- One access: its bytes, what the regions say to each, and the questions that all of them are asked before any is touched.
--- Region and Verdict are declared in src/lib.rt, LoadKind and StoreKind in instructions/src/kind.rt. Assumes nothing.
-use Rattle.std.specs.Prelude.{Bool, true, cond, List, ℕ, zero, suc, eqb, ltb, ℤ, pos, ◌+ℤ◌}
+-- Region is declared in src/lib.rt, Denied in src/stop.rt, LoadKind and StoreKind in instructions/src/kind.rt. Assumes nothing.
+use Rattle.std.specs.Prelude.{Bool, true, cond, List, ℕ, zero, suc, eqb, ltb, ℤ, pos, ◌+ℤ◌, Result, Ok, Err, ⊤}
 use Rattle.words.specs.Word.{signed, word}
 use Rattle.instructions.specs.declared.kind.LoadKind.{LoadKind}
 use Rattle.instructions.specs.declared.kind.LoadKind.TheVariants.{Lb, Lh, Lw, Ld, Lbu, Lhu, Lwu}
@@ -10,8 +10,8 @@ use Rattle.model.specs.Machine.{sum, reg, region}
 use Rattle.model.specs.Regions.{read, write, execute, data_regions, code_regions, first_match, implicit_grants, explicit_grants}
 use Rattle.model.specs.Bytes.{byte_of}
 use Rattle.model.specs.declared.Region.{Region}
-use Rattle.model.specs.declared.Verdict.{Verdict}
-use Rattle.model.specs.declared.Verdict.TheVariants.{Passed, Refused, Absent}
+use Rattle.model.specs.declared.stop.Denied.{Denied}
+use Rattle.model.specs.declared.stop.Denied.TheVariants.{Refused, Absent}
 
 pub record Access : Type 0 where
   -- the address of byte 0, and the count of bytes
@@ -107,10 +107,17 @@ first_refused mode a = scan (λ i. cond (eqb mode 0) true (a.grants i)) 0 a.coun
 unfoldable pub first_absent : ℕ → ℕ → ℕ → ℕ
 first_absent length first count = scan (λ i. ltb (byte_of first i) length) 0 count
 
+-- all bytes pass; one is refused, with its address and its fault region; or all are granted and one is absent, with its address
+abbrev pub Verdict : Type 0
+Verdict = Result ⊤ Denied
+
+abbrev pub passed : Verdict
+passed = Ok tt
+
 -- "Is every data byte granted?", and then "Are they in memory?"; of a fetch "are all .. bytes executable?" first, of two bytes at a time (02, Job 8)
 unfoldable pub verdict : ℕ → ℕ → Access → Verdict
 verdict mode length a =
     let i = first_refused mode a in
     let j = first_absent length a.first a.count in
-    cond (ltb i a.count) (Refused (byte_of a.first i) (a.fault_region i))
-    (cond (ltb j a.count) (Absent (byte_of a.first j)) Passed)
+    cond (ltb i a.count) (Err (Refused (byte_of a.first i) (a.fault_region i)))
+    (cond (ltb j a.count) (Err (Absent (byte_of a.first j))) passed)

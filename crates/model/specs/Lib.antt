@@ -6,6 +6,7 @@ pub mod Access
 pub mod Reach
 pub mod WritableCode
 pub mod Arithmetic
+pub mod Stops
 pub mod Outcome
 pub mod Hfi
 pub mod Step

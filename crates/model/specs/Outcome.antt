@@ -1,21 +1,36 @@
 -- What a step answers, and the memory that it leaves.
--- Machine, Verdict and Stepped are declared in src/lib.rt. Assumes nothing.
-use Rattle.std.specs.Prelude.{cond, List, ℕ, ◌%◌, eqb}
+-- Machine and Stepped are declared in src/lib.rt, Denied and Stop in src/stop.rt. Assumes nothing.
+use Rattle.std.specs.Prelude.{cond, List, ℕ, ◌%◌, eqb, Result, Ok, Err, ⊤}
 use Rattle.model.specs.Machine.{set_reg, with_fault, machine}
 use Rattle.model.specs.declared.Machine.{Machine}
-use Rattle.model.specs.declared.Verdict.{Verdict}
-use Rattle.model.specs.declared.Verdict.TheVariants.{Passed, Refused, Absent}
+use Rattle.model.specs.Access.{Verdict}
+use Rattle.model.specs.declared.stop.Denied.TheVariants.{Refused, Absent}
+use Rattle.model.specs.Stops.{number_of, address_of}
+use Rattle.model.specs.declared.stop.Stop.{Stop}
 use Rattle.model.specs.declared.Stepped.{Stepped}
 
+-- the documents' number (0 for a completed step), the absent address of 12 and 17, and the machine
+pub record StepAnswer : Type 0 where
+  pub stop : ℕ
+  pub address : ℕ
+  pub machine : Machine
+
 pub record Outcome : Type 0 where
-  pub result : Stepped
+  pub result : StepAnswer
   pub memory : List ℕ
 
 abbrev pub outcome : ℕ → ℕ → Machine → List ℕ → Outcome
 outcome stop address m mem = record { result = record { stop = stop; address = address; machine = m }; memory = mem }
 
+-- what the code answers, by the documents' number and address of its stop
+abbrev pub answer_of : Result ⊤ Stop → Machine → StepAnswer
+answer_of r m = record { stop = number_of r; address = address_of r; machine = m }
+
+abbrev pub step_answer : Stepped → StepAnswer
+step_answer r = answer_of r.stop r.machine
+
 -- the answer of a call, and the memory after it
-abbrev pub stepped_with : Stepped → List ℕ → Outcome
+abbrev pub stepped_with : StepAnswer → List ℕ → Outcome
 stepped_with r mem = record { result = r; memory = mem }
 
 -- "A completed step answers 0"
@@ -53,6 +68,6 @@ faulted m op at region =
 
 -- questions 5 and 6, or 10 and 11, by the verdict on the access: the number `refused`, or the number `absent` with its address
 unfoldable pub settle : Machine → List ℕ → ℕ → ℕ → ℕ → Verdict → Outcome → Outcome
-settle m mem op refused absent (Refused at region) rest = stopped refused (faulted m op at region) mem
-settle m mem op refused absent (Absent at) rest = outcome absent at m mem
-settle m mem op refused absent Passed rest = rest
+settle m mem op refused absent (Err (Refused at region)) rest = stopped refused (faulted m op at region) mem
+settle m mem op refused absent (Err (Absent at)) rest = outcome absent at m mem
+settle m mem op refused absent (Ok tt) rest = rest

@@ -1,5 +1,5 @@
 -- Document 01, "Regions": each kind's rule, which bytes a region matches, and which region decides.
--- Region is declared in src/lib.rt. Assumes nothing.
+-- Region is declared in src/lib.rt, Permission in src/permission.rt. Assumes nothing.
 use Rattle.std.specs.Prelude.{Bool, true, false, cond, not, ◌&&◌, List, [], ◌∷◌, ℕ, ◌+◌, ◌-◌, ◌/◌, ◌%◌, ◌^◌, eqb, leb, ℤ, pos, ◌+ℤ◌}
 use Rattle.std.specs.Int.Bits.{bit_and}
 use Rattle.std.specs.Int.Count.{count_trailing_zeros}
@@ -7,6 +7,8 @@ use Rattle.std.specs.Int.Signed.{le_z, lt_z}
 use Rattle.instructions.specs.HWords.{explicit_regions, among}
 use Rattle.model.specs.Machine.{bit, region}
 use Rattle.model.specs.declared.Region.{Region}
+use Rattle.model.specs.declared.permission.Permission.{Permission}
+use Rattle.model.specs.declared.permission.Permission.TheVariants.{Read, Write, Execute, Large}
 
 -- ---- kinds by number: "Explicit are 1, 4, 5, 6; implicit data 2, 7, 8, 9; code 3, 10." (02, Job 7). An h-word chooses among the explicit
 -- ones, so their list stands in instructions/specs/HWords.antt
@@ -39,6 +41,12 @@ execute = 2
 
 abbrev pub large : ℕ
 large = 3
+
+abbrev pub permission_bit : Permission → ℕ
+permission_bit Read = read
+permission_bit Write = write
+permission_bit Execute = execute
+permission_bit Large = large
 
 abbrev pub permits : ℕ → Region → Bool
 permits wanted r = bit wanted r.permission

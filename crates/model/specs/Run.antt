@@ -7,11 +7,23 @@ use Rattle.model.specs.WritableCode.{exposes_code}
 use Rattle.model.specs.Outcome.{Outcome}
 use Rattle.model.specs.Step.{step, longest}
 use Rattle.model.specs.declared.Machine.{Machine}
+use Rattle.model.specs.Stops.{stop_number, stop_address}
 use Rattle.model.specs.declared.Ran.{Ran}
+
+-- the documents' number, the count of completed steps, the absent address of 12 and 17, and the machine
+pub record RunAnswer : Type 0 where
+  pub stop : ℕ
+  pub count : ℕ
+  pub address : ℕ
+  pub machine : Machine
+
+-- what the code answers, by the documents' number and address of its stop
+abbrev pub run_answer : Ran → RunAnswer
+run_answer r = record { stop = stop_number r.stop; count = r.count; address = stop_address r.stop; machine = r.machine }
 
 -- what a run answers, and the memory that it leaves
 pub record Ended : Type 0 where
-  pub result : Ran
+  pub result : RunAnswer
   pub memory : List ℕ
 
 abbrev pub ended : ℕ → ℕ → ℕ → Machine → List ℕ → Ended
@@ -19,7 +31,7 @@ ended stop count address m mem =
     record { result = record { stop = stop; count = count; address = address; machine = m }; memory = mem }
 
 -- the answer of a call, and the memory after it
-abbrev pub ran_with : Ran → List ℕ → Ended
+abbrev pub ran_with : RunAnswer → List ℕ → Ended
 ran_with r mem = record { result = r; memory = mem }
 
 -- with a budget of `remaining` steps still, after `count` completed steps of a run that began in HFI mode or not.

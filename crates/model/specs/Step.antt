@@ -1,5 +1,5 @@
 -- One step: document 01, "Questions a call puts", and the effect of each instruction.
--- Machine and Stepped are declared in src/lib.rt, the instructions and their kinds in instructions/src. Assumes
+-- Machine is declared in src/lib.rt, the instructions and their kinds in instructions/src. Assumes
 -- nothing.
 use Rattle.std.specs.Prelude.{cond, List, ℕ, ◌*◌, ◌/◌, ◌%◌, eqb, ltb, length}
 use Rattle.instructions.specs.Decode.{decode_word}
@@ -16,12 +16,11 @@ use Rattle.model.specs.Machine.{sum, reg, set_reg, load_op, store_op, fetch_op, 
 use Rattle.model.specs.WellFormed.{well_formed}
 use Rattle.model.specs.WritableCode.{exposes_code}
 use Rattle.model.specs.Bytes.{value, written}
-use Rattle.model.specs.Outcome.{Outcome, completed, stopped, assigned, with_pc, allowed, settle}
+use Rattle.model.specs.Outcome.{Outcome, StepAnswer, completed, stopped, assigned, with_pc, allowed, settle}
 use Rattle.model.specs.Access.{Access, fetch_access, load_access, store_access, hload_access, hstore_access, verdict}
 use Rattle.model.specs.Arithmetic.{operate, operate_word, of_register_word, of_immediate, of_shift, of_shift_word, taken, extended}
 use Rattle.model.specs.Hfi.{hfi_stop, hfi_perform}
 use Rattle.model.specs.declared.Machine.{Machine}
-use Rattle.model.specs.declared.Stepped.{Stepped}
 
 -- ---- memory
 
@@ -112,7 +111,7 @@ step_call m mem =
     (cond (well_formed m) (cond (exposes_code m.hfi) (stopped 4 m mem) (step m mem)) (stopped 3 m mem))
 
 -- "Resuming .. puts a given value in x10 and adds 4 to pc; it asks question 3 only." 4 with Job 8 too: an ECALL is a long word
-unfoldable pub resume_call : Machine → ℕ → Stepped
+unfoldable pub resume_call : Machine → ℕ → StepAnswer
 resume_call m v =
     cond (well_formed m) (record { stop = 0; address = 0; machine = machine (set_reg m.x 10 v) (sum m.pc 4) m.hfi })
     (record { stop = 3; address = 0; machine = m })

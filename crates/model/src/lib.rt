@@ -4,6 +4,11 @@
 // Every number is 64 bits wide, so that a caller can hand in any wrong value and have it refused.
 #![tactic(auto)]
 
+pub mod permission;
+pub mod stop;
+
+use stop::Stop;
+
 // The longest memory and the largest budget that a call takes.
 pub const LONGEST: usize = 16_777_216;
 
@@ -22,28 +27,12 @@ pub const CODE_REGIONS: [u64; 2] = [3, 10];
 // And the explicit ones.
 pub const EXPLICIT_REGIONS: [u64; 4] = [1, 4, 5, 6];
 
-// The permissions of a region, by bit number.
-pub const READ: u64 = 0;
-
-pub const WRITE: u64 = 1;
-
-pub const EXECUTE: u64 = 2;
-
-pub const LARGE: u64 = 3;
-
-// The fault record's ops.
-pub const LOAD_OP: u64 = 1;
-
-pub const STORE_OP: u64 = 2;
-
-pub const FETCH_OP: u64 = 3;
-
 // The largest options: 4 bits.
 pub const LARGEST_OPTIONS: u64 = 15;
 
 // "A region has a 64-bit base, a 64-bit bound or mask, and permissions: bit 0 read, bit 1 write, bit 2 execute, bit 3 large".
 #[repr(C)]
-#[derive(Clone, Copy)]
+#[derive(Clone, Copy, Default)]
 pub struct Region {
     pub base: u64,
     pub bound: u64,
@@ -52,7 +41,7 @@ pub struct Region {
 
 // "Fault record: occurred (0 or 1), region, op (0 none, 1 load, 2 store, 3 fetch), and the address".
 #[repr(C)]
-#[derive(Clone, Copy)]
+#[derive(Clone, Copy, Default)]
 pub struct Fault {
     pub occurred: u64,
     pub region: u64,
@@ -63,7 +52,7 @@ pub struct Fault {
 // "HFI state: mode (0 or 1), exit reason (0 none, 1 hfiexit, 2 system call), exit pc, options (4 bits), exit handler,
 // selector, three regions, fault record", of which document 02, Job 7, makes ten regions. `epc` is the exit pc; region n stands at n - 1.
 #[repr(C)]
-#[derive(Clone, Copy)]
+#[derive(Clone, Copy, Default)]
 pub struct HfiState {
     pub mode: u64,
     pub reason: u64,
@@ -77,35 +66,24 @@ pub struct HfiState {
 
 // "Registers x0 to x31 and pc, 64 bits each."
 #[repr(C)]
-#[derive(Clone, Copy)]
+#[derive(Clone, Copy, Default)]
 pub struct Machine {
     pub x: [u64; 32],
     pub pc: u64,
     pub hfi: HfiState,
 }
 
-// What the regions and the memory's end say to the bytes of one access: all pass; one is refused, with its address and
-// its fault region; or all are granted and one is absent, with its address.
-#[derive(Clone, Copy)]
-pub enum Verdict {
-    Passed,
-    Refused(u64, u64),
-    Absent(u64),
-}
-
-// The answer of a step: the documents' number (0 for a completed step), the absent address of 12 and 17, and the machine.
+// What a step answers: whether it completed or what stopped it, and the machine.
 #[derive(Clone, Copy)]
 pub struct Stepped {
-    pub stop: u64,
-    pub address: u64,
+    pub stop: Result<(), Stop>,
     pub machine: Machine,
 }
 
-// The answer of a run, with the count of completed steps.
+// What a run answers, with the count of completed steps.
 #[derive(Clone, Copy)]
 pub struct Ran {
-    pub stop: u64,
+    pub stop: Stop,
     pub count: u64,
-    pub address: u64,
     pub machine: Machine,
 }

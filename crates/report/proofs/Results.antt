@@ -11,13 +11,13 @@ use borrow.Author.Tests.{eqb-true}
 use Rattle.text.specs.Number.{decimal, hexadecimal}
 use Rattle.text.proofs.RoundTrip.{Clean, lines_same, decimal_free, hexadecimal_free, decimal_same, hexadecimal_same}
 use Rattle.model.specs.declared.Fault.{Fault}
-use Rattle.model.specs.declared.Ran.{Ran}
+use Rattle.model.specs.Run.{RunAnswer}
 use Rattle.sheet.specs.Sheet.{refusal_text}
 use Rattle.sheet.proofs.Refusals.{row, row_clean, refusal_line}
 use Rattle.report.specs.Report.{result_line, register_lines, result_text}
 
 -- ---- what code can hold: 64 bits in each number, 32 registers
-pub record Held (r : Ran) : Type 0 where
+pub record Held (r : RunAnswer) : Type 0 where
   pub stop : r.stop < 2 ^ 64
   pub count : r.count < 2 ^ 64
   pub pc : r.machine.pc < 2 ^ 64
@@ -31,7 +31,7 @@ pub record Held (r : Ran) : Type 0 where
   pub registers : (i : ℕ) → get_or r.machine.x i 0 < 2 ^ 64
 
 -- ---- everything that is printed of two results is the same
-pub record Same (r q : Ran) : Type 0 where
+pub record Same (r q : RunAnswer) : Type 0 where
   pub stop : r.stop ≡ q.stop
   pub count : r.count ≡ q.count
   pub pc : r.machine.pc ≡ q.machine.pc
@@ -94,7 +94,7 @@ registers_clean i (v ∷ vs) = by (eqb v 0) (registers_clean (i + 1) vs)
         (lit≤ tt, (a.0, (b.0, tt)), (a.1, (b.1, tt)), g)
 
 -- ---- the whole result
-result_clean : (r : Ran) → Clean (result_line r ∷ register_lines 0 r.machine.x)
+result_clean : (r : RunAnswer) → Clean (result_line r ∷ register_lines 0 r.machine.x)
 result_clean r =
     let m = r.machine in
     let h = m.hfi in
@@ -125,7 +125,7 @@ fault_same f g o r p a =
 abbrev at : ℕ → List (List ℕ) → List ℕ
 at k r = get_or r k []
 
-pub results_same : (r q : Ran) → Held r → Held q → result_text r ≡ result_text q → Same r q
+pub results_same : (r q : RunAnswer) → Held r → Held q → result_text r ≡ result_text q → Same r q
 results_same r q h k e =
     let rows : result_line r ∷ register_lines 0 r.machine.x ≡ result_line q ∷ register_lines 0 q.machine.x =
     lines_same (result_line r ∷ register_lines 0 r.machine.x) (result_line q ∷ register_lines 0 q.machine.x) (result_clean r) (result_clean q) e in
@@ -147,7 +147,7 @@ results_same r q h k e =
     }
 
 -- ---- and no result prints as a refusal: the first line of a result has nine fields, that of a refusal has three
-pub result_no_refusal : (r : Ran) (n l : ℕ) → result_text r ≡ refusal_text n l → ⊥
+pub result_no_refusal : (r : RunAnswer) (n l : ℕ) → result_text r ≡ refusal_text n l → ⊥
 result_no_refusal r n l e =
     let rows : result_line r ∷ register_lines 0 r.machine.x ≡ row n l ∷ [] =
     lines_same (result_line r ∷ register_lines 0 r.machine.x) (row n l ∷ []) (result_clean r) (row_clean n l) (e ∙ refusal_line n l) in

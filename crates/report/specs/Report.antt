@@ -1,11 +1,11 @@
 -- The whole program of document 01, "The run sheet": the bytes that it prints for the bytes that it reads. A run is printed as lines
 -- of fields.
--- Fault and Ran are declared in model/src/lib.rt, Sheet in sheet/specs/Sheet.antt. Assumes nothing.
+-- Fault and RunAnswer are declared in model/src/lib.rt, Sheet in sheet/specs/Sheet.antt. Assumes nothing.
 use Rattle.std.specs.Prelude.{cond, List, [], ◌∷◌, ◌++◌, ℕ, ◌+◌, eqb}
 use Rattle.text.specs.Number.{decimal, hexadecimal}
 use Rattle.text.specs.Split.{join_lines}
 use Rattle.model.specs.declared.Fault.{Fault}
-use Rattle.model.specs.declared.Ran.{Ran}
+use Rattle.model.specs.Run.{RunAnswer}
 use Rattle.model.specs.Run.{run_call}
 use Rattle.setup.specs.Setup.{machine_of}
 use Rattle.sheet.specs.Words.{memory_of, blank}
@@ -17,7 +17,7 @@ fault_fields f = hexadecimal f.occurred ∷ hexadecimal f.region ∷ hexadecimal
 
 -- "number (decimal), steps, pc, reason, exit pc, and the fault record's occurred, region, op, address"; "All else is hexadecimal
 -- without leading zeros."
-abbrev pub result_line : Ran → List (List ℕ)
+abbrev pub result_line : RunAnswer → List (List ℕ)
 result_line r =
     decimal r.stop
     ∷ hexadecimal r.count
@@ -36,7 +36,7 @@ register_lines i [] = []
 register_lines i (v ∷ vs) = register_line i v ++ register_lines (i + 1) vs
 
 -- "Otherwise it prints": the result, "then each non-zero register"
-abbrev pub result_text : Ran → List ℕ
+abbrev pub result_text : RunAnswer → List ℕ
 result_text r = join_lines (result_line r ∷ register_lines 0 r.machine.x)
 
 -- what is printed of a sheet whose words are placed over a memory: "The first no is printed as one line"; "Otherwise it prints"

@@ -9,7 +9,7 @@ use borrow.Author.Tests.{eq-eqb, ne_eqb}
 use Rattle.text.specs.Write.{Wrote}
 use Rattle.text.proofs.Writing.{wrote_parts}
 use Rattle.model.specs.declared.Machine.{Machine}
-use Rattle.model.specs.declared.Ran.{Ran}
+use Rattle.model.specs.Run.{RunAnswer}
 use Rattle.model.specs.Run.{ran_with, run_call}
 use Rattle.setup.specs.Setup.{machine_of}
 use Rattle.sheet.specs.declared.ReadSheet.{ReadSheet}
@@ -27,7 +27,7 @@ module _ (mem s : List ℕ) (h : ReadSheet) (e : h.refusal ≡ (read_sheet s).re
       ap (λ r. refusal_text r.question r.lineno) e ∙ sym (rw (ne_eqb (read_sheet s).refusal.question 0 y))
 
   -- it is run over the memory `filled`, which has its words
-  pub report_run : (filled last : List ℕ) (m : Machine) (r : Ran) → h.refusal.question ≡ 0 → h.setup ≡ (read_sheet s).setup
+  pub report_run : (filled last : List ℕ) (m : Machine) (r : RunAnswer) → h.refusal.question ≡ 0 → h.setup ≡ (read_sheet s).setup
       → filled ≡ memory_of mem (read_sheet s).words → m ≡ machine_of h.setup → ran_with r last ≡ run_call m filled h.setup.budget
       → result_text r ≡ report_over mem s
   unfolding report_over

@@ -9,7 +9,7 @@ use Rattle.model.specs.Machine.{inside, machine}
 use Rattle.model.specs.Step.{step}
 use Rattle.model.specs.Run.{run, ran_with}
 use Rattle.model.specs.declared.Machine.{Machine}
-use Rattle.model.specs.declared.Ran.{Ran}
+use Rattle.model.specs.Run.{RunAnswer}
 use Rattle.model.proofs.Runs.{run_out, run_stops, run_leaves, run_goes_on}
 use Rattle.hart.specs.State.{regions_of, state_with, hart}
 use Rattle.hart.specs.Effect.{effect_with}
@@ -23,19 +23,19 @@ whole m h numbers mem began budget e i =
     ap₂ (λ t s. run t budget 0 (machine m.x m.pc s) mem) (i ∙ ap inside e) e
 
 -- the budget is used up
-pub spent : (began : Bool) (budget count : ℕ) (m : Machine) (mem : List ℕ) (r : Ran) → budget ≤ count
+pub spent : (began : Bool) (budget count : ℕ) (m : Machine) (mem : List ℕ) (r : RunAnswer) → budget ≤ count
     → r ≡ record { stop = 21; count = count; address = 0; machine = m } → ran_with r mem ≡ run began (budget - count) count m mem
 spent began budget count m mem r h e = ap (λ q. ran_with q mem) e ∙ sym (run_out began (budget - count) count m mem (omega arith))
 
 module _ (began : Bool) (budget count : ℕ) (m : Machine) (mem : List ℕ) (d : Effect) (x numbers after : List ℕ) (l : count < budget) (e : effect_with d x numbers after ≡ step m mem)
   where
     -- the step stops the run
-    pub stopped : (r : Ran) → (d.stop ≡ 0 → ⊥) → r ≡ record { stop = d.stop; count = count; address = d.address; machine = hart x d.pc d.hfi numbers }
+    pub stopped : (r : RunAnswer) → (d.stop ≡ 0 → ⊥) → r ≡ record { stop = d.stop; count = count; address = d.address; machine = hart x d.pc d.hfi numbers }
         → ran_with r after ≡ run began (budget - count) count m mem
     stopped r q f = ap (λ r. ran_with r after) f ∙ sym (run_stops began (budget - count) count m mem (effect_with d x numbers after) (omega arith) e q)
 
     -- the step leaves HFI mode
-    pub leaves : (r : Ran) (on : Bool) → d.stop ≡ 0 → on ≡ inside (state_with d.hfi []) → (began && not on) ≡ true
+    pub leaves : (r : RunAnswer) (on : Bool) → d.stop ≡ 0 → on ≡ inside (state_with d.hfi []) → (began && not on) ≡ true
         → r ≡ record { stop = 20; count = count + 1; address = 0; machine = hart x d.pc d.hfi numbers } → ran_with r after ≡ run began (budget - count) count m mem
     leaves r on q i t f =
         ap (λ r. ran_with r after) f

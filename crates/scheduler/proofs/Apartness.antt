@@ -16,7 +16,7 @@ use Rattle.model.specs.Run.{Ended, run_call}
 use Rattle.model.specs.Isolation.{Locked, Isolated}
 use Rattle.model.specs.declared.Region.{Region}
 use Rattle.model.specs.declared.Machine.{Machine}
-use Rattle.model.specs.declared.Ran.{Ran}
+use Rattle.model.specs.Run.{RunAnswer}
 use Rattle.model.proofs.Moves.{Settings}
 use Rattle.model.proofs.Runs.{locked_is, run_length, locked_keeps, locked_unwritten}
 use Rattle.model.proofs.Isolation.{isolation}
@@ -97,7 +97,7 @@ past s mem a k =
     let e = run_call (slot s.slots k).machine mem a in
     record { scheduler = (took_turn s k e.result).scheduler; memory = e.memory }
 
-abbrev ran : Ran → Slot
+abbrev ran : RunAnswer → Slot
 ran r = record { machine = r.machine; stop = r.stop }
 
 module _ (s : Scheduler) (mem : List ℕ) (a k : ℕ) (t : Took s mem a k) where
@@ -230,7 +230,7 @@ state_of l = record { scheduler = l.result.scheduler; memory = l.memory }
 abbrev tells : Left → Told
 tells l = record { stop = l.result.stop; count = l.result.count; address = l.result.address }
 
-abbrev run_tells : Ran → Told
+abbrev run_tells : RunAnswer → Told
 run_tells r = record { stop = r.stop; count = r.count; address = r.address }
 
 -- slot n's own turn, and the same turn alone, from where both go on alike

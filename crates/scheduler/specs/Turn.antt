@@ -8,7 +8,7 @@ use Rattle.model.specs.WritableCode.{exposes_code}
 use Rattle.model.specs.Step.{longest}
 use Rattle.model.specs.Run.{run_call}
 use Rattle.model.specs.declared.Machine.{Machine}
-use Rattle.model.specs.declared.Ran.{Ran}
+use Rattle.model.specs.Run.{RunAnswer}
 use Rattle.scheduler.specs.declared.Slot.{Slot}
 use Rattle.scheduler.specs.declared.Scheduler.{Scheduler}
 use Rattle.scheduler.specs.declared.Turned.{Turned}
@@ -110,7 +110,7 @@ abbrev pub no_turn : ℕ → Scheduler → Turned
 no_turn stop s = record { slot = 0; stop = stop; count = 0; address = 0; scheduler = s }
 
 -- "then the place becomes the deck after that one"; "each turn adds its run's count, modulo 2^64"
-abbrev pub advanced : Scheduler → ℕ → Ran → Scheduler
+abbrev pub advanced : Scheduler → ℕ → RunAnswer → Scheduler
 advanced s n r =
     record {
       slots = set s.slots (n - 1) (record { machine = r.machine; stop = r.stop });
@@ -120,7 +120,7 @@ advanced s n r =
     }
 
 -- "It answers the deck and its run's stop, count and address."
-abbrev pub took_turn : Scheduler → ℕ → Ran → Turned
+abbrev pub took_turn : Scheduler → ℕ → RunAnswer → Turned
 took_turn s n r = record { slot = n; stop = r.stop; count = r.count; address = r.address; scheduler = advanced s n r }
 
 -- "A turn is one run, with the allowance as its budget": the run call of Run.antt. "With all decks stopped a turn makes no run, changes

@@ -1,6 +1,6 @@
 -- The step by one verdict on its fetch; and what a passed one says of memory.
 -- Assumes nothing.
-use Rattle.std.proofs.Common.{◌≡◌, ℕ, ◌+◌, ◌%◌, ◌^◌, ◌<◌, ◌≤◌, Bool, true, false, cond, List, length, refl, ◌∙◌, arith, eq-eqb}
+use Rattle.std.proofs.Common.{◌≡◌, ℕ, ◌+◌, ◌%◌, ◌^◌, ◌<◌, ◌≤◌, Bool, true, false, cond, List, length, refl, ◌∙◌, arith, eq-eqb, Ok, Err}
 use Rattle.instructions.specs.Decode.{decode_word}
 use Rattle.instructions.specs.Encode.{in_range}
 use Rattle.instructions.specs.declared.instruction.Decoded.{Decoded}
@@ -16,8 +16,8 @@ use Rattle.model.specs.Outcome.{outcome, stopped, faulted, settle}
 use Rattle.model.specs.Step.{execute_word, fetching, execute_fetched, step}
 use Rattle.model.specs.declared.Machine.{Machine}
 use Rattle.model.specs.declared.Region.{Region}
-use Rattle.model.specs.declared.Verdict.{Verdict}
-use Rattle.model.specs.declared.Verdict.TheVariants.{Passed, Refused, Absent}
+use Rattle.model.specs.Access.{Verdict, passed}
+use Rattle.model.specs.declared.stop.Denied.TheVariants.{Refused, Absent}
 use Rattle.memory.specs.Loops.{fetches_whole}
 use Rattle.memory.proofs.Fits.{passed_fits}
 use Rattle.memory.proofs.Whole.{whole_fetched}
@@ -26,18 +26,18 @@ use Rattle.step.specs.Fetch.{and_then, half_at, fetch_verdict, size_at, word_at}
 -- ---- the verdict
 
 -- a passed one passed twice
-both : (v w : Verdict) → and_then v w ≡ Passed → (v ≡ Passed) × (w ≡ Passed)
-both (Refused at region) w e = let z : ◌≡◌ {A = ℕ} 0 1 = cc in absurd (omega arith)
-both (Absent at) w e = let z : ◌≡◌ {A = ℕ} 0 1 = cc in absurd (omega arith)
-both Passed w e = (refl, e)
+both : (v w : Verdict) → and_then v w ≡ passed → (v ≡ passed) × (w ≡ passed)
+both (Err (Refused at region)) w e = let z : ◌≡◌ {A = ℕ} 0 1 = cc in absurd (omega arith)
+both (Err (Absent at)) w e = let z : ◌≡◌ {A = ℕ} 0 1 = cc in absurd (omega arith)
+both (Ok tt) w e = (refl, e)
 
 module _ (mode : ℕ) (rs : List Region) (mem : List ℕ) (pc : ℕ) where
   -- where all four bytes pass there is no more to ask
-  pub whole_verdict : pc < 2 ^ 64 → length mem < 2 ^ 64 → fetches_whole mode rs (length mem) pc ≡ true → Passed ≡ fetch_verdict mode rs mem pc
+  pub whole_verdict : pc < 2 ^ 64 → length mem < 2 ^ 64 → fetches_whole mode rs (length mem) pc ≡ true → (Ok tt) ≡ fetch_verdict mode rs mem pc
   unfolding fetch_verdict
   whole_verdict p q g = let w = whole_fetched mode rs (length mem) pc p q g in rw (w.0, w.1) (go (is_long (half_at mem pc)))
     where
-      go : (b : Bool) → Passed ≡ cond b Passed Passed
+      go : (b : Bool) → (Ok tt) ≡ cond b (Ok tt) (Ok tt)
       go true = refl
       go false = refl
 
@@ -51,11 +51,11 @@ module _ (mode : ℕ) (rs : List Region) (mem : List ℕ) (pc : ℕ) where
   absent_verdict e = rw e refl
 
   -- they do, and are a half-word; or the rest is to be asked
-  pub half_verdict : verdict mode (length mem) (fetch_access rs pc) ≡ Passed → is_long (half_at mem pc) ≡ false → Passed ≡ fetch_verdict mode rs mem pc
+  pub half_verdict : verdict mode (length mem) (fetch_access rs pc) ≡ passed → is_long (half_at mem pc) ≡ false → (Ok tt) ≡ fetch_verdict mode rs mem pc
   unfolding fetch_verdict
   half_verdict e l = rw (e, l) refl
 
-  pub long_verdict : {v : Verdict} → verdict mode (length mem) (fetch_access rs pc) ≡ Passed → is_long (half_at mem pc) ≡ true
+  pub long_verdict : {v : Verdict} → verdict mode (length mem) (fetch_access rs pc) ≡ passed → is_long (half_at mem pc) ≡ true
       → v ≡ verdict mode (length mem) (fetch_access rs (sum pc 2)) → v ≡ fetch_verdict mode rs mem pc
   unfolding fetch_verdict
   long_verdict e l q = rw (e, l) q
@@ -63,15 +63,15 @@ module _ (mode : ℕ) (rs : List Region) (mem : List ℕ) (pc : ℕ) where
   -- ---- what is in memory
 
   module _ (p : pc < 2 ^ 64) (q : length mem < 2 ^ 64) where
-    pub half_fits : fetch_verdict mode rs mem pc ≡ Passed → pc + 2 ≤ length mem
+    pub half_fits : fetch_verdict mode rs mem pc ≡ passed → pc + 2 ≤ length mem
     unfolding fetch_verdict
     half_fits e = passed_fits mode (length mem) (fetch_access rs pc) refl p q refl (both _ _ e).0
 
-    pub long_fits : fetch_verdict mode rs mem pc ≡ Passed → is_long (half_at mem pc) ≡ true → pc + 4 ≤ length mem
+    pub long_fits : fetch_verdict mode rs mem pc ≡ passed → is_long (half_at mem pc) ≡ true → pc + 4 ≤ length mem
     unfolding fetch_verdict
     long_fits e l =
-        let b : (verdict mode (length mem) (fetch_access rs pc) ≡ Passed) × (cond (is_long (half_at mem pc)) (verdict mode (length mem) (fetch_access rs (sum pc 2))) Passed ≡ Passed) = both _ _ e in
-        let w : verdict mode (length mem) (fetch_access rs (sum pc 2)) ≡ Passed = rw l at b.1 in
+        let b : (verdict mode (length mem) (fetch_access rs pc) ≡ passed) × (cond (is_long (half_at mem pc)) (verdict mode (length mem) (fetch_access rs (sum pc 2))) (Ok tt) ≡ passed) = both _ _ e in
+        let w : verdict mode (length mem) (fetch_access rs (sum pc 2)) ≡ passed = rw l at b.1 in
         let f = passed_fits mode (length mem) (fetch_access rs pc) refl p q refl b.0 in
         let s = passed_fits mode (length mem) (fetch_access rs (sum pc 2)) refl (omega arith) q refl w in
         omega (arith, f, s)
@@ -103,14 +103,14 @@ step_fetched m mem e =
 
     go : (v w : Verdict) (b : Bool)
         → settle m mem fetch_op 11 12 v (cond b (settle m mem fetch_op 11 12 w (execute_word m mem 4 d)) (execute_word m mem 2 i))
-        ≡ settle m mem fetch_op 11 12 (and_then v (cond b w Passed)) (execute_word m mem (cond b 4 2) (cond b d i))
-    go (Refused at region) w b = refl
-    go (Absent at) w b = refl
-    go Passed w true = refl
-    go Passed w false = refl
+        ≡ settle m mem fetch_op 11 12 (and_then v (cond b w passed)) (execute_word m mem (cond b 4 2) (cond b d i))
+    go (Err (Refused at region)) w b = refl
+    go (Err (Absent at)) w b = refl
+    go (Ok tt) w true = refl
+    go (Ok tt) w false = refl
 
 module _ (m : Machine) (mem : List ℕ) (e : m.pc % 2 ≡ 0) where
-  pub passed_step : fetch_verdict m.hfi.mode m.hfi.regions mem m.pc ≡ Passed → step m mem ≡ execute_word m mem (size_at mem m.pc) (word_at mem m.pc)
+  pub passed_step : fetch_verdict m.hfi.mode m.hfi.regions mem m.pc ≡ passed → step m mem ≡ execute_word m mem (size_at mem m.pc) (word_at mem m.pc)
   unfolding settle
   passed_step v = step_fetched m mem e ∙ rw v refl
 

@@ -1,7 +1,7 @@
 -- The questions of a fetch as one verdict, and the word that it brings. No promise rests on this file: model's step is proved to be put together
 -- of these.
 -- Region and Verdict are declared in model/src/lib.rt, Decoded in instructions/src/instruction.rt. Assumes nothing.
-use Rattle.std.specs.Prelude.{ℕ, cond, List, length}
+use Rattle.std.specs.Prelude.{ℕ, cond, List, length, Ok, Err}
 use Rattle.instructions.specs.Decode.{decode_word}
 use Rattle.instructions.specs.declared.instruction.Decoded.{Decoded}
 use Rattle.compressed.specs.Expand.{expand_half, is_long}
@@ -9,14 +9,14 @@ use Rattle.model.specs.Machine.{sum}
 use Rattle.model.specs.Bytes.{value}
 use Rattle.model.specs.Access.{fetch_access, verdict}
 use Rattle.model.specs.declared.Region.{Region}
-use Rattle.model.specs.declared.Verdict.{Verdict}
-use Rattle.model.specs.declared.Verdict.TheVariants.{Passed, Refused, Absent}
+use Rattle.model.specs.Access.{Verdict, passed}
+use Rattle.model.specs.declared.stop.Denied.TheVariants.{Refused, Absent}
 
 -- the second verdict is asked where the first is passed
 abbrev pub and_then : Verdict → Verdict → Verdict
-and_then (Refused at region) v = Refused at region
-and_then (Absent at) v = Absent at
-and_then Passed v = v
+and_then (Err (Refused at region)) v = Refused at region
+and_then (Err (Absent at)) v = Absent at
+and_then (Ok tt) v = v
 
 abbrev pub half_at : List ℕ → ℕ → ℕ
 half_at mem pc = value mem pc 0 2
@@ -25,7 +25,7 @@ half_at mem pc = value mem pc 0 2
 unfoldable pub fetch_verdict : ℕ → List Region → List ℕ → ℕ → Verdict
 fetch_verdict mode rs mem pc =
     and_then (verdict mode (length mem) (fetch_access rs pc))
-    (cond (is_long (half_at mem pc)) (verdict mode (length mem) (fetch_access rs (sum pc 2))) Passed)
+    (cond (is_long (half_at mem pc)) (verdict mode (length mem) (fetch_access rs (sum pc 2))) passed)
 
 -- how long the word at pc is, and its instruction
 abbrev pub size_at : List ℕ → ℕ → ℕ

@@ -1,0 +1,128 @@
+// Why a step or a call ended, by name. specs/Stops.antt gives each the documents' number and address.
+ghost use Rattle.std.specs.Prelude.{◌≡◌};
+ghost use Rattle.model.specs.Stops.{op_number, refused_number, absent_number, rule_number, stop_number, stop_address};
+ghost use Rattle.model.specs.declared.stop.Stop.TheVariants.{Broken};
+
+// The fault record's ops but for 0, which is none.
+#[derive(Clone, Copy, PartialEq, Eq)]
+pub enum Op {
+    Load,
+    Store,
+    Fetch,
+}
+
+// Why an access does not pass: its first refused byte, by address and fault region; or, where all are granted, its first absent byte.
+#[derive(Clone, Copy, PartialEq, Eq)]
+pub enum Denied {
+    Refused(u64, u64),
+    Absent(u64),
+}
+
+// The rules of question 8.
+#[derive(Clone, Copy, PartialEq, Eq)]
+pub enum Rule {
+    Operand, // an operand's value, a missing selection, or an h-word outside HFI mode
+    WritableCode, // an enter that would lock regions in which some byte is writable and executable
+    AlreadyInside, // enter in HFI mode
+    NotInside, // exit outside it
+    Locked, // a region or handler instruction that HFI mode forbids
+}
+
+// What ends a step, a run or the call itself.
+#[derive(Clone, Copy, PartialEq, Eq)]
+pub enum Stop {
+    MemoryTooLong,
+    BudgetTooLarge,
+    NotWellFormed,
+    WritableCode,
+    OddPc,
+    AccessRefused(Op),
+    AccessAbsent(Op, u64), // with the first absent address
+    IllegalWord,
+    Broken(Rule),
+    OddTarget,
+    SystemCall,
+    Breakpoint,
+    LeftSandbox,
+    OutOfBudget,
+}
+
+impl From<Rule> for Stop {
+    ghost from_gives = { λ rule stop. stop ≡ Broken rule };
+
+    fn from(rule: Rule) -> Stop {
+        Stop::Broken(rule)
+    }
+}
+
+impl Op {
+    pub fn number(self) -> u64
+        ensures { result ≡ op_number self }
+    {
+        match self {
+            Op::Load => 1,
+            Op::Store => 2,
+            Op::Fetch => 3,
+        }
+    }
+
+    // Of a refused byte, and of an absent one.
+    fn refused(self) -> u64
+        ensures { result ≡ refused_number self }
+    {
+        if self == Op::Fetch { 11 } else { 16 }
+    }
+
+    fn absent(self) -> u64
+        ensures { result ≡ absent_number self }
+    {
+        if self == Op::Fetch { 12 } else { 17 }
+    }
+}
+
+impl Rule {
+    fn number(self) -> u64
+        ensures { result ≡ rule_number self }
+    {
+        match self {
+            Rule::Operand => 14,
+            Rule::WritableCode => 22,
+            Rule::AlreadyInside => 23,
+            Rule::NotInside => 24,
+            Rule::Locked => 25,
+        }
+    }
+}
+
+impl Stop {
+    pub fn number(self) -> u64
+        ensures { result ≡ stop_number self }
+    {
+        match self {
+            Stop::MemoryTooLong => 1,
+            Stop::BudgetTooLarge => 2,
+            Stop::NotWellFormed => 3,
+            Stop::WritableCode => 4,
+            Stop::OddPc => 10,
+            Stop::AccessRefused(op) => op.refused(),
+            Stop::AccessAbsent(op, _) => op.absent(),
+            Stop::IllegalWord => 13,
+            Stop::Broken(rule) => rule.number(),
+            Stop::OddTarget => 15,
+            Stop::SystemCall => 18,
+            Stop::Breakpoint => 19,
+            Stop::LeftSandbox => 20,
+            Stop::OutOfBudget => 21,
+        }
+    }
+
+    // The absent address; 0 with every other stop.
+    pub fn address(self) -> u64
+        ensures { result ≡ stop_address self }
+    {
+        match self {
+            Stop::AccessAbsent(_, at) => at,
+            _ => 0,
+        }
+    }
+}
