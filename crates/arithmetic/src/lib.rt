@@ -10,7 +10,6 @@ ghost use Rattle.model.specs.Arithmetic.{flag as flag_of, operate as operate_at,
 use instructions::kind::{
     BranchKind, ImmediateKind, LoadKind, RegisterKind, RegisterWordKind, ShiftKind, ShiftWordKind,
 };
-use std::num::{wrapping_add_u64, wrapping_sub_u64};
 use words::integer::{
     divide, divide_signed, multiply, multiply_high, multiply_high_mixed, multiply_high_signed,
     remainder, remainder_signed,
@@ -20,7 +19,7 @@ use words::{bits, shift_right_signed, sign_extend, signed_less};
 fn flag(t: bool) -> u64
     ensures { result ≡ flag_of t }
 {
-    if t { 1 } else { 0 }
+    t as u64
 }
 
 // An operation on 64 bits.
@@ -28,8 +27,8 @@ pub fn operate(k: RegisterKind, a: u64, b: u64) -> u64
     ensures { result ≡ operate_at 64 k a b }
 {
     match k {
-        RegisterKind::Add => wrapping_add_u64(a, b),
-        RegisterKind::Sub => wrapping_sub_u64(a, b),
+        RegisterKind::Add => a.wrapping_add(b),
+        RegisterKind::Sub => a.wrapping_sub(b),
         RegisterKind::Sll => a << (b % 64),
         RegisterKind::Slt => flag(signed_less(a, b)),
         RegisterKind::Sltu => flag(a < b),
@@ -54,7 +53,7 @@ pub fn operate_immediate(k: ImmediateKind, a: u64, imm: u64) -> u64
     ensures { result ≡ operate_at 64 (of_immediate k) a imm }
 {
     match k {
-        ImmediateKind::Addi => wrapping_add_u64(a, imm),
+        ImmediateKind::Addi => a.wrapping_add(imm),
         ImmediateKind::Slti => flag(signed_less(a, imm)),
         ImmediateKind::Sltiu => flag(a < imm),
         ImmediateKind::Xori => a ^ imm,
@@ -103,7 +102,7 @@ pub fn operate_word(k: RegisterWordKind, a: u64, b: u64) -> u64
 pub fn add_word(a: u64, imm: u64) -> u64
     ensures { result ≡ operate_word Add a imm }
 {
-    sign_extend(bits(wrapping_add_u64(a, imm), 0, 32), 32)
+    sign_extend(bits(a.wrapping_add(imm), 0, 32), 32)
 }
 
 // The operation that each shift of words is a form of.
@@ -121,7 +120,7 @@ pub fn of_shift_word(k: ShiftWordKind) -> RegisterWordKind
 pub fn jalr_target(a: u64, imm: u64) -> u64
     ensures { result ≡ jalr_target a imm }
 {
-    wrapping_add_u64(a, imm) / 2 * 2
+    a.wrapping_add(imm) / 2 * 2
 }
 
 // Is the branch taken?

@@ -1,1 +1,1 @@
-pub mod Completes
+pub mod Broken

@@ -1,4 +1,5 @@
-// Question 8, and the words of opcode 5b.
+// Question 8 (`rules`), and the words of opcode 5b (`word`).
 #![tactic(auto)]
 
+pub mod rules;
 pub mod word;

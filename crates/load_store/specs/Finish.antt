@@ -1,5 +1,5 @@
 -- What the verdict on a load or a store at a leads to. No promise rests on this file: each of these is proved to be model's
--- load or store. Machine and Verdict are declared in model/src/lib.rt, the kinds in instructions/src/kind.rt. Assumes nothing.
+-- load or store. Machine is declared in model/src/lib.rt, the kinds in instructions/src/kind.rt. Assumes nothing.
 use Rattle.std.specs.Prelude.{List, ℕ}
 use Rattle.instructions.specs.declared.kind.LoadKind.{LoadKind}
 use Rattle.instructions.specs.declared.kind.StoreKind.{StoreKind}

@@ -1,167 +1,158 @@
-// Loads and stores, ordinary and h-prefixed.
+// Loads and stores, ordinary and h-prefixed: questions 10 and 11, and what they do.
 #![tactic(auto)]
 
-ghost use Rattle.std.specs.Prelude.{◌≡◌, true, List, ℕ, ◌+◌, ◌<◌, ◌≤◌, length};
+ghost use Rattle.std.specs.Prelude.{◌≡◌, true, ◌+◌, ◌<◌, ◌≤◌, length};
 ghost use Rattle.words.specs.Word.{fits_signed};
-ghost use Rattle.model.specs.Regions.{read as read_bit, write as write_bit};
-ghost use Rattle.model.specs.Access.{load_width, store_width, data_access, explicit_access, offset};
-ghost use Rattle.model.specs.Step.{load as load_of, store as store_of};
-ghost use Rattle.model.specs.declared.Verdict.TheVariants.{Passed};
-ghost use Rattle.hart.specs.State.{regions_of, hart};
-ghost use Rattle.hart.specs.Effect.{effect_with};
+ghost use Rattle.instructions.specs.declared.instruction.Instruction.TheVariants.{Load, Store, HLoad, HStore};
+ghost use Rattle.model.specs.Access.{load_width, store_width, passed};
+ghost use Rattle.model.specs.Outcome.{answer_of, stepped_with};
+ghost use Rattle.model.specs.Step.{perform};
 ghost use Rattle.load_store.specs.Finish.{finish_load, finish_store};
 
 use arithmetic::extended;
-use hart::effect::{Effect, absent, completed, faulted, write_back};
-use hart::regions::{REGION_NUMBERS, region_at};
-use hart::state::Control;
+use hart::machine::{denied, register, write_back};
+use hart::regions::region_at;
 use instructions::kind::{LoadKind, StoreKind};
 use memory::access::{check_data, check_explicit, explicit_address};
 use memory::bytes::{read, write};
 use memory::width::{load_width, store_width};
-use model::{LOAD_OP, READ, STORE_OP, Verdict, WRITE};
+use model::Machine;
+use model::permission::Permission;
+use model::stop::{Denied, Op, Stop};
 
 // What the verdict on a load of kind `k` at `a` leads to.
 #[tactic(auto, unfolding(model::specs::Outcome::settle))]
 fn finish_load(
-    x: &mut [u64; 32],
-    pc: u64,
-    hfi: Control,
+    m: &mut Machine,
     mem: &[u8],
     next: u64,
-    v: Verdict,
+    verdict: Result<(), Denied>,
     k: LoadKind,
     rd: u64,
     a: u64,
-) -> Effect
-    requires { (rd < 32) × (v ≡ Passed → a + load_width k ≤ length mem.now) }
-    ensures { (numbers : List ℕ) → effect_with result x.new numbers mem.now ≡ finish_load (hart x.old pc hfi numbers) mem.now next v k rd a }
+) -> Result<(), Stop>
+    requires { (rd < 32) × (verdict ≡ passed → a + load_width k ≤ length mem.now) }
+    ensures { stepped_with (answer_of result m.new) mem.now ≡ finish_load m.old mem.now next verdict k rd a }
 {
-    match v {
-        Verdict::Passed => write_back(x, hfi, next, rd, extended(k, read(mem, a, load_width(k)))),
-        Verdict::Refused(at, region) => faulted(16, pc, hfi, LOAD_OP, at, region),
-        Verdict::Absent(at) => absent(17, pc, hfi, at),
+    if let Err(d) = verdict {
+        return Err(denied(m, Op::Load, d));
     }
+    write_back(m, next, rd, extended(k, read(mem, a, load_width(k))));
+    Ok(())
 }
 
-// An ordinary load at `a`.
 pub fn load(
-    x: &mut [u64; 32],
-    pc: u64,
-    hfi: Control,
-    rs: &[u64; REGION_NUMBERS],
+    m: &mut Machine,
     mem: &[u8],
     next: u64,
     k: LoadKind,
     rd: u64,
-    a: u64,
-) -> Effect
-    requires { rd < 32 }
-    ensures { effect_with result x.new rs.now mem.now ≡ load_of (hart x.old pc hfi rs.now) mem.now next (data_access (regions_of rs.now) read_bit a (load_width k)) k rd }
+    rs1: u64,
+    imm: u64,
+) -> Result<(), Stop>
+    requires { (rd < 32) × (rs1 < 32) }
+    ensures { stepped_with (answer_of result m.new) mem.now ≡ perform m.old mem.now next (Load k rd rs1 imm) }
 {
-    let v = check_data(hfi.mode, rs, READ, mem.len() as u64, a, load_width(k));
-    finish_load(x, pc, hfi, mem, next, v, k, rd, a)
+    let a = register(m, rs1).wrapping_add(imm);
+    let verdict = check_data(&m.hfi, Permission::Read, mem.len() as u64, a, load_width(k));
+    finish_load(m, mem, next, verdict, k, rd, a)
 }
 
-// An h-load of the explicit region `region`; `operand` is the value of rs1.
+// Of the explicit region `region`.
 pub fn hload(
-    x: &mut [u64; 32],
-    pc: u64,
-    hfi: Control,
-    rs: &[u64; REGION_NUMBERS],
+    m: &mut Machine,
     mem: &[u8],
     next: u64,
     k: LoadKind,
     region: u64,
     rd: u64,
-    operand: u64,
+    rs1: u64,
     imm: u64,
-) -> Effect
-    requires { (rd < 32) × (fits_signed 12 imm ≡ true) }
-    ensures { effect_with result x.new rs.now mem.now ≡ load_of (hart x.old pc hfi rs.now) mem.now next (explicit_access (regions_of rs.now) region read_bit (offset operand imm) (load_width k)) k rd }
+) -> Result<(), Stop>
+    requires { (rd < 32) × (rs1 < 32) × (fits_signed 12 imm ≡ true) }
+    ensures { stepped_with (answer_of result m.new) mem.now ≡ perform m.old mem.now next (HLoad k region rd rs1 imm) }
 {
-    let v = check_explicit(
-        hfi.mode,
-        rs,
+    let operand = register(m, rs1);
+    let len = mem.len() as u64;
+    let verdict = check_explicit(
+        &m.hfi,
         region,
-        READ,
-        mem.len() as u64,
+        Permission::Read,
+        len,
         operand,
         imm,
         load_width(k),
     );
-    let first = explicit_address(region_at(rs, region), operand, imm);
-    finish_load(x, pc, hfi, mem, next, v, k, rd, first)
+    let first = explicit_address(region_at(&m.hfi.regions, region), operand, imm);
+    finish_load(m, mem, next, verdict, k, rd, first)
 }
 
 // What the verdict on a store of `value` at `a` leads to.
 #[tactic(auto, unfolding(model::specs::Outcome::settle))]
 fn finish_store(
-    pc: u64,
-    hfi: Control,
+    m: &mut Machine,
     mem: &mut [u8],
     next: u64,
-    v: Verdict,
+    verdict: Result<(), Denied>,
     k: StoreKind,
     value: u64,
     a: u64,
-) -> Effect
-    requires { v ≡ Passed → a + store_width k ≤ length mem.old }
-    ensures { (x numbers : List ℕ) → effect_with result x numbers mem.new ≡ finish_store (hart x pc hfi numbers) mem.old next v k value a }
+) -> Result<(), Stop>
+    requires { verdict ≡ passed → a + store_width k ≤ length mem.old }
+    ensures { stepped_with (answer_of result m.new) mem.new ≡ finish_store m.old mem.old next verdict k value a }
 {
-    match v {
-        Verdict::Passed => {
-            write(mem, a, store_width(k), value);
-            completed(next, hfi)
-        }
-        Verdict::Refused(at, region) => faulted(16, pc, hfi, STORE_OP, at, region),
-        Verdict::Absent(at) => absent(17, pc, hfi, at),
+    if let Err(d) = verdict {
+        return Err(denied(m, Op::Store, d));
     }
+    write(mem, a, store_width(k), value);
+    m.pc = next;
+    Ok(())
 }
 
-// An ordinary store of `value` at `a`.
 pub fn store(
-    pc: u64,
-    hfi: Control,
-    rs: &[u64; REGION_NUMBERS],
+    m: &mut Machine,
     mem: &mut [u8],
     next: u64,
     k: StoreKind,
-    value: u64,
-    a: u64,
-) -> Effect
-    ensures { (x : List ℕ) → effect_with result x rs.now mem.new ≡ store_of (hart x pc hfi rs.now) mem.old next (data_access (regions_of rs.now) write_bit a (store_width k)) value }
+    rs1: u64,
+    rs2: u64,
+    imm: u64,
+) -> Result<(), Stop>
+    requires { (rs1 < 32) × (rs2 < 32) }
+    ensures { stepped_with (answer_of result m.new) mem.new ≡ perform m.old mem.old next (Store k rs1 rs2 imm) }
 {
-    let v = check_data(hfi.mode, rs, WRITE, mem.len() as u64, a, store_width(k));
-    finish_store(pc, hfi, mem, next, v, k, value, a)
+    let a = register(m, rs1).wrapping_add(imm);
+    let value = register(m, rs2);
+    let verdict = check_data(&m.hfi, Permission::Write, mem.len() as u64, a, store_width(k));
+    finish_store(m, mem, next, verdict, k, value, a)
 }
 
-// An h-store of `value` to the explicit region `region`; `operand` is the value of rs1.
+// To the explicit region `region`.
 pub fn hstore(
-    pc: u64,
-    hfi: Control,
-    rs: &[u64; REGION_NUMBERS],
+    m: &mut Machine,
     mem: &mut [u8],
     next: u64,
     k: StoreKind,
     region: u64,
-    value: u64,
-    operand: u64,
+    rs1: u64,
+    rs2: u64,
     imm: u64,
-) -> Effect
-    requires { fits_signed 12 imm ≡ true }
-    ensures { (x : List ℕ) → effect_with result x rs.now mem.new ≡ store_of (hart x pc hfi rs.now) mem.old next (explicit_access (regions_of rs.now) region write_bit (offset operand imm) (store_width k)) value }
+) -> Result<(), Stop>
+    requires { (rs1 < 32) × (rs2 < 32) × (fits_signed 12 imm ≡ true) }
+    ensures { stepped_with (answer_of result m.new) mem.new ≡ perform m.old mem.old next (HStore k region rs1 rs2 imm) }
 {
-    let v = check_explicit(
-        hfi.mode,
-        rs,
+    let operand = register(m, rs1);
+    let value = register(m, rs2);
+    let len = mem.len() as u64;
+    let verdict = check_explicit(
+        &m.hfi,
         region,
-        WRITE,
-        mem.len() as u64,
+        Permission::Write,
+        len,
         operand,
         imm,
         store_width(k),
     );
-    let first = explicit_address(region_at(rs, region), operand, imm);
-    finish_store(pc, hfi, mem, next, v, k, value, first)
+    let first = explicit_address(region_at(&m.hfi.regions, region), operand, imm);
+    finish_store(m, mem, next, verdict, k, value, first)
 }

@@ -39,7 +39,7 @@ fn took_turn(s: Scheduler, n: u64, r: Ran) -> Turned
     let mut t = s;
     t.slots[(n - 1) as usize] = d;
     t.place = following(s.count, n);
-    t.total = std::num::wrapping_add_u64(s.total, r.count);
+    t.total = s.total.wrapping_add(r.count);
     Turned {
         slot: n,
         stop: r.stop,

@@ -2,22 +2,21 @@
 // test is made at the edges of the regions; model/specs/WritableCode.antt says why that is enough.
 #![tactic(auto)]
 
-ghost use Rattle.std.specs.Prelude.{◌≡◌, true, ◌<◌};
+ghost use Rattle.std.specs.Prelude.{◌≡◌, true};
 ghost use Rattle.instructions.specs.HWords.{explicit_regions, among};
-ghost use Rattle.model.specs.Regions.{region_kind};
+ghost use Rattle.model.specs.Regions.{region_kind, permission_bit};
 ghost use Rattle.model.specs.WritableCode.{covers as is_covered, explicit_covers, writable_at, executable_at, both_at, keeps_rule, region_end, edges_of, some, writable_code, exposes_code};
-ghost use Rattle.hart.specs.State.{regions_of, state_with};
 
-use hart::regions::{REGION_NUMBERS, region_at};
-use hart::state::{Control, locked};
+use hart::regions::region_at;
+use hart::state::locked;
 use memory::access::grants;
 use memory::region::{explicit_rule, implicit_rule, mask_zeros, permits};
-use model::{CODE_REGIONS, DATA_REGIONS, EXECUTE, EXPLICIT_REGIONS, LAST_REGION, Region, WRITE};
+use model::permission::Permission;
+use model::{CODE_REGIONS, DATA_REGIONS, EXPLICIT_REGIONS, HfiState, LAST_REGION, REGIONS, Region};
 
 // Does the explicit region have the byte at `a`, with the permission `wanted`?
-fn covers(wanted: u64, a: u64, r: Region) -> bool
-    requires { wanted < 64 }
-    ensures { result ≡ is_covered wanted a r }
+fn covers(wanted: Permission, a: u64, r: Region) -> bool
+    ensures { result ≡ is_covered (permission_bit wanted) a r }
 {
     if explicit_rule(r) & permits(wanted, r) {
         (r.base <= a) & (a < r.base + r.bound)
@@ -27,54 +26,42 @@ fn covers(wanted: u64, a: u64, r: Region) -> bool
 }
 
 // Does one of the explicit regions `ns`?
-fn explicit_covers(rs: &[u64; REGION_NUMBERS], ns: &[u64], wanted: u64, a: u64) -> bool
-    requires { wanted < 64 }
-    ensures { result ≡ explicit_covers (regions_of rs.now) ns.now wanted a }
+fn explicit_covers(rs: &[Region; REGIONS], ns: &[u64], wanted: Permission, a: u64) -> bool
+    ensures { result ≡ explicit_covers rs.now ns.now (permission_bit wanted) a }
 {
-    let mut i = 0;
-    while i < ns.len() {
-        if covers(wanted, a, region_at(rs, ns[i])) {
+    for &n in ns {
+        if covers(wanted, a, region_at(rs, n)) {
             return true;
         }
-        i += 1;
     }
     false
 }
 
-fn writable_at(rs: &[u64; REGION_NUMBERS], a: u64) -> bool
-    ensures { result ≡ writable_at (regions_of rs.now) a }
+fn writable_at(rs: &[Region; REGIONS], a: u64) -> bool
+    ensures { result ≡ writable_at rs.now a }
 {
-    grants(rs, &DATA_REGIONS, WRITE, a) | explicit_covers(rs, &EXPLICIT_REGIONS, WRITE, a)
+    grants(rs, &DATA_REGIONS, Permission::Write, a)
+        | explicit_covers(rs, &EXPLICIT_REGIONS, Permission::Write, a)
 }
 
-fn executable_at(rs: &[u64; REGION_NUMBERS], a: u64) -> bool
-    ensures { result ≡ executable_at (regions_of rs.now) a }
+fn executable_at(rs: &[Region; REGIONS], a: u64) -> bool
+    ensures { result ≡ executable_at rs.now a }
 {
-    grants(rs, &CODE_REGIONS, EXECUTE, a)
+    grants(rs, &CODE_REGIONS, Permission::Execute, a)
 }
 
 // Is the byte at `a` both?
-fn both_at(rs: &[u64; REGION_NUMBERS], a: u64) -> bool
-    ensures { result ≡ both_at (regions_of rs.now) a }
+fn both_at(rs: &[Region; REGIONS], a: u64) -> bool
+    ensures { result ≡ both_at rs.now a }
 {
-    if executable_at(rs, a) {
-        writable_at(rs, a)
-    } else {
-        false
-    }
+    executable_at(rs, a) && writable_at(rs, a)
 }
 
 // Is region `n` explicit?
 fn is_explicit(n: u64) -> bool
     ensures { result ≡ among n explicit_regions }
 {
-    match n {
-        1 => true,
-        4 => true,
-        5 => true,
-        6 => true,
-        _ => false,
-    }
+    EXPLICIT_REGIONS.contains(&n)
 }
 
 // Does the region keep the rule of number `n`'s kind?
@@ -101,8 +88,8 @@ fn region_end(n: u64, r: Region) -> u64
 }
 
 // Is a byte at an edge of region `n` both?
-fn edge_is_both(rs: &[u64; REGION_NUMBERS], n: u64, r: Region) -> bool
-    ensures { result ≡ some (both_at (regions_of rs.now)) (edges_of (region_kind n) r) }
+fn edge_is_both(rs: &[Region; REGIONS], n: u64, r: Region) -> bool
+    ensures { result ≡ some (both_at rs.now) (edges_of (region_kind n) r) }
 {
     if keeps_rule(n, r) {
         both_at(rs, r.base) | both_at(rs, region_end(n, r))
@@ -112,13 +99,11 @@ fn edge_is_both(rs: &[u64; REGION_NUMBERS], n: u64, r: Region) -> bool
 }
 
 // Is some byte both?
-pub fn writable_code(rs: &[u64; REGION_NUMBERS]) -> bool
-    ensures { result ≡ writable_code (regions_of rs.now) }
+pub fn writable_code(rs: &[Region; REGIONS]) -> bool
+    ensures { result ≡ writable_code rs.now }
 {
-    let mut i: u64 = 0;
-    while i < LAST_REGION {
-        i += 1;
-        if edge_is_both(rs, i, region_at(rs, i)) {
+    for i in 0..LAST_REGION {
+        if edge_is_both(rs, i + 1, region_at(rs, i + 1)) {
             return true;
         }
     }
@@ -127,8 +112,8 @@ pub fn writable_code(rs: &[u64; REGION_NUMBERS]) -> bool
 
 // Is it a locked state with such a byte?
 #[tactic(auto, unfolding(model::specs::WritableCode::exposes_code))]
-pub fn exposes_code(h: Control, rs: &[u64; REGION_NUMBERS]) -> bool
-    ensures { result ≡ exposes_code (state_with h (regions_of rs.now)) }
+pub fn exposes_code(h: &HfiState) -> bool
+    ensures { result ≡ exposes_code h.now }
 {
-    if locked(h) { writable_code(rs) } else { false }
+    locked(h) && writable_code(&h.regions)
 }

@@ -6,4 +6,4 @@ use Rattle.execute.proofs.execute.Goals as goal
 
 pub returns-in-System : goal.returns-in-System
 unfolding execute_instruction allowed hfi_stop
-returns-in-System c = c.system.ensures _ _ _ _ ∙ ap (execute_instruction _ _ _) (sym c.in-System.is)
+returns-in-System c = c.system.ensures _ _ ∙ ap (execute_instruction _ _ _) (sym c.in-System.is)

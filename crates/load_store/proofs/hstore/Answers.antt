@@ -1,9 +1,8 @@
 use Rattle.std.proofs.Common.{length, ◌∙◌, pos, ◌+ℤ◌, rules}
-use Rattle.hart.specs.State.{regions_of}
-use Rattle.model.specs.Step.{store}
+use Rattle.model.specs.Machine.{region}
+use Rattle.model.specs.Step.{perform, store}
 use Rattle.model.specs.Access.{explicit_access, offset, store_width}
 use Rattle.model.specs.Regions.{write}
-use Rattle.model.specs.Machine.{region}
 use Rattle.words.proofs.Residues.{word_lt}
 use Rattle.memory.proofs.Widths.{store_is_width}
 use Rattle.memory.proofs.Fits.{passed_fits}
@@ -13,13 +12,16 @@ use Rattle.load_store.proofs.hstore.Goals as goal
 pub finish_store-requires : goal.finish_store-requires
 finish_store-requires c =
     let a = c.args in
-    let access = explicit_access (regions_of a.rs.now) a.region write (offset a.operand a.imm) (store_width a.k) in
+    let rs = a.m.now.hfi.regions in
+    let v = c.register-operand.result in
+    let access = explicit_access rs a.region write (offset v a.imm) (store_width a.k) in
     rw (c.explicit_address-first.ensures, c.region_at.ensures)
-    (passed_fits a.hfi.mode (length a.mem.now) access (store_is_width a.k)
-    (word_lt 64 (pos (region (regions_of a.rs.now) a.region).base +ℤ offset a.operand a.imm)) (search rules)
-    (c.check_explicit-v.ensures ∙ rw c.store_width.ensures))
+    (passed_fits a.m.now.hfi.mode (length a.mem.now) access (store_is_width a.k)
+    (word_lt 64 (pos (region rs a.region).base +ℤ offset v a.imm)) (search rules)
+    (c.check_explicit-verdict.ensures ∙ rw c.store_width.ensures))
 
 pub returns : goal.returns
-unfolding store
-returns c = λ x.
-    c.finish_store.ensures x c.args.rs.now ∙ rw (c.check_explicit-v.ensures, c.store_width.ensures, c.explicit_address-first.ensures, c.region_at.ensures)
+unfolding perform store
+returns c =
+    c.finish_store.ensures
+    ∙ rw (c.check_explicit-verdict.ensures, c.store_width.ensures, c.explicit_address-first.ensures, c.region_at.ensures, c.register-operand.ensures, c.register-value.ensures)
