@@ -1,10 +1,8 @@
 -- The step by one verdict on its fetch; and what a passed one says of memory.
 -- Assumes nothing.
-use Rattle.std.proofs.Common.{◌≡◌, ℕ, ◌+◌, ◌%◌, ◌^◌, ◌<◌, ◌≤◌, Bool, true, false, cond, List, length, refl, ◌∙◌, arith, eq-eqb}
+use Rattle.std.proofs.Common.{◌≡◌, ℕ, ◌+◌, ◌%◌, ◌^◌, ◌<◌, ◌≤◌, Bool, true, false, cond, List, length, refl, ◌∙◌, arith, eq-eqb, Option, Some}
 use Rattle.instructions.specs.Decode.{decode_word}
 use Rattle.instructions.specs.Encode.{in_range}
-use Rattle.instructions.specs.declared.instruction.Decoded.{Decoded}
-use Rattle.instructions.specs.declared.instruction.Decoded.TheVariants.{Legal}
 use Rattle.instructions.specs.declared.instruction.Instruction.{Instruction}
 use Rattle.instructions.proofs.RoundTrip.{decoded_range}
 use Rattle.compressed.specs.Expand.{expand_half, is_long}
@@ -78,11 +76,11 @@ module _ (mode : ℕ) (rs : List Region) (mem : List ℕ) (pc : ℕ) where
 
 -- ---- the word
 
-pub word_range : (mem : List ℕ) (pc : ℕ) (i : Instruction) → word_at mem pc ≡ Legal i → in_range i ≡ true
+pub word_range : (mem : List ℕ) (pc : ℕ) (i : Instruction) → word_at mem pc ≡ Some i → in_range i ≡ true
 unfolding word_at
 word_range mem pc i e = go (is_long (half_at mem pc)) e
   where
-    go : (b : Bool) → cond b (decode_word (value mem pc 0 4)) (expand_half (half_at mem pc)) ≡ Legal i → in_range i ≡ true
+    go : (b : Bool) → cond b (decode_word (value mem pc 0 4)) (expand_half (half_at mem pc)) ≡ Some i → in_range i ≡ true
     go true e = decoded_range _ i e
     go false e = expanded_range _ i e
 
@@ -95,10 +93,10 @@ step_fetched m mem e =
     rw (eq-eqb (m.pc % 2) 0 e)
     (go (verdict m.hfi.mode (length mem) (fetch_access m.hfi.regions m.pc)) (verdict m.hfi.mode (length mem) (fetch_access m.hfi.regions (sum m.pc 2))) (is_long (half_at mem m.pc)))
   where
-    d : Decoded
+    d : Option Instruction
     d = decode_word (value mem m.pc 0 4)
 
-    i : Decoded
+    i : Option Instruction
     i = expand_half (half_at mem m.pc)
 
     go : (v w : Verdict) (b : Bool)

@@ -1,9 +1,9 @@
 -- The questions of a fetch as one verdict, and the word that it brings. No promise rests on this file: model's step is proved to be put together
 -- of these.
--- Region and Verdict are declared in model/src/lib.rt, Decoded in instructions/src/instruction.rt. Assumes nothing.
-use Rattle.std.specs.Prelude.{ℕ, cond, List, length}
+-- Region and Verdict are declared in model/src/lib.rt, Instruction in instructions/src/instruction.rt. Assumes nothing.
+use Rattle.std.specs.Prelude.{ℕ, cond, List, length, Option}
+use Rattle.instructions.specs.declared.instruction.Instruction.{Instruction}
 use Rattle.instructions.specs.Decode.{decode_word}
-use Rattle.instructions.specs.declared.instruction.Decoded.{Decoded}
 use Rattle.compressed.specs.Expand.{expand_half, is_long}
 use Rattle.model.specs.Machine.{sum}
 use Rattle.model.specs.Bytes.{value}
@@ -31,5 +31,5 @@ fetch_verdict mode rs mem pc =
 abbrev pub size_at : List ℕ → ℕ → ℕ
 size_at mem pc = cond (is_long (half_at mem pc)) 4 2
 
-unfoldable pub word_at : List ℕ → ℕ → Decoded
+unfoldable pub word_at : List ℕ → ℕ → Option Instruction
 word_at mem pc = cond (is_long (half_at mem pc)) (decode_word (value mem pc 0 4)) (expand_half (half_at mem pc))
