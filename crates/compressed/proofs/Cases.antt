@@ -7,18 +7,16 @@
 use mathlib.Core.Path.{◌≡◌, refl}
 use mathlib.Core.List.{List, [], ◌∷◌, map}
 use Prim.Native.Nat.{ℕ}
+use Rattle.std.proofs.Common.{Option, Some, None}
 use Rattle.words.specs.Word.{sext}
+use Rattle.instructions.specs.declared.instruction.Instruction.{Instruction}
 use Rattle.instructions.specs.Encode.{encode_word}
-use Rattle.instructions.specs.declared.instruction.Decoded.{Decoded}
-use Rattle.instructions.specs.declared.instruction.Decoded.TheVariants.{Legal, Illegal}
-use Rattle.instructions.specs.declared.instruction.Encoded.{Encoded}
-use Rattle.instructions.specs.declared.instruction.Encoded.TheVariants.{Word, OutOfRange}
 use Rattle.compressed.specs.Expand.{expand_half}
 
 -- the long word of an answer; none where it is illegal
-abbrev pub long : Decoded → Encoded
-long (Legal i) = encode_word i
-long Illegal = OutOfRange
+abbrev pub long : Option Instruction → Option ℕ
+long (Some i) = encode_word i
+long None = None
 
 abbrev pub rows : List (ℕ × ℕ)
 rows =
@@ -194,11 +192,11 @@ edges =
     ∷ (0xe07e, 0x01f13023)  -- c.sdsp x31, 0(x2): sd x31, 0(x2)
     ∷ []
 
-pub edges_held : map (λ (r : ℕ × ℕ). long (expand_half r.0)) edges ≡ map (λ (r : ℕ × ℕ). Word r.1) edges
+pub edges_held : map (λ (r : ℕ × ℕ). long (expand_half r.0)) edges ≡ map (λ (r : ℕ × ℕ). Some r.1) edges
 unfolding expand_half encode_word sext
 edges_held = refl
 
-pub long_words : map (λ (r : ℕ × ℕ). long (expand_half r.0)) rows ≡ map (λ (r : ℕ × ℕ). Word r.1) rows
+pub long_words : map (λ (r : ℕ × ℕ). long (expand_half r.0)) rows ≡ map (λ (r : ℕ × ℕ). Some r.1) rows
 unfolding expand_half encode_word sext
 long_words = refl
 
@@ -216,7 +214,7 @@ hints =
     ∷ (0x8481, 0x4004d493)  -- c.srai64 x9: srai x9, x9, 0
     ∷ []
 
-pub hints_legal : map (λ (r : ℕ × ℕ). long (expand_half r.0)) hints ≡ map (λ (r : ℕ × ℕ). Word r.1) hints
+pub hints_legal : map (λ (r : ℕ × ℕ). long (expand_half r.0)) hints ≡ map (λ (r : ℕ × ℕ). Some r.1) hints
 unfolding expand_half encode_word sext
 hints_legal = refl
 
@@ -244,6 +242,6 @@ illegal =
     ∷ 0xffff  -- .2byte 0xffff
     ∷ []
 
-pub none_expanded : map expand_half illegal ≡ map (λ (h : ℕ). Illegal) illegal
+pub none_expanded : map expand_half illegal ≡ map (λ (h : ℕ). None) illegal
 unfolding expand_half
 none_expanded = refl

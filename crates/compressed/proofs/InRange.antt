@@ -9,21 +9,20 @@ use native.Mathlib.Omega.{arith}
 use lib.Dec.{ltb, lit<, lit≤}
 use lib.Pow.{pow_pos, pow_mono}
 use borrow.Author.Tests.{lt-ltb, eq-eqb}
+use Rattle.std.proofs.Common.{Some}
+use Rattle.std.proofs.lemmas.Option.{none-some, same_Some}
 use Rattle.words.specs.Word.{field, sext, fits_signed, width}
 use Rattle.words.proofs.Fields.{field_lt, Fit, Are, lay_lt, lay_read}
 use Rattle.words.proofs.Extend.{sext_field, low_fits, sext_wider}
 use Rattle.instructions.specs.Encode.{two, multiple, in_range, encode_fields, encode_word}
 use Rattle.instructions.specs.Fields.{word_of}
 use Rattle.instructions.specs.declared.instruction.Instruction.{Instruction}
-use Rattle.instructions.specs.declared.instruction.Decoded.TheVariants.{Legal}
-use Rattle.instructions.specs.declared.instruction.Encoded.TheVariants.{Word}
 use Rattle.instructions.specs.Decode.{decode_word}
 use Rattle.instructions.proofs.RoundTrip.{decode_of_encode}
 use Rattle.instructions.proofs.Tests.{and_of, two_of}
 use Rattle.compressed.specs.Immediates.{rd, rs2, short, Scattered, pieces_at, pieces, zero_extended, sign_extended, addi4spn, word_offset, double_offset, six_bits, addi16sp, upper, jump_offset, branch_offset, word_from_stack, double_from_stack, word_to_stack, double_to_stack}
 use Rattle.compressed.specs.Table.{Line, takes, table}
 use Rattle.compressed.specs.Expand.{expand_by, expand_half}
-use Rattle.compressed.proofs.Answers.{not_legal, legal_same}
 
 -- ---- registers and immediates, of whatever places
 
@@ -193,24 +192,24 @@ lines_ranged = (
   ),
 )
 
-ranged : (ls : List Line) → AllRanged ls → (h : ℕ) (i : Instruction) → expand_by ls h ≡ Legal i → in_range i ≡ true
-ranged [] a h i e = absurd (not_legal e)
+ranged : (ls : List Line) → AllRanged ls → (h : ℕ) (i : Instruction) → expand_by ls h ≡ Some i → in_range i ≡ true
+ranged [] a h i e = absurd (none-some i e)
 ranged (l ∷ ls) a h i e = go (takes h l) (ranged ls a.1 h i) e
   where
-    go : (b : Bool) → (expand_by ls h ≡ Legal i → in_range i ≡ true) → cond b (Legal (l.expansion h)) (expand_by ls h) ≡ Legal i → in_range i ≡ true
-    go true later q = ap in_range (sym (legal_same q)) ∙ a.0 h
+    go : (b : Bool) → (expand_by ls h ≡ Some i → in_range i ≡ true) → cond b (Some (l.expansion h)) (expand_by ls h) ≡ Some i → in_range i ≡ true
+    go true later q = ap in_range (sym (same_Some _ i q)) ∙ a.0 h
     go false later q = later q
 
 -- each field of an expansion is in its range
-pub expanded_range : (h : ℕ) (i : Instruction) → expand_half h ≡ Legal i → in_range i ≡ true
+pub expanded_range : (h : ℕ) (i : Instruction) → expand_half h ≡ Some i → in_range i ≡ true
 unfolding expand_half
 expanded_range h i e = ranged table lines_ranged h i e
 
 -- so it has a long word
-pub expanded_word : (h : ℕ) (i : Instruction) → expand_half h ≡ Legal i → encode_word i ≡ Word (word_of (encode_fields i))
+pub expanded_word : (h : ℕ) (i : Instruction) → expand_half h ≡ Some i → encode_word i ≡ Some (word_of (encode_fields i))
 unfolding encode_word
 expanded_word h i e = rw (expanded_range h i e) refl
 
 -- which decodes to it
-pub expanded_decodes : (h : ℕ) (i : Instruction) → expand_half h ≡ Legal i → decode_word (word_of (encode_fields i)) ≡ Legal i
+pub expanded_decodes : (h : ℕ) (i : Instruction) → expand_half h ≡ Some i → decode_word (word_of (encode_fields i)) ≡ Some i
 expanded_decodes h i e = decode_of_encode i _ (expanded_word h i e)

@@ -1,4 +1,3 @@
-pub mod Answers
 pub mod InRange
 pub mod OneLine
 pub mod LowBits

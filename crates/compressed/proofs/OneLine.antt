@@ -6,13 +6,13 @@ use mathlib.Core.List.{List, [], ◌∷◌}
 use Prim.Native.Nat.{ℕ, zero, suc}
 use lib.Dec.{eqb}
 use borrow.Author.Tests.{eqb-true, eqb-false, eq-eqb, not-true}
+use Rattle.std.proofs.Common.{Some}
+use Rattle.std.proofs.lemmas.Option.{none-some, same_Some}
 use Rattle.words.specs.Word.{field}
 use Rattle.instructions.specs.declared.instruction.Instruction.{Instruction}
-use Rattle.instructions.specs.declared.instruction.Decoded.TheVariants.{Legal}
 use Rattle.instructions.proofs.Tests.{and_both, and_of}
 use Rattle.compressed.specs.Table.{Bits, matches, matches_one, Line, takes, table}
 use Rattle.compressed.specs.Expand.{expand_by, expand_half}
-use Rattle.compressed.proofs.Answers.{not_legal, legal_same}
 
 -- ---- a test that tells two lines apart by what they ask
 
@@ -167,36 +167,36 @@ pub record StandsBy (ls : List Line) (h : ℕ) (i : Instruction) : Type 0 where
 abbrev pub Stands : ℕ → Instruction → Type 0
 Stands h i = StandsBy table h i
 
-legal_by : (ls : List Line) (h : ℕ) (i : Instruction) → expand_by ls h ≡ Legal i → StandsBy ls h i
-legal_by [] h i e = absurd (not_legal e)
+legal_by : (ls : List Line) (h : ℕ) (i : Instruction) → expand_by ls h ≡ Some i → StandsBy ls h i
+legal_by [] h i e = absurd (none-some i e)
 legal_by (l ∷ ls) h i e = go (takes h l) refl e (legal_by ls h i)
   where
-    go : (b : Bool) → takes h l ≡ b → cond b (Legal (l.expansion h)) (expand_by ls h) ≡ Legal i
-        → (expand_by ls h ≡ Legal i → StandsBy ls h i) → StandsBy (l ∷ ls) h i
-    go true t q later = record { place = 0; by = l; there = refl; taken = t; expands = legal_same q }
+    go : (b : Bool) → takes h l ≡ b → cond b (Some (l.expansion h)) (expand_by ls h) ≡ Some i
+        → (expand_by ls h ≡ Some i → StandsBy ls h i) → StandsBy (l ∷ ls) h i
+    go true t q later = record { place = 0; by = l; there = refl; taken = t; expands = same_Some (l.expansion h) i q }
     go false t q later =
         let s = later q in
         record { place = suc s.place; by = s.by; there = s.there; taken = s.taken; expands = s.expands }
 
-by_legal : (ls : List Line) (h n : ℕ) (l : Line) → all_apart ls ≡ true → At ls n l → takes h l ≡ true → expand_by ls h ≡ Legal (l.expansion h)
+by_legal : (ls : List Line) (h n : ℕ) (l : Line) → all_apart ls ≡ true → At ls n l → takes h l ≡ true → expand_by ls h ≡ Some (l.expansion h)
 by_legal [] h n l e a t = absurd a
 by_legal (m ∷ ms) h zero l e a t = rw (sym a) (rw (ap (takes h) a ∙ t) refl)
 by_legal (m ∷ ms) h (suc n) l e a t =
     go (takes h m) (λ s. first_other h m ms n l e a s t) (by_legal ms h n l (and_both (each (apart m) ms) (all_apart ms) e).1 a t)
   where
-    go : (b : Bool) → (b ≡ true → ⊥) → expand_by ms h ≡ Legal (l.expansion h)
-        → cond b (Legal (m.expansion h)) (expand_by ms h) ≡ Legal (l.expansion h)
+    go : (b : Bool) → (b ≡ true → ⊥) → expand_by ms h ≡ Some (l.expansion h)
+        → cond b (Some (m.expansion h)) (expand_by ms h) ≡ Some (l.expansion h)
     go true s q = absurd (s refl)
     go false s q = q
 
-pub legal_stands : (h : ℕ) (i : Instruction) → expand_half h ≡ Legal i → Stands h i
+pub legal_stands : (h : ℕ) (i : Instruction) → expand_half h ≡ Some i → Stands h i
 unfolding expand_half
 legal_stands h i e = legal_by table h i e
 
-pub stands_legal : (h : ℕ) (i : Instruction) → Stands h i → expand_half h ≡ Legal i
+pub stands_legal : (h : ℕ) (i : Instruction) → Stands h i → expand_half h ≡ Some i
 unfolding expand_half
-stands_legal h i s = by_legal table h s.place s.by table_apart s.there s.taken ∙ ap Legal s.expands
+stands_legal h i s = by_legal table h s.place s.by table_apart s.there s.taken ∙ ap Some s.expands
 
 -- each legal half-word has one expansion
 pub stands_once : (h : ℕ) (i j : Instruction) → Stands h i → Stands h j → i ≡ j
-stands_once h i j s t = legal_same (sym (stands_legal h i s) ∙ stands_legal h j t)
+stands_once h i j s t = same_Some i j (sym (stands_legal h i s) ∙ stands_legal h j t)

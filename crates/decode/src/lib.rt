@@ -12,7 +12,7 @@ pub mod immediate;
 use crate::immediate::{b_immediate, i_bits, i_immediate, j_immediate, s_immediate, u_immediate};
 use instructions::fields::Fields;
 use instructions::hfi_table::fields_named;
-use instructions::instruction::{Decoded, Instruction};
+use instructions::instruction::Instruction;
 use instructions::opcode;
 use words::{bits, put};
 
@@ -30,18 +30,18 @@ fn split(w: u32) -> Fields
     }
 }
 
-fn decode_jalr(f: Fields) -> Decoded
+fn decode_jalr(f: Fields) -> Option<Instruction>
     requires { InWord f }
     ensures { result ≡ decode_jalr f }
 {
     if f.funct3 == 0 {
-        Decoded::Legal(Instruction::Jalr(f.rd, f.rs1, i_immediate(f)))
+        Some(Instruction::Jalr(f.rd, f.rs1, i_immediate(f)))
     } else {
-        Decoded::Illegal
+        None
     }
 }
 
-fn decode_shift(f: Fields) -> Decoded
+fn decode_shift(f: Fields) -> Option<Instruction>
     requires { InWord f }
     ensures { result ≡ decode_shift f }
 {
@@ -50,35 +50,31 @@ fn decode_shift(f: Fields) -> Decoded
     listing::shift(code, f.rd, f.rs1, bits(all, 0, 6))
 }
 
-fn decode_immediate(f: Fields) -> Decoded
+fn decode_immediate(f: Fields) -> Option<Instruction>
     requires { InWord f }
     ensures { result ≡ decode_immediate f }
 {
-    let d = listing::immediate(f.funct3, f.rd, f.rs1, i_immediate(f));
-    match d {
-        Decoded::Legal(_) => d,
-        Decoded::Illegal => decode_shift(f),
-    }
+    listing::immediate(f.funct3, f.rd, f.rs1, i_immediate(f)).or_else(|| decode_shift(f))
 }
 
-fn decode_immediate_word(f: Fields) -> Decoded
+fn decode_immediate_word(f: Fields) -> Option<Instruction>
     requires { InWord f }
     ensures { result ≡ decode_immediate_word f }
 {
     if f.funct3 == 0 {
-        Decoded::Legal(Instruction::Addiw(f.rd, f.rs1, i_immediate(f)))
+        Some(Instruction::Addiw(f.rd, f.rs1, i_immediate(f)))
     } else {
         listing::shift_word(put(f.funct3, f.funct7, 3), f.rd, f.rs1, f.rs2)
     }
 }
 
-fn decode_fence(f: Fields) -> Decoded
+fn decode_fence(f: Fields) -> Option<Instruction>
     requires { InWord f }
     ensures { result ≡ decode_fence f }
 {
     if f.funct3 == 0 {
         let all = i_bits(f);
-        Decoded::Legal(Instruction::Fence(
+        Some(Instruction::Fence(
             bits(all, 8, 4),
             bits(all, 4, 4),
             bits(all, 0, 4),
@@ -86,18 +82,18 @@ fn decode_fence(f: Fields) -> Decoded
             f.rd,
         ))
     } else {
-        Decoded::Illegal
+        None
     }
 }
 
-fn decode_system(f: Fields) -> Decoded
+fn decode_system(f: Fields) -> Option<Instruction>
     requires { InWord f }
     ensures { result ≡ decode_system f }
 {
     if (f.rd == 0) & ((f.funct3 == 0) & (f.rs1 == 0)) {
         listing::system(i_bits(f))
     } else {
-        Decoded::Illegal
+        None
     }
 }
 
@@ -114,7 +110,7 @@ fn chosen_region(rs1: u64, other: u64) -> u64
     }
 }
 
-fn decode_h_load(f: Fields) -> Decoded
+fn decode_h_load(f: Fields) -> Option<Instruction>
     requires { InWord f }
     ensures { result ≡ decode_h_load f }
 {
@@ -124,7 +120,7 @@ fn decode_h_load(f: Fields) -> Decoded
     listing::load(true, f.funct3, region, rd, rs1, i_immediate(f))
 }
 
-fn decode_h_store(f: Fields) -> Decoded
+fn decode_h_store(f: Fields) -> Option<Instruction>
     requires { InWord f }
     ensures { result ≡ decode_h_store f }
 {
@@ -134,17 +130,17 @@ fn decode_h_store(f: Fields) -> Decoded
     listing::store(true, f.funct3, region, rs1, rs2, s_immediate(f))
 }
 
-fn decode_hfi(f: Fields) -> Decoded
+fn decode_hfi(f: Fields) -> Option<Instruction>
     ensures { result ≡ decode_hfi f }
 {
     if (f.funct3 == 0) & fields_named(f.funct7, f.rd, f.rs1, f.rs2) {
         listing::hfi(f.funct7, f.rd, f.rs1, f.rs2)
     } else {
-        Decoded::Illegal
+        None
     }
 }
 
-fn decode_fields(f: Fields) -> Decoded
+fn decode_fields(f: Fields) -> Option<Instruction>
     requires { InWord f }
     ensures { result ≡ decode_fields f }
 {
@@ -152,7 +148,7 @@ fn decode_fields(f: Fields) -> Decoded
     match opcode {
         opcode::LUI => listing::upper(opcode::LUI, f.rd, u_immediate(f)),
         opcode::AUIPC => listing::upper(opcode::AUIPC, f.rd, u_immediate(f)),
-        opcode::JAL => Decoded::Legal(Instruction::Jal(f.rd, j_immediate(f))),
+        opcode::JAL => Some(Instruction::Jal(f.rd, j_immediate(f))),
         opcode::JALR => decode_jalr(f),
         opcode::BRANCH => listing::branch(f.funct3, f.rs1, f.rs2, b_immediate(f)),
         opcode::LOAD => listing::load(false, f.funct3, 0, f.rd, f.rs1, i_immediate(f)),
@@ -166,12 +162,12 @@ fn decode_fields(f: Fields) -> Decoded
         opcode::H_LOAD => decode_h_load(f),
         opcode::H_STORE => decode_h_store(f),
         opcode::HFI => decode_hfi(f),
-        _ => Decoded::Illegal,
+        _ => None,
     }
 }
 
 // The instruction of any word.
-pub fn decode(w: u32) -> Decoded
+pub fn decode(w: u32) -> Option<Instruction>
     ensures { result ≡ decode_word w }
 {
     decode_fields(split(w))

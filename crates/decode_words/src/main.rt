@@ -8,24 +8,24 @@ ghost use Rattle.instructions.specs.Answers.{decode_number};
 use columns::{column, hexadecimal_at, print, print_decimal, print_hexadecimal, read_file};
 use decode::decode;
 use encode::encode;
-use instructions::instruction::{Decoded, Encoded};
+use instructions::instruction::Instruction;
 use std::io;
 use std::rt::Files;
 
 // Document 01's number.
-fn number_of(d: Decoded) -> u64
+fn number_of(d: Option<Instruction>) -> u64
     ensures { result ≡ decode_number d }
 {
     match d {
-        Decoded::Legal(_) => 0,
-        Decoded::Illegal => 13,
+        Some(_) => 0,
+        None => 13,
     }
 }
 
-fn print_encoded(rt: &impl Print, e: Encoded) -> io::Result<()> {
+fn print_encoded(rt: &impl Print, e: Option<u32>) -> io::Result<()> {
     match e {
-        Encoded::Word(w) => print_hexadecimal(rt, w as u64, 8),
-        Encoded::OutOfRange => print(rt, b"out of range"),
+        Some(w) => print_hexadecimal(rt, w as u64, 8),
+        None => print(rt, b"out of range"),
     }
 }
 
@@ -35,7 +35,7 @@ fn print_word(rt: &impl Print, w: u32) -> io::Result<()> {
     print_hexadecimal(rt, w as u64, 8)?;
     print(rt, b" ")?;
     print_decimal(rt, number_of(d))?;
-    if let Decoded::Legal(i) = d {
+    if let Some(i) = d {
         print(rt, b" ")?;
         print_encoded(rt, encode(i))?;
     }

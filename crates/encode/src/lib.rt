@@ -13,7 +13,7 @@ use crate::format::{
 use crate::h_word::{h_load_fields, h_store_fields, h_word_in_range};
 use instructions::fields::Fields;
 use instructions::hfi_table::fields_named;
-use instructions::instruction::{Encoded, Instruction};
+use instructions::instruction::Instruction;
 use instructions::opcode::{
     BRANCH, HFI, JAL, JALR, LOAD, OP, OP_32, OP_IMM, OP_IMM_32, STORE, SYSTEM,
 };
@@ -91,12 +91,12 @@ fn encode_fields(i: Instruction) -> Fields
 }
 
 // The word of any instruction.
-pub fn encode(i: Instruction) -> Encoded
+pub fn encode(i: Instruction) -> Option<u32>
     ensures { result ≡ encode_word i }
 {
     if in_range(i) {
-        Encoded::Word(join(encode_fields(i)))
+        Some(join(encode_fields(i)))
     } else {
-        Encoded::OutOfRange
+        None
     }
 }

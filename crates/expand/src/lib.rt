@@ -18,7 +18,7 @@ use crate::legal::{
     addiw, branch, ebreak, jal, jalr, load, lui, register, register_word, shift, store,
     with_immediate,
 };
-use instructions::instruction::Decoded;
+use instructions::instruction::Instruction;
 use instructions::kind::{
     BranchKind, ImmediateKind, LoadKind, RegisterKind, RegisterWordKind, ShiftKind, StoreKind,
 };
@@ -33,7 +33,7 @@ fn short(h: u64, at: u64) -> u64
 }
 
 #[tactic(auto, unfolding(compressed::specs::Expand::expand_half))]
-fn quadrant_0(h: u64) -> Decoded
+fn quadrant_0(h: u64) -> Option<Instruction>
     requires { (h < 2 ^ 16) × (field h 0 2 ≡ 0) }
     ensures { result ≡ expand_half h }
 {
@@ -43,7 +43,7 @@ fn quadrant_0(h: u64) -> Decoded
     match funct3 {
         0 => {
             if bits(h, 5, 8) == 0 {
-                return Decoded::Illegal;
+                return None;
             }
             with_immediate(ImmediateKind::Addi, rs2, 2, addi4spn_immediate(h))
         }
@@ -51,18 +51,18 @@ fn quadrant_0(h: u64) -> Decoded
         3 => load(LoadKind::Ld, rs2, rs1, double_offset(h)),
         6 => store(StoreKind::Sw, rs1, rs2, word_offset(h)),
         7 => store(StoreKind::Sd, rs1, rs2, double_offset(h)),
-        _ => Decoded::Illegal,
+        _ => None,
     }
 }
 
 // C.ADDI16SP and C.LUI.
 #[tactic(auto, unfolding(compressed::specs::Expand::expand_half))]
-fn upper(h: u64) -> Decoded
+fn upper(h: u64) -> Option<Instruction>
     requires { (h < 2 ^ 16) × (field h 0 2 ≡ 1) × (field h 13 3 ≡ 3) }
     ensures { result ≡ expand_half h }
 {
     if (bits(h, 12, 1) == 0) & (bits(h, 2, 5) == 0) {
-        return Decoded::Illegal;
+        return None;
     }
     let rd = bits(h, 7, 5);
     if rd == 2 {
@@ -73,7 +73,7 @@ fn upper(h: u64) -> Decoded
 
 // The C.xx between two of x8 to x15.
 #[tactic(auto, unfolding(compressed::specs::Expand::expand_half))]
-fn between_registers(h: u64) -> Decoded
+fn between_registers(h: u64) -> Option<Instruction>
     requires { (h < 2 ^ 16) × (field h 0 2 ≡ 1) × (field h 13 3 ≡ 4) × (field h 10 2 ≡ 3) }
     ensures { result ≡ expand_half h }
 {
@@ -87,13 +87,13 @@ fn between_registers(h: u64) -> Decoded
         3 => register(RegisterKind::And, rd, rd, rs2),
         4 => register_word(RegisterWordKind::Subw, rd, rd, rs2),
         5 => register_word(RegisterWordKind::Addw, rd, rd, rs2),
-        _ => Decoded::Illegal,
+        _ => None,
     }
 }
 
 // What has the destination as its first source.
 #[tactic(auto, unfolding(compressed::specs::Expand::expand_half))]
-fn arithmetic(h: u64) -> Decoded
+fn arithmetic(h: u64) -> Option<Instruction>
     requires { (h < 2 ^ 16) × (field h 0 2 ≡ 1) × (field h 13 3 ≡ 4) }
     ensures { result ≡ expand_half h }
 {
@@ -108,7 +108,7 @@ fn arithmetic(h: u64) -> Decoded
 }
 
 #[tactic(auto, unfolding(compressed::specs::Expand::expand_half))]
-fn quadrant_1(h: u64) -> Decoded
+fn quadrant_1(h: u64) -> Option<Instruction>
     requires { (h < 2 ^ 16) × (field h 0 2 ≡ 1) }
     ensures { result ≡ expand_half h }
 {
@@ -119,7 +119,7 @@ fn quadrant_1(h: u64) -> Decoded
         0 => with_immediate(ImmediateKind::Addi, rd, rd, immediate(h)),
         1 => {
             if rd == 0 {
-                return Decoded::Illegal;
+                return None;
             }
             addiw(rd, rd, immediate(h))
         }
@@ -134,7 +134,7 @@ fn quadrant_1(h: u64) -> Decoded
 
 // C.JR, C.MV, C.EBREAK, C.JALR and C.ADD.
 #[tactic(auto, unfolding(compressed::specs::Expand::expand_half))]
-fn jump_or_add(h: u64) -> Decoded
+fn jump_or_add(h: u64) -> Option<Instruction>
     requires { (h < 2 ^ 16) × (field h 0 2 ≡ 2) × (field h 13 3 ≡ 4) }
     ensures { result ≡ expand_half h }
 {
@@ -156,11 +156,11 @@ fn jump_or_add(h: u64) -> Decoded
     if second {
         return ebreak();
     }
-    Decoded::Illegal
+    None
 }
 
 #[tactic(auto, unfolding(compressed::specs::Expand::expand_half))]
-fn quadrant_2(h: u64) -> Decoded
+fn quadrant_2(h: u64) -> Option<Instruction>
     requires { (h < 2 ^ 16) × (field h 0 2 ≡ 2) }
     ensures { result ≡ expand_half h }
 {
@@ -171,26 +171,26 @@ fn quadrant_2(h: u64) -> Decoded
         0 => shift(ShiftKind::Slli, rd, rd, amount(h)),
         2 => {
             if rd == 0 {
-                return Decoded::Illegal;
+                return None;
             }
             load(LoadKind::Lw, rd, 2, word_from_stack(h))
         }
         3 => {
             if rd == 0 {
-                return Decoded::Illegal;
+                return None;
             }
             load(LoadKind::Ld, rd, 2, double_from_stack(h))
         }
         4 => jump_or_add(h),
         6 => store(StoreKind::Sw, 2, rs2, word_to_stack(h)),
         7 => store(StoreKind::Sd, 2, rs2, double_to_stack(h)),
-        _ => Decoded::Illegal,
+        _ => None,
     }
 }
 
 // The instruction of any half-word.
 #[tactic(auto, unfolding(compressed::specs::Expand::expand_half))]
-pub fn expand(h: u16) -> Decoded
+pub fn expand(h: u16) -> Option<Instruction>
     ensures { result ≡ expand_half h }
 {
     let x = h as u64;
@@ -199,7 +199,7 @@ pub fn expand(h: u16) -> Decoded
         0 => quadrant_0(x),
         1 => quadrant_1(x),
         2 => quadrant_2(x),
-        _ => Decoded::Illegal,
+        _ => None,
     }
 }
 

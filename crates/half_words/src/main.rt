@@ -5,19 +5,18 @@
 use columns::{print, print_hexadecimal};
 use encode::encode;
 use expand::expand;
-use instructions::instruction::{Decoded, Encoded};
 use std::io;
 
-fn print_encoded(rt: &impl Print, e: Encoded) -> io::Result<()> {
+fn print_encoded(rt: &impl Print, e: Option<u32>) -> io::Result<()> {
     match e {
-        Encoded::Word(w) => print_hexadecimal(rt, w as u64, 8),
-        Encoded::OutOfRange => print(rt, b"out of range"),
+        Some(w) => print_hexadecimal(rt, w as u64, 8),
+        None => print(rt, b"out of range"),
     }
 }
 
 // The half-word and its long word; nothing of an illegal one.
 fn print_half_word(rt: &impl Print, h: u16) -> io::Result<()> {
-    if let Decoded::Legal(i) = expand(h) {
+    if let Some(i) = expand(h) {
         print_hexadecimal(rt, h as u64, 4)?;
         print(rt, b" ")?;
         print_encoded(rt, encode(i))?;

@@ -7,6 +7,7 @@
 use mathlib.Core.Path.{◌≡◌, refl}
 use mathlib.Core.List.{List, [], ◌∷◌, map}
 use Prim.Native.Nat.{ℕ, zero, suc, ◌+◌, ◌-◌, ◌*◌, ◌/◌, ◌%◌, ◌^◌}
+use Rattle.std.proofs.Common.{Option, Some, None}
 use Rattle.words.specs.Word.{sext}
 use Rattle.instructions.specs.Decode.{decode_word}
 use Rattle.instructions.specs.Encode.{encode_word}
@@ -23,9 +24,6 @@ use Rattle.instructions.specs.declared.kind.SystemKind.TheVariants.{Ecall, Ebrea
 use Rattle.instructions.specs.declared.kind.HfiKind.TheVariants.{Enter, EnterJump, Exit, SelectRegion, SetBase, GetBase, SetBound, GetBound, SetPermission, GetPermission, SetHandler, GetHandler, ResetRegions}
 use Rattle.instructions.specs.declared.instruction.Instruction.{Instruction}
 use Rattle.instructions.specs.declared.instruction.Instruction.TheVariants.{Upper, Jal, Jalr, Branch, Load, Store, Immediate, Shift, Addiw, ShiftWord, Register, RegisterWord, Fence, System, HLoad, HStore, Hfi}
-use Rattle.instructions.specs.declared.instruction.Decoded.{Decoded}
-use Rattle.instructions.specs.declared.instruction.Decoded.TheVariants.{Legal, Illegal}
-use Rattle.instructions.specs.declared.instruction.Encoded.TheVariants.{Word, OutOfRange}
 
 -- ---- words and what they are decoded to
 
@@ -211,12 +209,12 @@ rows =
     ∷ []
 
 -- each word is decoded to the instruction beside it
-pub decoded : map (λ r. decode_word r.0) rows ≡ map (λ r. Legal r.1) rows
+pub decoded : map (λ r. decode_word r.0) rows ≡ map (λ r. Some r.1) rows
 unfolding decode_word sext
 decoded = refl
 
 -- each instruction is encoded to the word beside it
-pub encoded : map (λ r. encode_word r.1) rows ≡ map (λ r. Word r.0) rows
+pub encoded : map (λ r. encode_word r.1) rows ≡ map (λ r. Some r.0) rows
 unfolding encode_word sext
 encoded = refl
 
@@ -283,15 +281,15 @@ illegal =
     ∷ 0x1940005b  -- reset regions: rs2
     ∷ []
 
-pub none_decoded : map decode_word illegal ≡ map (λ w. Illegal) illegal
+pub none_decoded : map decode_word illegal ≡ map (λ w. None) illegal
 unfolding decode_word sext
 none_decoded = refl
 
 -- ---- every funct7 and funct3 of the opcodes of register operations, as one number: these are legal, and no others
 
-abbrev kept : Decoded → ℕ → List ℕ → List ℕ
-kept (Legal i) n ns = n ∷ ns
-kept Illegal n ns = ns
+abbrev kept : Option Instruction → ℕ → List ℕ → List ℕ
+kept (Some i) n ns = n ∷ ns
+kept None n ns = ns
 
 abbrev legal_codes : ℕ → ℕ → List ℕ → List ℕ
 legal_codes opcode zero ns = ns
@@ -338,6 +336,6 @@ refused =
     ∷ Hfi GetBase 1 1 0  -- the row does not name rs1
     ∷ []
 
-pub none_encoded : map encode_word refused ≡ map (λ i. OutOfRange) refused
+pub none_encoded : map encode_word refused ≡ map (λ i. None) refused
 unfolding encode_word sext
 none_encoded = refl

@@ -6,6 +6,7 @@ use Prim.Native.Nat.{ℕ, ◌+◌, ◌*◌, ◌^◌, ◌<◌}
 use native.Mathlib.Omega.{arith}
 use lib.Dec.{eqb, lit<}
 use borrow.Author.Tests.{ltb-true, eq-eqb}
+use Rattle.std.proofs.Common.{Option, Some, None}
 use Rattle.words.specs.Word.{field}
 use Rattle.words.proofs.Fields.{field_lt, field_put, field_join}
 use Rattle.instructions.specs.InWord.{InWord}
@@ -28,8 +29,6 @@ use Rattle.instructions.specs.declared.kind.SystemKind.{SystemKind}
 use Rattle.instructions.specs.declared.kind.HfiKind.{HfiKind}
 use Rattle.instructions.specs.declared.instruction.Instruction.{Instruction}
 use Rattle.instructions.specs.declared.instruction.Instruction.TheVariants.{Upper, Jal, Jalr, Branch, Load, Store, Immediate, Shift, Addiw, ShiftWord, Register, RegisterWord, Fence, System, HLoad, HStore, Hfi}
-use Rattle.instructions.specs.declared.instruction.Decoded.{Decoded}
-use Rattle.instructions.specs.declared.instruction.Decoded.TheVariants.{Legal, Illegal}
 use Rattle.instructions.proofs.Tests.{and_of, one_all, two_all, amount_range, fence_range, h_load_range, h_store_range}
 use Rattle.instructions.proofs.Tables.{found_with, upper_code_lem, branch_code_lem, load_code_lem, store_code_lem, immediate_code_lem, shift_code_lem, shift_word_code_lem, register_code_lem, register_word_code_lem, system_code_lem, hfi_code_lem, shift_apart, shift_word_apart}
 use Rattle.instructions.proofs.Named.{named_row}
@@ -88,64 +87,64 @@ fence_parts fm pred succ rs1 rd p q r =
     rw (i_bits_whole MISC_MEM 0 rd rs1 ((fm * 2 ^ 4 + pred) * 2 ^ 4 + succ) l) (omega arith)
 
 -- what is encoded is decoded to the same
-pub decode_encode : (i : Instruction) → in_range i ≡ true → decode_fields (encode_fields i) ≡ Legal i
+pub decode_encode : (i : Instruction) → in_range i ≡ true → decode_fields (encode_fields i) ≡ Some i
 decode_encode (Upper UpperKind.Lui rd x) h =
-    ap (λ (y : ℕ). Legal (Upper UpperKind.Lui rd y)) (u_read LUI rd x (one_all rd _ h).1)
+    ap (λ (y : ℕ). Some (Upper UpperKind.Lui rd y)) (u_read LUI rd x (one_all rd _ h).1)
 decode_encode (Upper UpperKind.Auipc rd x) h =
-    ap (λ (y : ℕ). Legal (Upper UpperKind.Auipc rd y)) (u_read AUIPC rd x (one_all rd _ h).1)
-decode_encode (Jal rd x) h = ap (λ (y : ℕ). Legal (Jal rd y)) (j_read JAL rd x (one_all rd _ h).1)
-decode_encode (Jalr rd rs1 x) h = ap (λ (y : ℕ). Legal (Jalr rd rs1 y)) (i_read JALR 0 rd rs1 x (two_all rd rs1 _ h).2)
+    ap (λ (y : ℕ). Some (Upper UpperKind.Auipc rd y)) (u_read AUIPC rd x (one_all rd _ h).1)
+decode_encode (Jal rd x) h = ap (λ (y : ℕ). Some (Jal rd y)) (j_read JAL rd x (one_all rd _ h).1)
+decode_encode (Jalr rd rs1 x) h = ap (λ (y : ℕ). Some (Jalr rd rs1 y)) (i_read JALR 0 rd rs1 x (two_all rd rs1 _ h).2)
 decode_encode (Branch k rs1 rs2 x) h =
-    found_with (branch_code_lem k) (λ (j : BranchKind) (y : ℕ). Legal (Branch j rs1 rs2 y)) Illegal
+    found_with (branch_code_lem k) (λ (j : BranchKind) (y : ℕ). Some (Branch j rs1 rs2 y)) None
     (b_read BRANCH (branch_code k) rs1 rs2 x (two_all rs1 rs2 _ h).2)
 decode_encode (Load k rd rs1 x) h =
-    found_with (load_code_lem k) (λ (j : LoadKind) (y : ℕ). Legal (Load j rd rs1 y)) Illegal
+    found_with (load_code_lem k) (λ (j : LoadKind) (y : ℕ). Some (Load j rd rs1 y)) None
     (i_read LOAD (load_code k) rd rs1 x (two_all rd rs1 _ h).2)
 decode_encode (Store k rs1 rs2 x) h =
-    found_with (store_code_lem k) (λ (j : StoreKind) (y : ℕ). Legal (Store j rs1 rs2 y)) Illegal
+    found_with (store_code_lem k) (λ (j : StoreKind) (y : ℕ). Some (Store j rs1 rs2 y)) None
     (s_read STORE (store_code k) rs1 rs2 x (two_all rs1 rs2 _ h).2)
 decode_encode (Immediate k rd rs1 x) h =
-    ap (λ (d : Decoded). otherwise d (decode_shift (encode_fields (Immediate k rd rs1 x))))
-    (found_with (immediate_code_lem k) (λ (j : ImmediateKind) (y : ℕ). Legal (Immediate j rd rs1 y)) Illegal
+    ap (λ (d : Option Instruction). otherwise d (decode_shift (encode_fields (Immediate k rd rs1 x))))
+    (found_with (immediate_code_lem k) (λ (j : ImmediateKind) (y : ℕ). Some (Immediate j rd rs1 y)) None
     (i_read OP_IMM (immediate_code k) rd rs1 x (two_all rd rs1 _ h).2))
 decode_encode (Shift k rd rs1 amount) h =
     let f = shift_fields k rd rs1 amount in
     let p = shift_parts k rd rs1 amount (amount_range k rd rs1 amount h) in
     shift_apart k rd rs1 (i_immediate f) (decode_shift f)
     ∙ ap (λ (n : ℕ). shift_at n rd rs1 (field (i_bits f) 0 6)) (field_join (shift_code k) 3 6 (shift_code_lem k).small p.0 refl)
-    ∙ found_with (shift_code_lem k) (λ (j : ShiftKind) (y : ℕ). Legal (Shift j rd rs1 y)) Illegal p.1
-decode_encode (Addiw rd rs1 x) h = ap (λ (y : ℕ). Legal (Addiw rd rs1 y)) (i_read OP_IMM_32 0 rd rs1 x (two_all rd rs1 _ h).2)
+    ∙ found_with (shift_code_lem k) (λ (j : ShiftKind) (y : ℕ). Some (Shift j rd rs1 y)) None p.1
+decode_encode (Addiw rd rs1 x) h = ap (λ (y : ℕ). Some (Addiw rd rs1 y)) (i_read OP_IMM_32 0 rd rs1 x (two_all rd rs1 _ h).2)
 decode_encode (ShiftWord k rd rs1 amount) h =
     rw (shift_word_apart k)
     (ap (λ (n : ℕ). shift_word_at n rd rs1 amount) (r_read OP_IMM_32 (shift_word_code k) rd rs1 amount (shift_word_code_lem k).small)
-    ∙ (shift_word_code_lem k).found Decoded (λ (j : ShiftWordKind). Legal (ShiftWord j rd rs1 amount)) Illegal)
+    ∙ (shift_word_code_lem k).found (Option Instruction) (λ (j : ShiftWordKind). Some (ShiftWord j rd rs1 amount)) None)
 decode_encode (Register k rd rs1 rs2) h =
     ap (λ (n : ℕ). register_at n rd rs1 rs2) (r_read OP (register_code k) rd rs1 rs2 (register_code_lem k).small)
-    ∙ (register_code_lem k).found Decoded (λ (j : RegisterKind). Legal (Register j rd rs1 rs2)) Illegal
+    ∙ (register_code_lem k).found (Option Instruction) (λ (j : RegisterKind). Some (Register j rd rs1 rs2)) None
 decode_encode (RegisterWord k rd rs1 rs2) h =
     ap (λ (n : ℕ). register_word_at n rd rs1 rs2) (r_read OP_32 (register_word_code k) rd rs1 rs2 (register_word_code_lem k).small)
-    ∙ (register_word_code_lem k).found Decoded (λ (j : RegisterWordKind). Legal (RegisterWord j rd rs1 rs2)) Illegal
+    ∙ (register_word_code_lem k).found (Option Instruction) (λ (j : RegisterWordKind). Some (RegisterWord j rd rs1 rs2)) None
 decode_encode (Fence fm pred succ rs1 rd) h =
     let t = fence_range fm pred succ rs1 rd h in
     let p = fence_parts fm pred succ rs1 rd t.0 t.1 t.2 in
     let b = i_bits (fence_fields fm pred succ rs1 rd) in
-    ap₂ (λ (x y : ℕ). Legal (Fence x y (field b 0 4) rs1 rd)) p.0 p.1
-    ∙ ap (λ (z : ℕ). Legal (Fence fm pred z rs1 rd)) p.2
+    ap₂ (λ (x y : ℕ). Some (Fence x y (field b 0 4) rs1 rd)) p.0 p.1
+    ∙ ap (λ (z : ℕ). Some (Fence fm pred z rs1 rd)) p.2
 decode_encode (System k) h =
     ap system_at (i_bits_whole SYSTEM 0 0 0 (system_code k) (system_code_lem k).small)
-    ∙ (system_code_lem k).found Decoded (λ (j : SystemKind). Legal (System j)) Illegal
+    ∙ (system_code_lem k).found (Option Instruction) (λ (j : SystemKind). Some (System j)) None
 decode_encode (HLoad k region rd rs1 x) h =
     let t = h_load_range k region rd rs1 x h in
     let a = rs1_field region rs1 in
     let d = other_field region rd in
-    found_with (load_code_lem k) (λ (j : LoadKind) (y : ℕ). Legal (HLoad j (chosen_region a d) (low_register d) (low_register a) y)) Illegal
+    found_with (load_code_lem k) (λ (j : LoadKind) (y : ℕ). Some (HLoad j (chosen_region a d) (low_register d) (low_register a) y)) None
     (i_read H_LOAD (load_code k) d a x t.3)
     ∙ rw (region_read region rs1 rd t.0 t.2 t.1, rs1_read region rs1 rd t.2, other_read region rs1 rd t.1) refl
 decode_encode (HStore k region rs1 rs2 x) h =
     let t = h_store_range k region rs1 rs2 x h in
     let a = rs1_field region rs1 in
     let b = other_field region rs2 in
-    found_with (store_code_lem k) (λ (j : StoreKind) (y : ℕ). Legal (HStore j (chosen_region a b) (low_register a) (low_register b) y)) Illegal
+    found_with (store_code_lem k) (λ (j : StoreKind) (y : ℕ). Some (HStore j (chosen_region a b) (low_register a) (low_register b) y)) None
     (s_read H_STORE (store_code k) a b x t.3)
     ∙ rw (region_read region rs1 rs2 t.0 t.1 t.2, rs1_read region rs1 rs2 t.1, other_read region rs1 rs2 t.2) refl
 decode_encode (Hfi k rd rs1 rs2) h =
@@ -154,4 +153,4 @@ decode_encode (Hfi k rd rs1 rs2) h =
     let p = field_put 3 7 {q = 0} (hfi_code_lem k).small (lit< tt) in
     ap (λ (n : ℕ). provided (eqb f.funct3 0 && named_at n rd rs1 rs2) (hfi_at n rd rs1 rs2)) p.0
     ∙ ap (λ (b : Bool). provided b (hfi_at (hfi_code k) rd rs1 rs2)) (and_of (eq-eqb _ 0 p.1) (named_row k rd rs1 rs2 ∙ n))
-    ∙ (hfi_code_lem k).found Decoded (λ (j : HfiKind). Legal (Hfi j rd rs1 rs2)) Illegal
+    ∙ (hfi_code_lem k).found (Option Instruction) (λ (j : HfiKind). Some (Hfi j rd rs1 rs2)) None

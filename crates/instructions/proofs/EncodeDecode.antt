@@ -6,6 +6,7 @@ use mathlib.Core.List.{List}
 use Prim.Native.Nat.{ℕ}
 use lib.Dec.{eqb, ltb}
 use borrow.Author.Tests.{lt-ltb, eqb-true}
+use Rattle.std.proofs.Common.{Option, Some, None}
 use Rattle.words.specs.Word.{field}
 use Rattle.words.proofs.Fields.{field_lt, field_cut, field_put, field_join}
 use Rattle.instructions.specs.InWord.{InWord}
@@ -28,8 +29,6 @@ use Rattle.instructions.specs.declared.kind.RegisterWordKind.{RegisterWordKind}
 use Rattle.instructions.specs.declared.kind.HfiKind.{HfiKind}
 use Rattle.instructions.specs.declared.instruction.Instruction.{Instruction}
 use Rattle.instructions.specs.declared.instruction.Instruction.TheVariants.{Jalr, Branch, Load, Store, Immediate, Shift, ShiftWord, Register, RegisterWord, Fence, System, HLoad, HStore, Hfi}
-use Rattle.instructions.specs.declared.instruction.Decoded.{Decoded}
-use Rattle.instructions.specs.declared.instruction.Decoded.TheVariants.{Legal, Illegal}
 use Rattle.instructions.proofs.Tests.{and_both, and_of, two_of}
 use Rattle.instructions.proofs.Tables.{◌⊗◌, cond_ind, lookup_ind, code_ind}
 use Rattle.instructions.proofs.Named.{named_row}
@@ -37,23 +36,23 @@ use Rattle.instructions.proofs.Formats.{i_bits_lt, r_back, i_bits_back, i_back, 
 
 -- ---- what fields are decoded to has these fields, and is in range
 
-abbrev pub Back : Fields → Decoded → Type 0
-Back f (Legal i) = (encode_fields i ≡ f) × (in_range i ≡ true)
-Back f Illegal = Unit {0}
+abbrev pub Back : Fields → Option Instruction → Type 0
+Back f (Some i) = (encode_fields i ≡ f) × (in_range i ≡ true)
+Back f None = Unit {0}
 
 -- a test that is asked first
-back_provided : (f : Fields) (b : Bool) (d : Decoded) → (b ≡ true → Back f d) → Back f (provided b d)
+back_provided : (f : Fields) (b : Bool) (d : Option Instruction) → (b ≡ true → Back f d) → Back f (provided b d)
 back_provided f b d h = cond_ind (Back f) b h tt
 
 -- a kind that is found under n
 back_code : (f : Fields) {K : Type 0} (code : K → ℕ) (make : K → Instruction) (kinds : List K) (n : ℕ)
-    → ((k : K) → n ≡ code k → Back f (Legal (make k))) → Back f (of_code code (λ (k : K). Legal (make k)) Illegal kinds n)
-back_code f {K} code make kinds n h = code_ind (Back f) code (λ (k : K). Legal (make k)) Illegal kinds n tt h
+    → ((k : K) → n ≡ code k → Back f (Some (make k))) → Back f (of_code code (λ (k : K). Some (make k)) None kinds n)
+back_code f {K} code make kinds n h = code_ind (Back f) code (λ (k : K). Some (make k)) None kinds n tt h
 
 module _ (f : Fields) (r : InWord f) where
   back_jalr : f.opcode ≡ JALR → Back f (decode_jalr f)
   back_jalr o =
-      back_provided f (eqb f.funct3 0) (Legal (Jalr f.rd f.rs1 (i_immediate f))) (λ t. i_back f r o (eqb-true f.funct3 0 t))
+      back_provided f (eqb f.funct3 0) (Some (Jalr f.rd f.rs1 (i_immediate f))) (λ t. i_back f r o (eqb-true f.funct3 0 t))
 
   back_branch : f.opcode ≡ BRANCH → Back f (branch_at f.funct3 f.rs1 f.rs2 (b_immediate f))
   back_branch o =
@@ -83,8 +82,8 @@ module _ (f : Fields) (r : InWord f) where
 
   back_immediate : f.opcode ≡ OP_IMM → Back f (decode_immediate f)
   back_immediate o =
-      code_ind (λ (d : Decoded). Back f (otherwise d (decode_shift f))) immediate_code
-      (λ (k : ImmediateKind). Legal (Immediate k f.rd f.rs1 (i_immediate f))) Illegal immediate_kinds f.funct3
+      code_ind (λ (d : Option Instruction). Back f (otherwise d (decode_shift f))) immediate_code
+      (λ (k : ImmediateKind). Some (Immediate k f.rd f.rs1 (i_immediate f))) None immediate_kinds f.funct3
       (back_shift o) (λ k e. i_back f r o e)
 
   back_immediate_word : f.opcode ≡ OP_IMM_32 → Back f (decode_immediate_word f)
@@ -107,7 +106,7 @@ module _ (f : Fields) (r : InWord f) where
   back_fence o =
       let b = i_bits f in
       let nibble : (k : ℕ) → ltb (field b k 4) 16 ≡ true = λ k. lt-ltb _ 16 (field_lt b k 4) in
-      back_provided f (eqb f.funct3 0) (Legal (Fence (field b 8 4) (field b 4 4) (field b 0 4) f.rs1 f.rd))
+      back_provided f (eqb f.funct3 0) (Some (Fence (field b 8 4) (field b 4 4) (field b 0 4) f.rs1 f.rd))
       (λ t. (
         i_bits_back f r o (eqb-true f.funct3 0 t) (field_join b 4 8 (i_bits_lt f r) (field_cut b 4 4 4) refl),
         two_of r.rd r.rs1 (and_of (nibble 8) (and_of (nibble 4) (nibble 0))),
@@ -154,7 +153,7 @@ module _ (f : Fields) (r : InWord f) where
   -- every group
   pub back : Back f (decode_fields f)
   back =
-      lookup_ind (Back f) Illegal (groups f) f.opcode tt
+      lookup_ind (Back f) None (groups f) f.opcode tt
       ((λ o. u_back f r o) ⊗ (λ o. u_back f r o) ⊗ (λ o. j_back f r o) ⊗ back_jalr ⊗ back_branch ⊗ back_load ⊗ back_store
       ⊗ back_immediate ⊗ back_immediate_word ⊗ back_register ⊗ back_register_word ⊗ back_fence ⊗ back_system ⊗ back_h_load
       ⊗ back_h_store ⊗ back_hfi ⊗ tt)

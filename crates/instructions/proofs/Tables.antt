@@ -7,7 +7,9 @@ use Prim.Native.Nat.{ℕ, ◌^◌, ◌<◌, ◌≤◌}
 use native.Mathlib.Omega.{arith}
 use lib.Dec.{eqb, ltb, lit<}
 use borrow.Author.Tests.{eqb-true, ltb-true, ne_eqb}
+use Rattle.std.proofs.Common.{Option}
 use Rattle.words.specs.Word.{field}
+use Rattle.instructions.specs.declared.instruction.Instruction.{Instruction}
 use Rattle.instructions.specs.Table.{lookup, of_code}
 use Rattle.instructions.specs.Kinds.{upper_code, upper_kinds, branch_code, branch_kinds, load_code, load_kinds, store_code, store_kinds, immediate_code, immediate_kinds, shift_code, shift_kinds, shift_word_code, shift_word_kinds, register_code, register_kinds, register_word_code, register_word_kinds, system_code, system_kinds, hfi_code, hfi_kinds}
 use Rattle.instructions.specs.Decode.{immediate_at, otherwise}
@@ -22,7 +24,6 @@ use Rattle.instructions.specs.declared.kind.RegisterKind.{RegisterKind}
 use Rattle.instructions.specs.declared.kind.RegisterWordKind.{RegisterWordKind}
 use Rattle.instructions.specs.declared.kind.SystemKind.{SystemKind}
 use Rattle.instructions.specs.declared.kind.HfiKind.{HfiKind}
-use Rattle.instructions.specs.declared.instruction.Decoded.{Decoded}
 use Rattle.instructions.proofs.Tests.{and_both}
 
 -- ---- what is found
@@ -206,7 +207,7 @@ hfi_code_lem HfiKind.ResetRegions = record { small = lit< tt; found = λ X make 
 -- ---- codes that share an opcode
 
 -- the funct3 of a shift is that of no other immediate operation
-pub shift_apart : (k : ShiftKind) (rd rs1 imm : ℕ) (d : Decoded) → otherwise (immediate_at (field (shift_code k) 0 3) rd rs1 imm) d ≡ d
+pub shift_apart : (k : ShiftKind) (rd rs1 imm : ℕ) (d : Option Instruction) → otherwise (immediate_at (field (shift_code k) 0 3) rd rs1 imm) d ≡ d
 shift_apart ShiftKind.Slli rd rs1 imm d = refl
 shift_apart ShiftKind.Srli rd rs1 imm d = refl
 shift_apart ShiftKind.Srai rd rs1 imm d = refl

@@ -1,7 +1,7 @@
 -- The word of an instruction. "The range is what the word's field can express; branch and jump offsets are even."
--- Fields is declared in src/fields.rt, ShiftKind in src/kind.rt, Instruction and Encoded in src/instruction.rt.
+-- Fields is declared in src/fields.rt, ShiftKind in src/kind.rt, Instruction in src/instruction.rt.
 -- Assumes nothing.
-use Rattle.std.specs.Prelude.{Bool, true, cond, ◌&&◌, ℕ, ◌+◌, ◌*◌, ◌^◌, eqb, ltb}
+use Rattle.std.specs.Prelude.{Bool, true, cond, ◌&&◌, ℕ, ◌+◌, ◌*◌, ◌^◌, eqb, ltb, Option, Some, None}
 use Rattle.words.specs.Word.{field, fits_signed}
 use Rattle.instructions.specs.Fields.{word_of}
 use Rattle.instructions.specs.Opcodes.{JAL, JALR, BRANCH, LOAD, STORE, OP_IMM, OP_IMM_32, OP, OP_32, MISC_MEM, SYSTEM, H_LOAD, H_STORE, HFI}
@@ -11,8 +11,6 @@ use Rattle.instructions.specs.declared.fields.Fields.{Fields}
 use Rattle.instructions.specs.declared.kind.ShiftKind.{ShiftKind}
 use Rattle.instructions.specs.declared.instruction.Instruction.{Instruction}
 use Rattle.instructions.specs.declared.instruction.Instruction.TheVariants.{Upper, Jal, Jalr, Branch, Load, Store, Immediate, Shift, Addiw, ShiftWord, Register, RegisterWord, Fence, System, HLoad, HStore, Hfi}
-use Rattle.instructions.specs.declared.instruction.Encoded.{Encoded}
-use Rattle.instructions.specs.declared.instruction.Encoded.TheVariants.{Word, OutOfRange}
 
 -- ---- the fields of each format; `code` is funct7 and funct3 as one number
 
@@ -119,5 +117,5 @@ in_range (HLoad k region rd rs1 imm) = h_word region rd rs1 (fits_signed 12 imm)
 in_range (HStore k region rs1 rs2 imm) = h_word region rs1 rs2 (fits_signed 12 imm)
 in_range (Hfi k rd rs1 rs2) = two rd rs1 (ltb rs2 32 && named (hfi_row k) rd rs1 rs2)
 
-unfoldable pub encode_word : Instruction → Encoded
-encode_word i = cond (in_range i) (Word (word_of (encode_fields i))) OutOfRange
+unfoldable pub encode_word : Instruction → Option ℕ
+encode_word i = cond (in_range i) (Some (word_of (encode_fields i))) None

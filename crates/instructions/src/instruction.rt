@@ -1,4 +1,4 @@
-// An instruction, and the answers of decoding and encoding.
+// An instruction.
 //
 // Fields are 64 bits wide, so that a caller can hand in any wrong value. An immediate is held as the 64 bits that it
 // stands for, sign extended; an upper immediate has its 12 low bits clear, and an offset of a branch or a jump is in bytes.
@@ -26,16 +26,4 @@ pub enum Instruction {
     HLoad(LoadKind, u64, u64, u64, u64), // region, rd, rs1, immediate
     HStore(StoreKind, u64, u64, u64, u64), // region, rs1, rs2, immediate
     Hfi(HfiKind, u64, u64, u64), // rd, rs1, rs2; those that the row does not name are 0
-}
-
-#[derive(Clone, Copy)]
-pub enum Decoded {
-    Legal(Instruction),
-    Illegal,
-}
-
-#[derive(Clone, Copy)]
-pub enum Encoded {
-    Word(u32),
-    OutOfRange,
 }

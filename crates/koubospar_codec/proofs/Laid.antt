@@ -7,6 +7,7 @@ use Prim.Native.Nat.{ℕ, ◌^◌, ◌<◌}
 use native.Mathlib.Omega.{arith}
 use lib.Dec.{eqb}
 use borrow.Author.Tests.{eqb-true, eq-eqb}
+use Rattle.std.proofs.Common.{Option, Some, None}
 use Rattle.instructions.specs.Decode.{provided, decode_word}
 use Rattle.instructions.specs.Encode.{encode_word}
 use Rattle.instructions.specs.declared.kind.UpperKind.{UpperKind}
@@ -22,9 +23,6 @@ use Rattle.instructions.specs.declared.kind.SystemKind.{SystemKind}
 use Rattle.instructions.specs.declared.kind.HfiKind.{HfiKind}
 use Rattle.instructions.specs.declared.instruction.Instruction.{Instruction}
 use Rattle.instructions.specs.declared.instruction.Instruction.TheVariants.{Upper, Jal, Jalr, Branch, Load, Store, Immediate, Shift, Addiw, ShiftWord, Register, RegisterWord, Fence, System, HLoad, HStore, Hfi}
-use Rattle.instructions.specs.declared.instruction.Decoded.{Decoded}
-use Rattle.instructions.specs.declared.instruction.Decoded.TheVariants.{Legal, Illegal}
-use Rattle.instructions.specs.declared.instruction.Encoded.TheVariants.{Word}
 use Rattle.instructions.proofs.Tests.{and_both}
 use Rattle.instructions.proofs.Tables.{upper_code_lem, branch_code_lem, load_code_lem, store_code_lem, immediate_code_lem, shift_code_lem, shift_word_code_lem, register_code_lem, register_word_code_lem, system_code_lem, hfi_code_lem}
 use Rattle.instructions.proofs.RoundTrip.{encode_of_decode}
@@ -33,24 +31,24 @@ use Rattle.koubospar_codec.specs.declared.flat.Flat.{Flat}
 
 -- ---- what is laid out is read back: each kind is found under its code
 
-pub unflatten_flatten : (i : Instruction) → unflatten (flatten i) ≡ Legal i
-unflatten_flatten (Upper k rd imm) = (upper_code_lem k).found Decoded (λ (j : UpperKind). Legal (Upper j rd imm)) Illegal
+pub unflatten_flatten : (i : Instruction) → unflatten (flatten i) ≡ Some i
+unflatten_flatten (Upper k rd imm) = (upper_code_lem k).found (Option Instruction) (λ (j : UpperKind). Some (Upper j rd imm)) None
 unflatten_flatten (Jal rd offset) = refl
 unflatten_flatten (Jalr rd rs1 imm) = refl
-unflatten_flatten (Branch k rs1 rs2 offset) = (branch_code_lem k).found Decoded (λ (j : BranchKind). Legal (Branch j rs1 rs2 offset)) Illegal
-unflatten_flatten (Load k rd rs1 imm) = (load_code_lem k).found Decoded (λ (j : LoadKind). Legal (Load j rd rs1 imm)) Illegal
-unflatten_flatten (Store k rs1 rs2 imm) = (store_code_lem k).found Decoded (λ (j : StoreKind). Legal (Store j rs1 rs2 imm)) Illegal
-unflatten_flatten (Immediate k rd rs1 imm) = (immediate_code_lem k).found Decoded (λ (j : ImmediateKind). Legal (Immediate j rd rs1 imm)) Illegal
-unflatten_flatten (Shift k rd rs1 amount) = (shift_code_lem k).found Decoded (λ (j : ShiftKind). Legal (Shift j rd rs1 amount)) Illegal
+unflatten_flatten (Branch k rs1 rs2 offset) = (branch_code_lem k).found (Option Instruction) (λ (j : BranchKind). Some (Branch j rs1 rs2 offset)) None
+unflatten_flatten (Load k rd rs1 imm) = (load_code_lem k).found (Option Instruction) (λ (j : LoadKind). Some (Load j rd rs1 imm)) None
+unflatten_flatten (Store k rs1 rs2 imm) = (store_code_lem k).found (Option Instruction) (λ (j : StoreKind). Some (Store j rs1 rs2 imm)) None
+unflatten_flatten (Immediate k rd rs1 imm) = (immediate_code_lem k).found (Option Instruction) (λ (j : ImmediateKind). Some (Immediate j rd rs1 imm)) None
+unflatten_flatten (Shift k rd rs1 amount) = (shift_code_lem k).found (Option Instruction) (λ (j : ShiftKind). Some (Shift j rd rs1 amount)) None
 unflatten_flatten (Addiw rd rs1 imm) = refl
-unflatten_flatten (ShiftWord k rd rs1 amount) = (shift_word_code_lem k).found Decoded (λ (j : ShiftWordKind). Legal (ShiftWord j rd rs1 amount)) Illegal
-unflatten_flatten (Register k rd rs1 rs2) = (register_code_lem k).found Decoded (λ (j : RegisterKind). Legal (Register j rd rs1 rs2)) Illegal
-unflatten_flatten (RegisterWord k rd rs1 rs2) = (register_word_code_lem k).found Decoded (λ (j : RegisterWordKind). Legal (RegisterWord j rd rs1 rs2)) Illegal
+unflatten_flatten (ShiftWord k rd rs1 amount) = (shift_word_code_lem k).found (Option Instruction) (λ (j : ShiftWordKind). Some (ShiftWord j rd rs1 amount)) None
+unflatten_flatten (Register k rd rs1 rs2) = (register_code_lem k).found (Option Instruction) (λ (j : RegisterKind). Some (Register j rd rs1 rs2)) None
+unflatten_flatten (RegisterWord k rd rs1 rs2) = (register_word_code_lem k).found (Option Instruction) (λ (j : RegisterWordKind). Some (RegisterWord j rd rs1 rs2)) None
 unflatten_flatten (Fence fm pred succ rs1 rd) = refl
-unflatten_flatten (System k) = (system_code_lem k).found Decoded (λ (j : SystemKind). Legal (System j)) Illegal
-unflatten_flatten (HLoad k region rd rs1 imm) = (load_code_lem k).found Decoded (λ (j : LoadKind). Legal (HLoad j region rd rs1 imm)) Illegal
-unflatten_flatten (HStore k region rs1 rs2 imm) = (store_code_lem k).found Decoded (λ (j : StoreKind). Legal (HStore j region rs1 rs2 imm)) Illegal
-unflatten_flatten (Hfi k rd rs1 rs2) = (hfi_code_lem k).found Decoded (λ (j : HfiKind). Legal (Hfi j rd rs1 rs2)) Illegal
+unflatten_flatten (System k) = (system_code_lem k).found (Option Instruction) (λ (j : SystemKind). Some (System j)) None
+unflatten_flatten (HLoad k region rd rs1 imm) = (load_code_lem k).found (Option Instruction) (λ (j : LoadKind). Some (HLoad j region rd rs1 imm)) None
+unflatten_flatten (HStore k region rs1 rs2 imm) = (store_code_lem k).found (Option Instruction) (λ (j : StoreKind). Some (HStore j region rs1 rs2 imm)) None
+unflatten_flatten (Hfi k rd rs1 rs2) = (hfi_code_lem k).found (Option Instruction) (λ (j : HfiKind). Some (Hfi j rd rs1 rs2)) None
 
 -- ---- a record that stands for an instruction is that instruction laid out, and the other way
 
@@ -94,24 +92,24 @@ same_equal a b h =
       region = eqb-true a.region b.region s.1 i;
     }
 
-pub stands_flatten : (i : Instruction) → stands_for (flatten i) ≡ Legal i
+pub stands_flatten : (i : Instruction) → stands_for (flatten i) ≡ Some i
 stands_flatten i = rw (unflatten_flatten i, same_refl (flatten i)) refl
 
 -- what a record stands for is laid out as that record
-pub flatten_stands : (f : Flat) (i : Instruction) → stands_for f ≡ Legal i → flatten i ≡ f
+pub flatten_stands : (f : Flat) (i : Instruction) → stands_for f ≡ Some i → flatten i ≡ f
 flatten_stands f i e = read (unflatten f) e
   where
-    told : (b : Bool) (j : Instruction) → provided b (Legal j) ≡ Legal i → (b ≡ true) × (j ≡ i)
+    told : (b : Bool) (j : Instruction) → provided b (Some j) ≡ Some i → (b ≡ true) × (j ≡ i)
     told true j e = (refl, cc)
     told false j e = let z : ◌≡◌ {A = ℕ} 0 1 = cc in absurd (omega arith)
 
-    read : (d : Decoded) → laid_out f d ≡ Legal i → flatten i ≡ f
-    read (Legal j) e =
+    read : (d : Option Instruction) → laid_out f d ≡ Some i → flatten i ≡ f
+    read (Some j) e =
         let t = told (same (flatten j) f) j e in
         ap flatten (sym t.1) ∙ same_equal (flatten j) f t.0
-    read Illegal e = let z : ◌≡◌ {A = ℕ} 0 1 = cc in absurd (omega arith)
+    read None e = let z : ◌≡◌ {A = ℕ} 0 1 = cc in absurd (omega arith)
 
-pub stands_exactly : (f : Flat) (i : Instruction) → (stands_for f ≡ Legal i) ↔ (flatten i ≡ f)
+pub stands_exactly : (f : Flat) (i : Instruction) → (stands_for f ≡ Some i) ↔ (flatten i ≡ f)
 stands_exactly f i = (flatten_stands f i, λ e. ap stands_for (sym e) ∙ stands_flatten i)
 
 -- ---- so the codec by records is the codec by instructions
@@ -120,5 +118,5 @@ pub encode_flatten : (i : Instruction) → encode_flat (flatten i) ≡ encode_wo
 encode_flatten i = ap encode_decoded (stands_flatten i)
 
 -- what a legal word is decoded to is encoded to that word again
-pub encode_decode : (w : ℕ) (i : Instruction) → w < 2 ^ 32 → decode_word w ≡ Legal i → encode_flat (flatten i) ≡ Word w
+pub encode_decode : (w : ℕ) (i : Instruction) → w < 2 ^ 32 → decode_word w ≡ Some i → encode_flat (flatten i) ≡ Some w
 encode_decode w i h e = encode_flatten i ∙ encode_of_decode w i h e

@@ -7,7 +7,7 @@ ghost use Rattle.koubospar_codec.specs.Flat.{layout, fence_layout, h_word_layout
 use decode::decode;
 use encode::encode;
 use expand::expand;
-use instructions::instruction::{Decoded, Encoded, Instruction};
+use instructions::instruction::Instruction;
 
 // A group from 1 to 17, in the order of the enum of instructions, a kind by its code, and every field that some group
 // has. `imm` is an immediate, an offset in bytes or a shift's amount, `region` the explicit region of an h-word. Fields
@@ -135,29 +135,29 @@ pub fn flatten(i: Instruction) -> Flat
 }
 
 // The instruction that is read from the record; fields that its group lacks are not asked about.
-pub fn unflatten(f: Flat) -> Decoded
+pub fn unflatten(f: Flat) -> Option<Instruction>
     ensures { result ≡ unflatten_of f }
 {
     let group = f.group;
     match group {
         1 => listing::upper(f.kind, f.rd, f.imm),
-        2 => Decoded::Legal(Instruction::Jal(f.rd, f.imm)),
-        3 => Decoded::Legal(Instruction::Jalr(f.rd, f.rs1, f.imm)),
+        2 => Some(Instruction::Jal(f.rd, f.imm)),
+        3 => Some(Instruction::Jalr(f.rd, f.rs1, f.imm)),
         4 => listing::branch(f.kind, f.rs1, f.rs2, f.imm),
         5 => listing::load(false, f.kind, 0, f.rd, f.rs1, f.imm),
         6 => listing::store(false, f.kind, 0, f.rs1, f.rs2, f.imm),
         7 => listing::immediate(f.kind, f.rd, f.rs1, f.imm),
         8 => listing::shift(f.kind, f.rd, f.rs1, f.imm),
-        9 => Decoded::Legal(Instruction::Addiw(f.rd, f.rs1, f.imm)),
+        9 => Some(Instruction::Addiw(f.rd, f.rs1, f.imm)),
         10 => listing::shift_word(f.kind, f.rd, f.rs1, f.imm),
         11 => listing::register(f.kind, f.rd, f.rs1, f.rs2),
         12 => listing::register_word(f.kind, f.rd, f.rs1, f.rs2),
-        13 => Decoded::Legal(Instruction::Fence(f.fm, f.pred, f.succ, f.rs1, f.rd)),
+        13 => Some(Instruction::Fence(f.fm, f.pred, f.succ, f.rs1, f.rd)),
         14 => listing::system(f.kind),
         15 => listing::load(true, f.kind, f.region, f.rd, f.rs1, f.imm),
         16 => listing::store(true, f.kind, f.region, f.rs1, f.rs2, f.imm),
         17 => listing::hfi(f.kind, f.rd, f.rs1, f.rs2),
-        _ => Decoded::Illegal,
+        _ => None,
     }
 }
 
@@ -171,29 +171,22 @@ fn same(a: Flat, b: Flat) -> bool
 }
 
 // The instruction that the record stands for: the one that is read from it, if the record is that one laid out.
-pub fn stands_for(f: Flat) -> Decoded
+pub fn stands_for(f: Flat) -> Option<Instruction>
     ensures { result ≡ stands_for f }
 {
-    let d = unflatten(f);
-    match d {
-        Decoded::Legal(i) => if same(flatten(i), f) {
-            d
-        } else {
-            Decoded::Illegal
-        },
-        Decoded::Illegal => Decoded::Illegal,
-    }
+    let i = unflatten(f)?;
+    if same(flatten(i), f) { Some(i) } else { None }
 }
 
-fn answer_decoded(d: Decoded) -> FlatDecoded
+fn answer_decoded(d: Option<Instruction>) -> FlatDecoded
     ensures { result ≡ flat_decoded d }
 {
     match d {
-        Decoded::Legal(i) => FlatDecoded {
+        Some(i) => FlatDecoded {
             number: 0,
             instruction: flatten(i),
         },
-        Decoded::Illegal => FlatDecoded {
+        None => FlatDecoded {
             number: 13,
             instruction: lay_out(0, 0, 0, 0, 0, 0),
         },
@@ -214,12 +207,12 @@ pub fn koubospar_expand(half: u16) -> FlatDecoded
     answer_decoded(expand(half))
 }
 
-fn answer_encoded(e: Encoded) -> FlatEncoded
+fn answer_encoded(e: Option<u32>) -> FlatEncoded
     ensures { result ≡ flat_encoded e }
 {
     match e {
-        Encoded::Word(w) => FlatEncoded { number: 0, word: w },
-        Encoded::OutOfRange => FlatEncoded { number: 5, word: 0 },
+        Some(w) => FlatEncoded { number: 0, word: w },
+        None => FlatEncoded { number: 5, word: 0 },
     }
 }
 
@@ -227,9 +220,5 @@ fn answer_encoded(e: Encoded) -> FlatEncoded
 pub fn koubospar_encode(f: Flat) -> FlatEncoded
     ensures { result ≡ flat_encoded (encode_flat f) }
 {
-    let d = stands_for(f);
-    match d {
-        Decoded::Legal(i) => answer_encoded(encode(i)),
-        Decoded::Illegal => answer_encoded(Encoded::OutOfRange),
-    }
+    answer_encoded(stands_for(f).and_then(encode))
 }

@@ -8,12 +8,11 @@ use mathlib.Core.List.{List, [], ◌∷◌}
 use Prim.Native.Nat.{ℕ}
 use lib.Dec.{eqb}
 use borrow.Author.Tests.{eqb-true}
+use Rattle.std.proofs.Common.{Option, Some, None}
 use Rattle.instructions.specs.Decode.{decode_word}
 use Rattle.instructions.specs.Fields.{word_of}
 use Rattle.instructions.specs.Encode.{in_range, encode_fields}
 use Rattle.instructions.specs.declared.instruction.Instruction.{Instruction}
-use Rattle.instructions.specs.declared.instruction.Decoded.{Decoded}
-use Rattle.instructions.specs.declared.instruction.Decoded.TheVariants.{Legal, Illegal}
 use Rattle.instructions.proofs.RoundTrip.{one_instruction}
 use Rattle.instructions.proofs.Tests.{and_both}
 use Rattle.model.specs.declared.Region.{Region}
@@ -55,11 +54,11 @@ abbrev alike_machines : Machine → Machine → Bool
 alike_machines m n = alike_numbers m.x n.x && (eqb m.pc n.pc && alike_states m.hfi n.hfi)
 
 -- two instructions in range by their words
-abbrev alike_decoded : Decoded → Decoded → Bool
-alike_decoded (Legal i) (Legal j) = in_range i && (in_range j && eqb (word_of (encode_fields i)) (word_of (encode_fields j)))
-alike_decoded (Legal i) Illegal = false
-alike_decoded Illegal (Legal j) = false
-alike_decoded Illegal Illegal = true
+abbrev alike_decoded : Option Instruction → Option Instruction → Bool
+alike_decoded (Some i) (Some j) = in_range i && (in_range j && eqb (word_of (encode_fields i)) (word_of (encode_fields j)))
+alike_decoded (Some i) None = false
+alike_decoded None (Some j) = false
+alike_decoded None None = true
 
 abbrev alike : Answer → Answer → Bool
 alike (decoded d) (decoded e) = alike_decoded d e
@@ -143,15 +142,15 @@ same_machines m n e =
     let q = and_both (eqb m.pc n.pc) _ p.1 in
     machine_of_lem (same_numbers _ _ p.0) (eqb-true _ _ q.0) (same_states _ _ q.1)
 
-same_decoded : (d e : Decoded) → alike_decoded d e ≡ true → d ≡ e
-same_decoded (Legal i) (Legal j) e =
+same_decoded : (d e : Option Instruction) → alike_decoded d e ≡ true → d ≡ e
+same_decoded (Some i) (Some j) e =
     let p = and_both (in_range i) _ e in
     let q = and_both (in_range j) _ p.1 in
     let w = eqb-true (word_of (encode_fields i)) (word_of (encode_fields j)) q.1 in
-    ap Legal (one_instruction (word_of (encode_fields i)) i j (encodes i p.0) (ap decode_word w ∙ encodes j q.0))
-same_decoded (Legal i) Illegal e = absurd (false≢true e)
-same_decoded Illegal (Legal j) e = absurd (false≢true e)
-same_decoded Illegal Illegal e = refl
+    ap Some (one_instruction (word_of (encode_fields i)) i j (encodes i p.0) (ap decode_word w ∙ encodes j q.0))
+same_decoded (Some i) None e = absurd (false≢true e)
+same_decoded None (Some j) e = absurd (false≢true e)
+same_decoded None None e = refl
 
 same_truths : (b c : Bool) → alike_truths b c ≡ true → b ≡ c
 same_truths true c e = sym e

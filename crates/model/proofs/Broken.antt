@@ -11,6 +11,7 @@ use native.Mathlib.Omega.{arith}
 use lib.Dec.{eqb, leb, ltb}
 use lib.ListN.{length, get_or}
 use borrow.Author.Tests.{eqb-true, eqb-false, eq-eqb, ne_eqb, leb-false, lt-leb, ltb-true, lt-ltb, ltb-false, le-ltb, not-true}
+use Rattle.std.proofs.Common.{Option, Some, None}
 use Rattle.words.specs.Word.{field}
 use Rattle.instructions.specs.Decode.{decode_word}
 use Rattle.instructions.specs.declared.kind.LoadKind.{LoadKind}
@@ -18,8 +19,6 @@ use Rattle.instructions.specs.declared.kind.StoreKind.{StoreKind}
 use Rattle.instructions.specs.declared.kind.HfiKind.{HfiKind}
 use Rattle.instructions.specs.declared.kind.HfiKind.TheVariants.{Enter, EnterJump, Exit, SelectRegion, SetBase, GetBase, SetBound, GetBound, SetPermission, GetPermission, SetHandler, GetHandler, ResetRegions}
 use Rattle.instructions.specs.Encode.{in_range}
-use Rattle.instructions.specs.declared.instruction.Decoded.{Decoded}
-use Rattle.instructions.specs.declared.instruction.Decoded.TheVariants.{Legal, Illegal}
 use Rattle.instructions.specs.declared.instruction.Instruction.{Instruction}
 use Rattle.instructions.specs.declared.instruction.Instruction.TheVariants.{Upper, Jal, Jalr, Branch, Load, Store, Immediate, Shift, Addiw, ShiftWord, Register, RegisterWord, Fence, System, HLoad, HStore, Hfi}
 use Rattle.instructions.proofs.RoundTrip.{decoded_range}
@@ -278,13 +277,13 @@ module _ (m : Machine) (mem : List ℕ) (next : ℕ) (i : Instruction) where
 pub record HalfWord (m : Machine) (mem : List ℕ) (size : ℕ) (i : Instruction) : Type 0 where
   pub two : size ≡ 2
   pub short : is_long (value mem m.pc 0 2) ≡ false
-  pub legal : expand_half (value mem m.pc 0 2) ≡ Legal i
+  pub legal : expand_half (value mem m.pc 0 2) ≡ Some i
 
 pub record LongWord (m : Machine) (mem : List ℕ) (size : ℕ) (i : Instruction) : Type 0 where
   pub four : size ≡ 4
   pub long : is_long (value mem m.pc 0 2) ≡ true
   pub passed : verdict m.hfi.mode (length mem) (fetch_access m.hfi.regions (sum m.pc 2)) ≡ passed
-  pub legal : decode_word (value mem m.pc 0 4) ≡ Legal i
+  pub legal : decode_word (value mem m.pc 0 4) ≡ Some i
 
 pub record Fetches (m : Machine) (mem : List ℕ) (i : Instruction) : Type 0 where
   pub multiple : m.pc % 2 ≡ 0
@@ -344,14 +343,14 @@ fetching_passed m mem a o q = go (verdict m.hfi.mode (length mem) (fetch_access 
     go (Ok tt) r q = (r, q)
 
 -- nor has an illegal word
-record Decodes (d : Decoded) : Type 0 where
+record Decodes (d : Option Instruction) : Type 0 where
   instruction : Instruction
-  legal : d ≡ Legal instruction
+  legal : d ≡ Some instruction
 
-word_legal : (m : Machine) (mem : List ℕ) (size : ℕ) (d : Decoded) → is_hfi_stop (execute_word m mem size d).result.stop ≡ true → Decodes d
+word_legal : (m : Machine) (mem : List ℕ) (size : ℕ) (d : Option Instruction) → is_hfi_stop (execute_word m mem size d).result.stop ≡ true → Decodes d
 unfolding execute_word
-word_legal m mem size (Legal i) q = record { instruction = i; legal = refl }
-word_legal m mem size Illegal q = absurd (false≢true q)
+word_legal m mem size (Some i) q = record { instruction = i; legal = refl }
+word_legal m mem size None q = absurd (false≢true q)
 
 pub step_stopped : (m : Machine) (mem : List ℕ) → is_hfi_stop (step m mem).result.stop ≡ true → Forbids m mem (step m mem).result.stop
 unfolding step execute_fetched

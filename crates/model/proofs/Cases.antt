@@ -6,13 +6,13 @@ use mathlib.Core.List.{List, [], ◌∷◌, ◌++◌}
 use Prim.Native.Nat.{ℕ}
 use lib.Count.{count_trailing_zeros}
 use lib.ListN.{replicate}
+use Rattle.std.proofs.Common.{Some, None}
 use Rattle.words.specs.Word.{sext}
 use Rattle.instructions.specs.Decode.{decode_word}
 use Rattle.instructions.specs.declared.kind.ImmediateKind.TheVariants.{Addi}
 use Rattle.instructions.specs.declared.kind.StoreKind.TheVariants.{Sb}
 use Rattle.instructions.specs.declared.kind.HfiKind.TheVariants.{Exit}
 use Rattle.instructions.specs.declared.instruction.Instruction.TheVariants.{Immediate, HStore, Hfi}
-use Rattle.instructions.specs.declared.instruction.Decoded.TheVariants.{Legal, Illegal}
 use Rattle.model.specs.Bytes.{value, written}
 use Rattle.model.specs.Outcome.{allowed, settle}
 use Rattle.model.specs.WellFormed.{state_fits, well_formed}
@@ -49,12 +49,12 @@ refused w a = (
 unfoldable pub rows : List Row
 rows =
     -- A
-    (decoding 0x00500513, decoded (Legal (Immediate Addi 10 0 5)))
+    (decoding 0x00500513, decoded (Some (Immediate Addi 10 0 5)))
     -- B
-    ∷ (decoding 0x00a001ab, decoded (Legal (HStore Sb 1 0 10 3)))
+    ∷ (decoding 0x00a001ab, decoded (Some (HStore Sb 1 0 10 3)))
     -- C
-    ∷ (decoding 0x0400005b, decoded (Legal (Hfi Exit 0 0 0)))
-    ∷ (decoding 0x0400015b, decoded Illegal)
+    ∷ (decoding 0x0400005b, decoded (Some (Hfi Exit 0 0 0)))
+    ∷ (decoding 0x0400015b, decoded None)
     -- D
     ∷ (matching (region_of 0 0xfffffffffffffff0 3) 0xf, told true)
     ∷ (matching (region_of 0 0xfffffffffffffff0 3) 0x10, told false)

@@ -5,9 +5,9 @@ use mathlib.Core.Path.{◌≡◌, refl}
 use mathlib.Core.List.{List, [], ◌∷◌, ◌++◌}
 use Prim.Native.Nat.{ℕ, ◌-◌, ◌/◌, ◌%◌, ◌^◌}
 use lib.Count.{count_trailing_zeros}
+use Rattle.std.proofs.Common.{None}
 use Rattle.words.specs.Word.{sext}
 use Rattle.instructions.specs.Decode.{decode_word}
-use Rattle.instructions.specs.declared.instruction.Decoded.TheVariants.{Illegal}
 use Rattle.compressed.specs.Expand.{expand_half}
 use Rattle.model.specs.Bytes.{value, written}
 use Rattle.model.specs.Outcome.{allowed, settle}
@@ -129,7 +129,7 @@ standing =
     -- a run counts a half-word as a step
     ∷ (running (with (inside 0)) (halves (cli ∷ cnop ∷ 0x9002 ∷ [])) 9, gave 19 2 0 (with (inside 0 ++ ((pc, 4) ∷ (x 7, 7) ∷ []))) (halves (cli ∷ cnop ∷ 0x9002 ∷ [])))
     -- "the decode and encode rule keeps to long words"
-    ∷ (decoding cli, decoded Illegal)
+    ∷ (decoding cli, decoded None)
     ∷ []
 
 abbrev pub rows : List Row

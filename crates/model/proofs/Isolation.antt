@@ -10,9 +10,10 @@ use native.Mathlib.Omega.{arith}
 use lib.ListN.{length, get_or}
 use lib.Dec.{eqb, ltb}
 use borrow.Author.Tests.{eqb-true, eq-eqb}
+use Rattle.std.proofs.Common.{Option}
 use Rattle.words.specs.Word.{field}
+use Rattle.instructions.specs.declared.instruction.Instruction.{Instruction}
 use Rattle.instructions.specs.Decode.{decode_word}
-use Rattle.instructions.specs.declared.instruction.Decoded.{Decoded}
 use Rattle.instructions.proofs.RoundTrip.{decoded_range}
 use Rattle.compressed.specs.Expand.{expand_half, is_long}
 use Rattle.compressed.proofs.InRange.{expanded_range}
@@ -69,7 +70,7 @@ module _ (m : Machine) (s t : List ℕ) (l : Locked m) (g : Agree m s t) where
       (settle_related m s t store_op 16 17 (verdict m.hfi.mode (length s) a) _ _
       (λ h. record { result = refl; agreeing = λ b e. written_same a.count 0 s t a.first v b g.lengths e }))
 
-  word_related : (size : ℕ) (d : Decoded) → Ranged d → Related s t (execute_word m s size d) (execute_word m t size d)
+  word_related : (size : ℕ) (d : Option Instruction) → Ranged d → Related s t (execute_word m s size d) (execute_word m t size d)
   word_related size d r = go (word_executed m size d r)
     where
       go : {f : List ℕ → Outcome} → Executed m f → Related s t (f s) (f t)

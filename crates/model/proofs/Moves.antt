@@ -12,6 +12,7 @@ use native.Mathlib.Omega.{arith}
 use lib.Dec.{eqb, leb, ltb}
 use lib.ListN.{length}
 use borrow.Author.Tests.{not-true, not-false, le-leb}
+use Rattle.std.proofs.Common.{Option, Some, None}
 use Rattle.instructions.specs.Kinds.{hfi_code}
 use Rattle.instructions.specs.Decode.{decode_word}
 use Rattle.instructions.specs.Encode.{in_range}
@@ -22,8 +23,6 @@ use Rattle.instructions.specs.declared.kind.HfiKind.{HfiKind}
 use Rattle.instructions.specs.declared.kind.HfiKind.TheVariants.{Enter, EnterJump, Exit, SelectRegion, SetBase, GetBase, SetBound, GetBound, SetPermission, GetPermission, SetHandler, GetHandler, ResetRegions}
 use Rattle.instructions.specs.declared.instruction.Instruction.{Instruction}
 use Rattle.instructions.specs.declared.instruction.Instruction.TheVariants.{Upper, Jal, Jalr, Branch, Load, Store, Immediate, Shift, Addiw, ShiftWord, Register, RegisterWord, Fence, System, HLoad, HStore, Hfi}
-use Rattle.instructions.specs.declared.instruction.Decoded.{Decoded}
-use Rattle.instructions.specs.declared.instruction.Decoded.TheVariants.{Legal, Illegal}
 use Rattle.instructions.proofs.RoundTrip.{decoded_range}
 use Rattle.compressed.specs.Expand.{expand_half, is_long}
 use Rattle.compressed.proofs.InRange.{expanded_range}
@@ -423,8 +422,8 @@ later_other (Hfi k rd rs1 rs2) = go (eqb (hfi_code k) 1)
     go false = refl
 
 -- what is decoded has every field in its range; so it is of a long word, and of a half-word's expansion
-abbrev pub Ranged : Decoded → Type 0
-Ranged d = (i : Instruction) → d ≡ Legal i → in_range i ≡ true
+abbrev pub Ranged : Option Instruction → Type 0
+Ranged d = (i : Instruction) → d ≡ Some i → in_range i ≡ true
 
 module _ (m : Machine) where
   pub instruction_executed : (next : ℕ) (i : Instruction) → in_range i ≡ true → Executed m (λ mem. execute_instruction m mem next i)
@@ -435,10 +434,10 @@ module _ (m : Machine) where
       go true e = Executed.moves (later_stops i) (later_other i) (let p = perform_moves m next i h e in record { move = p.move; same = p.same })
       go false e = Executed.forbidden (hfi_stop m i) (forbidden_listed m i e) (λ mem. refl)
 
-  pub word_executed : (size : ℕ) (d : Decoded) → Ranged d → Executed m (λ mem. execute_word m mem size d)
+  pub word_executed : (size : ℕ) (d : Option Instruction) → Ranged d → Executed m (λ mem. execute_word m mem size d)
   unfolding execute_word
-  word_executed size (Legal i) r = instruction_executed _ i (r i refl)
-  word_executed size Illegal r = Executed.moves (13 ∷ []) refl (stop m 13 refl)
+  word_executed size (Some i) r = instruction_executed _ i (r i refl)
+  word_executed size None r = Executed.moves (13 ∷ []) refl (stop m 13 refl)
 
 -- ---- the law
 
@@ -517,7 +516,7 @@ module _ (m : Machine) (mem : List ℕ) where
   fetching_does a o d =
       settles fetch_op 11 12 _ _ refl refl (λ at. refl) (faults m.hfi.mode (length mem) _ (λ i. match_numbered _ code_regions _ refl)) (λ e. d)
 
-  word_does : (size : ℕ) (d : Decoded) → Ranged d → Does is_stop m mem (execute_word m mem size d)
+  word_does : (size : ℕ) (d : Option Instruction) → Ranged d → Does is_stop m mem (execute_word m mem size d)
   word_does size d r = executed_does (word_executed m size d r)
 
   fetched_does : (h : ℕ) → Does is_stop m mem (execute_fetched m mem h)

@@ -10,6 +10,7 @@ use lib.Dec.{eqb, lit<, lit≤}
 use lib.ListN.{set, replicate}
 use lib.Seq.{get_or-set_same}
 use lib.IntN.{ℤ, pos, ◌+ℤ◌}
+use Rattle.std.proofs.Common.{Some}
 use Rattle.instructions.specs.Decode.{decode_word}
 use Rattle.instructions.specs.Encode.{in_range, encode_fields, encode_word}
 use Rattle.instructions.specs.Fields.{word_of}
@@ -18,7 +19,6 @@ use Rattle.instructions.specs.declared.kind.LoadKind.TheVariants.{Lb, Lh, Lw, Ld
 use Rattle.instructions.specs.declared.kind.StoreKind.{StoreKind}
 use Rattle.instructions.specs.declared.kind.StoreKind.TheVariants.{Sb, Sh, Sw, Sd}
 use Rattle.instructions.specs.declared.instruction.Instruction.{Instruction}
-use Rattle.instructions.specs.declared.instruction.Decoded.TheVariants.{Legal}
 use Rattle.instructions.specs.HWords.{explicit_regions, among}
 use Rattle.instructions.proofs.RoundTrip.{decode_of_encode}
 use Rattle.instructions.proofs.Tests.{and_both}
@@ -125,7 +125,7 @@ store_width_lem Sh = lit≤ tt
 store_width_lem Sw = lit≤ tt
 store_width_lem Sd = lit≤ tt
 
-pub encodes : (i : Instruction) → in_range i ≡ true → decode_word (word_of (encode_fields i)) ≡ Legal i
+pub encodes : (i : Instruction) → in_range i ≡ true → decode_word (word_of (encode_fields i)) ≡ Some i
 unfolding encode_word
 encodes i h = decode_of_encode i (word_of (encode_fields i)) (rw h refl)
 

@@ -7,13 +7,13 @@ use mathlib.Core.Bool.{true, false}
 use mathlib.Core.List.{List, [], ◌∷◌, ◌++◌}
 use Prim.Native.Nat.{ℕ, ◌+◌, ◌-◌, ◌^◌}
 use lib.Count.{count_trailing_zeros}
+use Rattle.std.proofs.Common.{Some, None}
 use Rattle.words.specs.Word.{sext}
 use Rattle.instructions.specs.Decode.{decode_word}
 use Rattle.instructions.specs.declared.kind.LoadKind.TheVariants.{Lb, Lbu}
 use Rattle.instructions.specs.declared.kind.StoreKind.TheVariants.{Sb}
 use Rattle.instructions.specs.declared.instruction.Instruction.{Instruction}
 use Rattle.instructions.specs.declared.instruction.Instruction.TheVariants.{Load, Store, HLoad, HStore}
-use Rattle.instructions.specs.declared.instruction.Decoded.TheVariants.{Legal, Illegal}
 use Rattle.model.specs.Bytes.{value, written}
 use Rattle.model.specs.Outcome.{allowed, aligned, settle}
 use Rattle.model.specs.WellFormed.{state_fits, well_formed}
@@ -326,7 +326,7 @@ judging_singly =
 -- mean 1, 4, 5, 6. The remaining four bits name x0 to x15"
 
 abbrev names : ℕ → Instruction → Row
-names w i = (decoding w, decoded (Legal i))
+names w i = (decoding w, decoded (Some i))
 
 unfoldable pub choosing : List Row
 choosing =
@@ -351,8 +351,8 @@ choosing =
     ∷ names 0x0062882b (HStore Sb 1 5 6 16)
     ∷ names 0xfe628fab (HStore Sb 1 5 6 (2 ^ 64 - 1))
     -- a word that was illegal still is: funct3 7 and 4
-    ∷ (decoding 0x000afb0b, decoded Illegal)
-    ∷ (decoding 0x016ac02b, decoded Illegal)
+    ∷ (decoding 0x000afb0b, decoded None)
+    ∷ (decoding 0x016ac02b, decoded None)
     -- "In an h-word": lb x22, 0(x21) and sb x22, 0(x21) keep five bits
     ∷ names 0x000a8b03 (Load Lb 22 21 0)
     ∷ names 0x016a8023 (Store Sb 21 22 0)

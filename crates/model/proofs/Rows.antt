@@ -4,8 +4,9 @@ use mathlib.Core.Bool.{Bool}
 use mathlib.Core.List.{List, [], ◌∷◌}
 use Prim.Native.Nat.{ℕ, ◌+◌, ◌-◌, ◌*◌, ◌/◌, ◌%◌}
 use lib.ListN.{get_or, set, take, drop, replicate}
+use Rattle.std.proofs.Common.{Option}
+use Rattle.instructions.specs.declared.instruction.Instruction.{Instruction}
 use Rattle.instructions.specs.Decode.{decode_word}
-use Rattle.instructions.specs.declared.instruction.Decoded.{Decoded}
 use Rattle.model.specs.Machine.{last_region, regions_from, machine}
 use Rattle.model.specs.Regions.{matches, explicit_rule}
 use Rattle.model.specs.WellFormed.{well_formed}
@@ -120,7 +121,7 @@ pub data Question : Type 0 where
   resuming : Machine → ℕ → Question
 
 pub data Answer : Type 0 where
-  decoded : Decoded → Answer
+  decoded : Option Instruction → Answer
   told : Bool → Answer
   -- stop, count, address, machine and memory; a step and a resumption have no count, a resumption no memory
   gave : ℕ → ℕ → ℕ → Machine → List ℕ → Answer

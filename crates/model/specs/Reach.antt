@@ -3,12 +3,11 @@
 -- and pc (for executable: that a fetch at some pc passing question 4 can make), and that byte passes its region."
 -- The regions are those of the machine that the run starts from. proofs/Reach.antt has each as a closed form.
 -- Region is declared in src/lib.rt, the kinds and the instructions in instructions/src. Assumes nothing.
-use Rattle.std.specs.Prelude.{◌≡◌, true, List, ℕ, ◌%◌, ◌<◌}
+use Rattle.std.specs.Prelude.{◌≡◌, true, List, ℕ, ◌%◌, ◌<◌, Some}
 use Rattle.instructions.specs.Decode.{decode_word}
 use Rattle.instructions.specs.declared.kind.LoadKind.{LoadKind}
 use Rattle.instructions.specs.declared.kind.StoreKind.{StoreKind}
 use Rattle.instructions.specs.declared.instruction.Instruction.TheVariants.{Load, Store, HLoad, HStore}
-use Rattle.instructions.specs.declared.instruction.Decoded.TheVariants.{Legal}
 use Rattle.model.specs.Bytes.{byte_of}
 use Rattle.model.specs.Access.{Access, fetch_access, load_access, store_access, hload_access, hstore_access}
 use Rattle.model.specs.declared.Region.{Region}
@@ -22,15 +21,15 @@ pub record Passes (a : Access) (b : ℕ) : Type 0 where
 
 -- half-words make no other accesses: each stands for the instruction of a long word (compressed/proofs/InRange.antt)
 pub data Readable (rs : List Region) (b : ℕ) : Type 0 where
-  by_load : (w : ℕ) (x : List ℕ) (k : LoadKind) (rd rs1 imm : ℕ) → decode_word w ≡ Legal (Load k rd rs1 imm)
+  by_load : (w : ℕ) (x : List ℕ) (k : LoadKind) (rd rs1 imm : ℕ) → decode_word w ≡ Some (Load k rd rs1 imm)
       → Passes (load_access rs x k rs1 imm) b → Readable rs b
-  by_h_load : (w : ℕ) (x : List ℕ) (k : LoadKind) (chosen rd rs1 imm : ℕ) → decode_word w ≡ Legal (HLoad k chosen rd rs1 imm)
+  by_h_load : (w : ℕ) (x : List ℕ) (k : LoadKind) (chosen rd rs1 imm : ℕ) → decode_word w ≡ Some (HLoad k chosen rd rs1 imm)
       → Passes (hload_access rs x k chosen rs1 imm) b → Readable rs b
 
 pub data Writable (rs : List Region) (b : ℕ) : Type 0 where
-  by_store : (w : ℕ) (x : List ℕ) (k : StoreKind) (rs1 rs2 imm : ℕ) → decode_word w ≡ Legal (Store k rs1 rs2 imm)
+  by_store : (w : ℕ) (x : List ℕ) (k : StoreKind) (rs1 rs2 imm : ℕ) → decode_word w ≡ Some (Store k rs1 rs2 imm)
       → Passes (store_access rs x k rs1 imm) b → Writable rs b
-  by_h_store : (w : ℕ) (x : List ℕ) (k : StoreKind) (chosen rs1 rs2 imm : ℕ) → decode_word w ≡ Legal (HStore k chosen rs1 rs2 imm)
+  by_h_store : (w : ℕ) (x : List ℕ) (k : StoreKind) (chosen rs1 rs2 imm : ℕ) → decode_word w ≡ Some (HStore k chosen rs1 rs2 imm)
       → Passes (hstore_access rs x k chosen rs1 imm) b → Writable rs b
 
 -- question 4 asks that pc is a multiple of 2, and a fetch takes two bytes (02, Job 8); the second two of a long word are such a fetch too

@@ -1,7 +1,7 @@
 -- One step: document 01, "Questions a call puts", and the effect of each instruction.
 -- Machine is declared in src/lib.rt, the instructions and their kinds in instructions/src. Assumes
 -- nothing.
-use Rattle.std.specs.Prelude.{cond, List, ℕ, ◌*◌, ◌/◌, ◌%◌, eqb, ltb, length}
+use Rattle.std.specs.Prelude.{cond, List, ℕ, ◌*◌, ◌/◌, ◌%◌, eqb, ltb, length, Option, Some, None}
 use Rattle.instructions.specs.Decode.{decode_word}
 use Rattle.compressed.specs.Expand.{expand_half, is_long}
 use Rattle.instructions.specs.declared.kind.LoadKind.{LoadKind}
@@ -10,8 +10,6 @@ use Rattle.instructions.specs.declared.kind.RegisterKind.TheVariants.{Add}
 use Rattle.instructions.specs.declared.kind.SystemKind.TheVariants.{Ecall, Ebreak}
 use Rattle.instructions.specs.declared.instruction.Instruction.{Instruction}
 use Rattle.instructions.specs.declared.instruction.Instruction.TheVariants.{Upper, Jal, Jalr, Branch, Load, Store, Immediate, Shift, Addiw, ShiftWord, Register, RegisterWord, Fence, System, HLoad, HStore, Hfi}
-use Rattle.instructions.specs.declared.instruction.Decoded.{Decoded}
-use Rattle.instructions.specs.declared.instruction.Decoded.TheVariants.{Legal, Illegal}
 use Rattle.model.specs.Machine.{sum, reg, set_reg, load_op, store_op, fetch_op, redirects_calls, exited, machine}
 use Rattle.model.specs.WellFormed.{well_formed}
 use Rattle.model.specs.WritableCode.{exposes_code}
@@ -75,9 +73,9 @@ execute_instruction m mem next i = allowed m mem (hfi_stop m i) (perform m mem n
 
 -- "7. Is the word legal? No: 13." The instruction after it stands `size` bytes further: "with 2 in place of 4 in the next pc and in link values"
 -- (02, Job 8) for a half-word
-unfoldable pub execute_word : Machine → List ℕ → ℕ → Decoded → Outcome
-execute_word m mem size (Legal i) = execute_instruction m mem (sum m.pc size) i
-execute_word m mem size Illegal = stopped 13 m mem
+unfoldable pub execute_word : Machine → List ℕ → ℕ → Option Instruction → Outcome
+execute_word m mem size (Some i) = execute_instruction m mem (sum m.pc size) i
+execute_word m mem size None = stopped 13 m mem
 
 -- "5. In HFI mode, are all .. bytes executable? No: 11." "6. Are they in memory? No: 12.", asked of the two bytes at a
 unfoldable pub fetching : Machine → List ℕ → ℕ → Outcome → Outcome

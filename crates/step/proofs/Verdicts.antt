@@ -1,10 +1,8 @@
 -- The step by one verdict on its fetch; and what a passed one says of memory.
 -- Assumes nothing.
-use Rattle.std.proofs.Common.{◌≡◌, ℕ, ◌+◌, ◌%◌, ◌^◌, ◌<◌, ◌≤◌, Bool, true, false, cond, List, length, refl, ◌∙◌, arith, eq-eqb, Ok, Err}
+use Rattle.std.proofs.Common.{◌≡◌, ℕ, ◌+◌, ◌%◌, ◌^◌, ◌<◌, ◌≤◌, Bool, true, false, cond, List, length, refl, ◌∙◌, arith, eq-eqb, Option, Some, Ok, Err}
 use Rattle.instructions.specs.Decode.{decode_word}
 use Rattle.instructions.specs.Encode.{in_range}
-use Rattle.instructions.specs.declared.instruction.Decoded.{Decoded}
-use Rattle.instructions.specs.declared.instruction.Decoded.TheVariants.{Legal}
 use Rattle.instructions.specs.declared.instruction.Instruction.{Instruction}
 use Rattle.instructions.proofs.RoundTrip.{decoded_range}
 use Rattle.compressed.specs.Expand.{expand_half, is_long}
@@ -27,38 +25,18 @@ use Rattle.step.specs.Fetch.{and_then, half_at, fetch_verdict, size_at, word_at}
 
 -- a passed one passed twice
 both : (v w : Verdict) → and_then v w ≡ passed → (v ≡ passed) × (w ≡ passed)
-both (Err (Refused at region)) w e = let z : ◌≡◌ {A = ℕ} 0 1 = cc in absurd (omega arith)
-both (Err (Absent at)) w e = let z : ◌≡◌ {A = ℕ} 0 1 = cc in absurd (omega arith)
+both (Err d) w e = let z : ◌≡◌ {A = ℕ} 0 1 = cc in absurd (omega arith)
 both (Ok tt) w e = (refl, e)
 
 module _ (mode : ℕ) (rs : List Region) (mem : List ℕ) (pc : ℕ) where
   -- where all four bytes pass there is no more to ask
-  pub whole_verdict : pc < 2 ^ 64 → length mem < 2 ^ 64 → fetches_whole mode rs (length mem) pc ≡ true → (Ok tt) ≡ fetch_verdict mode rs mem pc
+  pub whole_verdict : pc < 2 ^ 64 → length mem < 2 ^ 64 → fetches_whole mode rs (length mem) pc ≡ true → passed ≡ fetch_verdict mode rs mem pc
   unfolding fetch_verdict
   whole_verdict p q g = let w = whole_fetched mode rs (length mem) pc p q g in rw (w.0, w.1) (go (is_long (half_at mem pc)))
     where
-      go : (b : Bool) → (Ok tt) ≡ cond b (Ok tt) (Ok tt)
+      go : (b : Bool) → passed ≡ cond b passed passed
       go true = refl
       go false = refl
-
-  -- the first two bytes do not pass
-  pub refused_verdict : {at region : ℕ} → verdict mode (length mem) (fetch_access rs pc) ≡ Refused at region → Refused at region ≡ fetch_verdict mode rs mem pc
-  unfolding fetch_verdict
-  refused_verdict e = rw e refl
-
-  pub absent_verdict : {at : ℕ} → verdict mode (length mem) (fetch_access rs pc) ≡ Absent at → Absent at ≡ fetch_verdict mode rs mem pc
-  unfolding fetch_verdict
-  absent_verdict e = rw e refl
-
-  -- they do, and are a half-word; or the rest is to be asked
-  pub half_verdict : verdict mode (length mem) (fetch_access rs pc) ≡ passed → is_long (half_at mem pc) ≡ false → (Ok tt) ≡ fetch_verdict mode rs mem pc
-  unfolding fetch_verdict
-  half_verdict e l = rw (e, l) refl
-
-  pub long_verdict : {v : Verdict} → verdict mode (length mem) (fetch_access rs pc) ≡ passed → is_long (half_at mem pc) ≡ true
-      → v ≡ verdict mode (length mem) (fetch_access rs (sum pc 2)) → v ≡ fetch_verdict mode rs mem pc
-  unfolding fetch_verdict
-  long_verdict e l q = rw (e, l) q
 
   -- ---- what is in memory
 
@@ -70,7 +48,7 @@ module _ (mode : ℕ) (rs : List Region) (mem : List ℕ) (pc : ℕ) where
     pub long_fits : fetch_verdict mode rs mem pc ≡ passed → is_long (half_at mem pc) ≡ true → pc + 4 ≤ length mem
     unfolding fetch_verdict
     long_fits e l =
-        let b : (verdict mode (length mem) (fetch_access rs pc) ≡ passed) × (cond (is_long (half_at mem pc)) (verdict mode (length mem) (fetch_access rs (sum pc 2))) (Ok tt) ≡ passed) = both _ _ e in
+        let b : (verdict mode (length mem) (fetch_access rs pc) ≡ passed) × (cond (is_long (half_at mem pc)) (verdict mode (length mem) (fetch_access rs (sum pc 2))) passed ≡ passed) = both _ _ e in
         let w : verdict mode (length mem) (fetch_access rs (sum pc 2)) ≡ passed = rw l at b.1 in
         let f = passed_fits mode (length mem) (fetch_access rs pc) refl p q refl b.0 in
         let s = passed_fits mode (length mem) (fetch_access rs (sum pc 2)) refl (omega arith) q refl w in
@@ -78,11 +56,11 @@ module _ (mode : ℕ) (rs : List Region) (mem : List ℕ) (pc : ℕ) where
 
 -- ---- the word
 
-pub word_range : (mem : List ℕ) (pc : ℕ) (i : Instruction) → word_at mem pc ≡ Legal i → in_range i ≡ true
+pub word_range : (mem : List ℕ) (pc : ℕ) (i : Instruction) → word_at mem pc ≡ Some i → in_range i ≡ true
 unfolding word_at
 word_range mem pc i e = go (is_long (half_at mem pc)) e
   where
-    go : (b : Bool) → cond b (decode_word (value mem pc 0 4)) (expand_half (half_at mem pc)) ≡ Legal i → in_range i ≡ true
+    go : (b : Bool) → cond b (decode_word (value mem pc 0 4)) (expand_half (half_at mem pc)) ≡ Some i → in_range i ≡ true
     go true e = decoded_range _ i e
     go false e = expanded_range _ i e
 
@@ -95,10 +73,10 @@ step_fetched m mem e =
     rw (eq-eqb (m.pc % 2) 0 e)
     (go (verdict m.hfi.mode (length mem) (fetch_access m.hfi.regions m.pc)) (verdict m.hfi.mode (length mem) (fetch_access m.hfi.regions (sum m.pc 2))) (is_long (half_at mem m.pc)))
   where
-    d : Decoded
+    d : Option Instruction
     d = decode_word (value mem m.pc 0 4)
 
-    i : Decoded
+    i : Option Instruction
     i = expand_half (half_at mem m.pc)
 
     go : (v w : Verdict) (b : Bool)
@@ -114,11 +92,5 @@ module _ (m : Machine) (mem : List ℕ) (e : m.pc % 2 ≡ 0) where
   unfolding settle
   passed_step v = step_fetched m mem e ∙ rw v refl
 
-  pub refused_step : {at region : ℕ} → fetch_verdict m.hfi.mode m.hfi.regions mem m.pc ≡ Refused at region
-      → step m mem ≡ stopped 11 (faulted m fetch_op at region) mem
-  unfolding settle
-  refused_step v = step_fetched m mem e ∙ rw v refl
-
-  pub absent_step : {at : ℕ} → fetch_verdict m.hfi.mode m.hfi.regions mem m.pc ≡ Absent at → step m mem ≡ outcome 12 at m mem
-  unfolding settle
-  absent_step v = step_fetched m mem e ∙ rw v refl
+  pub denied_step : {d : Denied} {o : Outcome} → fetch_verdict m.hfi.mode m.hfi.regions mem m.pc ≡ Err d → o ≡ settle m mem fetch_op 11 12 (Err d) o → o ≡ step m mem
+  denied_step v e = e ∙ ?

@@ -7,7 +7,7 @@ ghost use Rattle.step.specs.Fetch.{half_at, fetch_verdict, size_at, word_at};
 use decode::decode;
 use expand::{expand, is_long};
 use hart::regions::REGION_NUMBERS;
-use instructions::instruction::Decoded;
+use instructions::instruction::Instruction;
 use memory::access::{check_fetch, fetches_whole};
 use memory::bytes::read;
 use model::Verdict;
@@ -55,7 +55,7 @@ pub fn size_at(mem: &[u8], pc: u64) -> u64
 
 // The instruction of the word at `pc`.
 #[tactic(auto, unfolding(crate::specs::Fetch::word_at))]
-pub fn word_at(mem: &[u8], pc: u64) -> Decoded
+pub fn word_at(mem: &[u8], pc: u64) -> Option<Instruction>
     requires { (pc + 2 ≤ length mem.now) × (is_long (half_at mem.now pc) ≡ true → pc + 4 ≤ length mem.now) }
     ensures { result ≡ word_at mem.now pc }
 {

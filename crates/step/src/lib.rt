@@ -14,7 +14,6 @@ use execute::execute;
 use hart::effect::{Effect, absent, faulted, stopped};
 use hart::regions::REGION_NUMBERS;
 use hart::state::Control;
-use instructions::instruction::Decoded;
 use model::{FETCH_OP, Verdict};
 use std::num::wrapping_add_u64;
 
@@ -36,8 +35,8 @@ fn execute_word(
     let next = wrapping_add_u64(pc, size_at(mem, pc));
     let d = word_at(mem, pc);
     match d {
-        Decoded::Legal(i) => execute(x, pc, hfi, rs, mem, next, i),
-        Decoded::Illegal => stopped(13, pc, hfi),
+        Some(i) => execute(x, pc, hfi, rs, mem, next, i),
+        None => stopped(13, pc, hfi),
     }
 }
 
