@@ -94,7 +94,7 @@ fn perform(m: &mut Machine, next: u64, k: HfiKind, rd: u64, rs1: u64, rs2: u64) 
 }
 
 // Question 8, and the rest of the step.
-#[tactic(auto, using(crate::proofs::Broken::stops), unfolding(model::specs::Step::execute_instruction, model::specs::Outcome::allowed, model::specs::Hfi::hfi_stop, model::specs::Step::perform))]
+#[tactic(auto, using(model::proofs::Stops::rule_stops), unfolding(model::specs::Step::execute_instruction, model::specs::Outcome::allowed, model::specs::Hfi::hfi_stop, model::specs::Step::perform))]
 pub fn hfi_word(
     m: &mut Machine,
     next: u64,

@@ -25,3 +25,4 @@ pub mod HfiWords
 pub mod Broken
 pub mod Formed
 pub mod Moves
+pub mod Stops

@@ -1,2 +1,1 @@
-pub mod Loop
 pub mod Isolated

@@ -1,6 +1,6 @@
 -- The step by one verdict on its fetch; and what a passed one says of memory.
 -- Assumes nothing.
-use Rattle.std.proofs.Common.{◌≡◌, ℕ, ◌+◌, ◌%◌, ◌^◌, ◌<◌, ◌≤◌, Bool, true, false, cond, List, length, refl, ◌∙◌, arith, eq-eqb, Option, Some, Ok, Err}
+use Rattle.std.proofs.Common.{◌≡◌, ℕ, ◌+◌, ◌%◌, ◌^◌, ◌<◌, ◌≤◌, Bool, true, false, cond, List, length, refl, ◌∙◌, arith, eq-eqb, Option, Some, Ok, Err, sym}
 use Rattle.instructions.specs.Decode.{decode_word}
 use Rattle.instructions.specs.Encode.{in_range}
 use Rattle.instructions.specs.declared.instruction.Instruction.{Instruction}
@@ -15,6 +15,7 @@ use Rattle.model.specs.Step.{execute_word, fetching, execute_fetched, step}
 use Rattle.model.specs.declared.Machine.{Machine}
 use Rattle.model.specs.declared.Region.{Region}
 use Rattle.model.specs.Access.{Verdict, passed}
+use Rattle.model.specs.declared.stop.Denied.{Denied}
 use Rattle.model.specs.declared.stop.Denied.TheVariants.{Refused, Absent}
 use Rattle.memory.specs.Loops.{fetches_whole}
 use Rattle.memory.proofs.Fits.{passed_fits}
@@ -92,5 +93,7 @@ module _ (m : Machine) (mem : List ℕ) (e : m.pc % 2 ≡ 0) where
   unfolding settle
   passed_step v = step_fetched m mem e ∙ rw v refl
 
-  pub denied_step : {d : Denied} {o : Outcome} → fetch_verdict m.hfi.mode m.hfi.regions mem m.pc ≡ Err d → o ≡ settle m mem fetch_op 11 12 (Err d) o → o ≡ step m mem
-  denied_step v e = e ∙ ?
+  -- whatever the word, which is not executed
+  pub denied_step : {d : Denied} → fetch_verdict m.hfi.mode m.hfi.regions mem m.pc ≡ Err d
+      → settle m mem fetch_op 11 12 (Err d) (execute_word m mem (size_at mem m.pc) (word_at mem m.pc)) ≡ step m mem
+  denied_step v = sym (step_fetched m mem e ∙ rw v refl)

@@ -1,73 +1,56 @@
 // The calls by value: a step, and resuming after a system call.
 ghost use Rattle.std.specs.Prelude.{◌≡◌};
 ghost use Rattle.model.specs.Step.{step_call, resume_call};
-ghost use Rattle.model.specs.Outcome.{stepped_with};
+ghost use Rattle.model.specs.Outcome.{answer_of, step_answer, stepped_with};
 
 use crate::step;
-use hart::regions::numbers_of;
-use hart::state::{control_of, state_of};
 use hart::well_formed::well_formed;
+use model::stop::Stop;
 use model::{LONGEST, Machine, Stepped};
 use writable_code::exposes_code;
 
-// A call that is refused: nothing has changed.
-fn refused(stop: u64, m: Machine) -> Stepped
-    ensures { result ≡ record { stop = stop; address = 0; machine = m } }
+// Questions 1, 3 and 4 of a step, and the step.
+#[tactic(auto, unfolding(model::specs::Step::step_call))]
+fn checked_step(m: &mut Machine, mem: &mut [u8]) -> Result<(), Stop>
+    ensures { stepped_with (answer_of result m.new) mem.new ≡ step_call m.old mem.old }
 {
-    Stepped {
-        stop: stop,
-        address: 0,
-        machine: m,
+    if LONGEST < mem.len() {
+        return Err(Stop::MemoryTooLong);
     }
+    if !well_formed(m) {
+        return Err(Stop::NotWellFormed);
+    }
+    if exposes_code(&m.hfi) {
+        return Err(Stop::WritableCode);
+    }
+    step(m, mem)
 }
 
 // One step of any machine over any memory.
-#[tactic(auto, unfolding(model::specs::Step::step_call))]
 pub fn step_call(m: Machine, mem: &mut [u8]) -> Stepped
-    ensures { stepped_with result mem.new ≡ step_call m mem.old }
+    ensures { stepped_with (step_answer result) mem.new ≡ step_call m mem.old }
 {
-    if LONGEST < mem.len() {
-        return refused(1, m);
-    }
-    if !well_formed(m) {
-        return refused(3, m);
-    }
-    let h = m.hfi;
-    let hfi = control_of(h);
-    let regions = h.regions;
-    let mut rs = numbers_of(regions);
-    if exposes_code(hfi, &rs) {
-        return refused(4, m);
-    }
-    let mut x = m.x;
-    let e = step(&mut x, m.pc, hfi, &mut rs, mem);
-    let after = e.hfi;
-    let n = Machine {
-        x: x,
-        pc: e.pc,
-        hfi: state_of(after, &rs),
-    };
-    Stepped {
-        stop: e.stop,
-        address: e.address,
-        machine: n,
-    }
+    let mut machine = m;
+    let stop = checked_step(&mut machine, mem);
+    Stepped { stop, machine }
 }
 
 // `v` in x10, and pc past the word that it stands at.
 #[tactic(auto, unfolding(model::specs::Step::resume_call))]
 pub fn resume_call(m: Machine, v: u64) -> Stepped
-    ensures { result ≡ resume_call m v }
+    ensures { step_answer result ≡ resume_call m v }
 {
-    if !well_formed(m) {
-        return refused(3, m);
+    let mut machine = m;
+    if !well_formed(&m) {
+        return Stepped {
+            stop: Err(Stop::NotWellFormed),
+            machine,
+        };
     }
-    let mut n = m;
-    n.x[10] = v;
-    n.pc = std::num::wrapping_add_u64(m.pc, 4);
+    machine.x[10] = v;
+    machine.pc = m.pc.wrapping_add(4);
     Stepped {
-        stop: 0,
-        address: 0,
-        machine: n,
+        stop: Ok(()),
+        machine,
     }
 }

@@ -1,47 +1,37 @@
 // The questions of a fetch, two bytes at a time, and the word that it brings.
 ghost use Rattle.std.specs.Prelude.{◌≡◌, ◌+◌, ◌≤◌, true, length};
 ghost use Rattle.compressed.specs.Expand.{is_long};
-ghost use Rattle.hart.specs.State.{regions_of};
 ghost use Rattle.step.specs.Fetch.{half_at, fetch_verdict, size_at, word_at};
 
 use decode::decode;
 use expand::{expand, is_long};
-use hart::regions::REGION_NUMBERS;
 use instructions::instruction::Instruction;
 use memory::access::{check_fetch, fetches_whole};
 use memory::bytes::read;
-use model::Verdict;
-use std::num::wrapping_add_u64;
+use model::HfiState;
+use model::stop::Denied;
 
 // Questions 5 and 6 by halves: of the two bytes at `pc` and, where these are of a long word, of the next two.
 #[tactic(auto, unfolding(crate::specs::Fetch::fetch_verdict))]
-fn check_halves(mode: u64, rs: &[u64; REGION_NUMBERS], mem: &[u8], pc: u64) -> Verdict
-    ensures { result ≡ fetch_verdict mode (regions_of rs.now) mem.now pc }
+fn check_halves(h: &HfiState, mem: &[u8], pc: u64) -> Result<(), Denied>
+    ensures { result ≡ fetch_verdict h.now.mode h.now.regions mem.now pc }
 {
     let len = mem.len() as u64;
-    let v = check_fetch(mode, rs, len, pc);
-    match v {
-        Verdict::Passed => {
-            let first = read(mem, pc, 2);
-            if is_long(first) {
-                check_fetch(mode, rs, len, wrapping_add_u64(pc, 2))
-            } else {
-                Verdict::Passed
-            }
-        }
-        Verdict::Refused(at, region) => Verdict::Refused(at, region),
-        Verdict::Absent(at) => Verdict::Absent(at),
+    check_fetch(h, len, pc)?;
+    if is_long(read(mem, pc, 2)) {
+        check_fetch(h, len, pc.wrapping_add(2))?;
     }
+    Ok(())
 }
 
 // Questions 5 and 6 of the word at `pc`. Where its four bytes pass whole, so does either half of them.
-pub fn check_word(mode: u64, rs: &[u64; REGION_NUMBERS], mem: &[u8], pc: u64) -> Verdict
-    ensures { result ≡ fetch_verdict mode (regions_of rs.now) mem.now pc }
+pub fn check_word(h: &HfiState, mem: &[u8], pc: u64) -> Result<(), Denied>
+    ensures { result ≡ fetch_verdict h.now.mode h.now.regions mem.now pc }
 {
-    if fetches_whole(mode, rs, mem.len() as u64, pc) {
-        Verdict::Passed
+    if fetches_whole(h, mem.len() as u64, pc) {
+        Ok(())
     } else {
-        check_halves(mode, rs, mem, pc)
+        check_halves(h, mem, pc)
     }
 }
 

@@ -1,14 +1,8 @@
-use Rattle.std.proofs.Common.{◌≡◌, ◌-◌, ◌≤◌}
+use Rattle.std.proofs.Common.{◌≡◌, ◌-◌}
 use Rattle.model.specs.Machine.{inside}
 use Rattle.model.specs.Run.{run}
-use Rattle.hart.specs.State.{hart}
 use Rattle.run.proofs.run.Given as goal
 
 -- what is left of the run, from here, ends as the whole of it does
 abbrev pub invariant-loop-count : goal.invariant-loop-count
-invariant-loop-count l =
-    (l.count ≤ l.budget)
-    × (run l.began (l.budget - l.count) l.count (hart l.x l.pc l.hfi l.rs) l.mem ≡ run (inside l.fn.m.hfi) l.budget 0 l.fn.m l.fn.mem)
-
-abbrev pub decreases-loop-count : goal.decreases-loop-count
-decreases-loop-count l = l.budget - l.count
+invariant-loop-count l = run l.began (l.budget - l.count) l.count l.m l.mem ≡ run (inside l.fn.m.hfi) l.budget 0 l.fn.m l.fn.mem

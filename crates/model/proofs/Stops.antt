@@ -1,0 +1,40 @@
+-- No stop and no broken rule has the number 0, which a completed step answers.
+-- Assumes nothing.
+use Rattle.std.proofs.Common.{◌≡◌, false, eqb, refl}
+use borrow.Author.Tests.{eqb-false}
+use Rattle.model.specs.Stops.{rule_number, stop_number}
+use Rattle.model.specs.declared.stop.Op.TheVariants.{Load, Store, Fetch}
+use Rattle.model.specs.declared.stop.Rule.{Rule}
+use Rattle.model.specs.declared.stop.Rule.TheVariants.{Operand, WritableCode as EntersWritableCode, AlreadyInside, NotInside, Locked}
+use Rattle.model.specs.declared.stop.Stop.{Stop}
+use Rattle.model.specs.declared.stop.Stop.TheVariants.{MemoryTooLong, BudgetTooLarge, NotWellFormed, WritableCode, OddPc, AccessRefused, AccessAbsent, IllegalWord, Broken, OddTarget, SystemCall, Breakpoint, LeftSandbox, OutOfBudget}
+
+pub rule_stops : (r : Rule) → eqb (rule_number r) 0 ≡ false
+rule_stops Operand = refl
+rule_stops EntersWritableCode = refl
+rule_stops AlreadyInside = refl
+rule_stops NotInside = refl
+rule_stops Locked = refl
+
+pub stops : (s : Stop) → eqb (stop_number s) 0 ≡ false
+stops MemoryTooLong = refl
+stops BudgetTooLarge = refl
+stops NotWellFormed = refl
+stops WritableCode = refl
+stops OddPc = refl
+stops (AccessRefused Load) = refl
+stops (AccessRefused Store) = refl
+stops (AccessRefused Fetch) = refl
+stops (AccessAbsent Load at) = refl
+stops (AccessAbsent Store at) = refl
+stops (AccessAbsent Fetch at) = refl
+stops IllegalWord = refl
+stops (Broken rule) = rule_stops rule
+stops OddTarget = refl
+stops SystemCall = refl
+stops Breakpoint = refl
+stops LeftSandbox = refl
+stops OutOfBudget = refl
+
+pub never_zero : (s : Stop) → stop_number s ≡ 0 → ⊥
+never_zero s = eqb-false (stop_number s) 0 (stops s)
