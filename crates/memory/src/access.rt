@@ -61,7 +61,7 @@ fn first_refused_implicit(
 ) -> u64
     ensures { result ≡ first_refused h.now.mode (implicit_access h.now.regions ns.now (permission_bit wanted) a n) }
 {
-    first_failing(n, |i| h.mode == 0 || grants(&h.regions, ns, wanted, a.wrapping_add(i)))
+    first_failing(n, move |i| h.mode == 0 || grants(&h.regions, ns, wanted, a.wrapping_add(i)))
 }
 
 // Does the implicit region keep its rule and have the bytes at `a` and `last`, with the permission? Then it has those between.
@@ -125,14 +125,14 @@ fn first_refused_explicit(
 {
     let ok = (explicit_rule(r) & permits(wanted, r)) & (operand < FAR);
     let sum = operand.wrapping_add(imm);
-    first_failing(n, |i| (mode == 0) | (ok & (sum.wrapping_add(i) < r.bound)))
+    first_failing(n, move |i| (mode == 0) | (ok & (sum.wrapping_add(i) < r.bound)))
 }
 
-// The first byte that is not in a memory of `len` bytes, or `n`.
+// The first byte that is not in a memory of `len` bytes, or `n`: memory is one piece from 0 on, so it is byte 0 or the one at the end.
 fn first_absent(len: u64, a: u64, n: u64) -> u64
     ensures { result ≡ first_absent len a n }
 {
-    first_failing(n, |i| a.wrapping_add(i) < len)
+    if a < len { n.min(len - a) } else { 0 }
 }
 
 // What is left to ask of an access whose bytes are all granted.
