@@ -4,6 +4,7 @@
 ghost use Rattle.std.specs.Prelude.{◌≡◌, true, ◌<◌};
 ghost use Rattle.instructions.specs.Encode.{encode_fields, two, multiple as is_multiple, in_range, encode_word};
 
+pub mod answer;
 pub mod format;
 pub mod h_word;
 
