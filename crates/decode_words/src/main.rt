@@ -2,11 +2,12 @@
 // has what LLVM, document 01 and QEMU say of the words. data/README.md has the columns.
 #![tactic(auto)]
 
-ghost use Rattle.std.specs.Prelude.{◌≡◌};
+ghost use Rattle.std.specs.Prelude.{◌≡◌, ◌<◌};
 ghost use Rattle.instructions.specs.Answers.{decode_number};
 
-use columns::{column, hexadecimal_at, print, print_decimal, print_hexadecimal, read_file};
+use columns::{column, hexadecimal_at, print, read_file};
 use decode::decode;
+use encode::answer::Encoding;
 use encode::encode;
 use instructions::instruction::Instruction;
 use std::io;
@@ -22,65 +23,39 @@ fn number_of(d: Option<Instruction>) -> u64
     }
 }
 
-fn print_encoded(rt: &impl Print, e: Option<u32>) -> io::Result<()> {
-    match e {
-        Some(w) => print_hexadecimal(rt, w as u64, 8),
-        None => print(rt, b"out of range"),
-    }
-}
-
 // The word, its number and, for a legal one, the word that encoding the decoded instruction gives.
 fn print_word(rt: &impl Print, w: u32) -> io::Result<()> {
     let d = decode(w);
-    print_hexadecimal(rt, w as u64, 8)?;
-    print(rt, b" ")?;
-    print_decimal(rt, number_of(d))?;
+    print!(rt; "{w:08x} {}", number_of(d))?;
     if let Some(i) = d {
-        print(rt, b" ")?;
-        print_encoded(rt, encode(i))?;
+        print!(rt; " {}", Encoding(encode(i)))?;
     }
-    print(rt, b"\n")
+    println!(rt)
 }
 
-// The word of a record is its first column.
-fn word_of(r: &[u8]) -> u32 {
-    (hexadecimal_at(r, 0, 8) % 4294967296) as u32
-}
-
-// Words with a text: 45 bytes each.
-fn rows(rt: &impl Print, s: &[u8]) -> io::Result<()> {
-    for r in s.chunks_exact(45) {
-        print(rt, column(r, 9, 24))?;
-        print_word(rt, word_of(r))?;
-    }
-    Ok(())
-}
-
-// Words alone: 9 bytes each.
-fn words(rt: &impl Print, s: &[u8]) -> io::Result<()> {
-    for r in s.chunks_exact(9) {
-        print_word(rt, word_of(r))?;
-    }
-    Ok(())
-}
-
-fn rows_of(rt: &(impl Files + Print + Eprint), path: &str) -> io::Result<()> {
-    let mut room = [0u8; 16384];
-    let n = read_file(rt, path, &mut room);
-    rows(rt, &room[..n])
-}
-
-fn words_of(rt: &(impl Files + Print + Eprint), path: &str) -> io::Result<()> {
+// A record's word is its first column, and its text, where it has one, the second.
+fn print_records(
+    rt: &(impl Files + Print + Eprint),
+    path: &str,
+    record_size: usize,
+) -> io::Result<()>
+    requires { 0 < record_size }
+{
     let mut room = [0u8; 131072];
     let n = read_file(rt, path, &mut room);
-    words(rt, &room[..n])
+    for r in room[..n].chunks_exact(record_size) {
+        let w = (hexadecimal_at(r, 0, 8) % 4294967296) as u32;
+        print(rt, column(r, 9, 24))?;
+        print_word(rt, w)?;
+    }
+    Ok(())
 }
 
 fn main(rt: HostRuntime) -> io::Result<()> {
-    print(&rt, b"llvm\n")?;
-    rows_of(&rt, "llvm.columns")?;
-    print(&rt, b"document\n")?;
-    rows_of(&rt, "document.columns")?;
-    print(&rt, b"words\n")?;
-    words_of(&rt, "words.columns")
+    println!(rt; "llvm")?;
+    print_records(&rt, "llvm.columns", 45)?;
+    println!(rt; "document")?;
+    print_records(&rt, "document.columns", 45)?;
+    println!(rt; "words")?;
+    print_records(&rt, "words.columns", 9)
 }

@@ -4,6 +4,7 @@ ghost use Rattle.instructions.specs.Fields.{word_of};
 ghost use Rattle.instructions.specs.InWord.{InWord};
 ghost use Rattle.instructions.specs.Encode.{r_fields, i_fields, s_fields, b_fields, u_fields, j_fields, shift_fields, fence_fields};
 
+use instructions::code::Coded;
 use instructions::fields::Fields;
 use instructions::kind::ShiftKind;
 use instructions::opcode::{MISC_MEM, OP_IMM};
@@ -14,11 +15,11 @@ pub fn r_fields(opcode: u64, code: u64, rd: u64, rs1: u64, rs2: u64) -> Fields
     ensures { result ≡ r_fields opcode code rd rs1 rs2 }
 {
     Fields {
-        opcode: opcode,
-        rd: rd,
+        opcode,
+        rd,
         funct3: bits(code, 0, 3),
-        rs1: rs1,
-        rs2: rs2,
+        rs1,
+        rs2,
         funct7: bits(code, 3, 7),
     }
 }
@@ -27,10 +28,10 @@ pub fn i_fields(opcode: u64, funct3: u64, rd: u64, rs1: u64, imm: u64) -> Fields
     ensures { result ≡ i_fields opcode funct3 rd rs1 imm }
 {
     Fields {
-        opcode: opcode,
-        rd: rd,
-        funct3: funct3,
-        rs1: rs1,
+        opcode,
+        rd,
+        funct3,
+        rs1,
         rs2: bits(imm, 0, 5),
         funct7: bits(imm, 5, 7),
     }
@@ -40,11 +41,11 @@ pub fn s_fields(opcode: u64, funct3: u64, rs1: u64, rs2: u64, imm: u64) -> Field
     ensures { result ≡ s_fields opcode funct3 rs1 rs2 imm }
 {
     Fields {
-        opcode: opcode,
+        opcode,
         rd: bits(imm, 0, 5),
-        funct3: funct3,
-        rs1: rs1,
-        rs2: rs2,
+        funct3,
+        rs1,
+        rs2,
         funct7: bits(imm, 5, 7),
     }
 }
@@ -53,11 +54,11 @@ pub fn b_fields(opcode: u64, funct3: u64, rs1: u64, rs2: u64, imm: u64) -> Field
     ensures { result ≡ b_fields opcode funct3 rs1 rs2 imm }
 {
     Fields {
-        opcode: opcode,
+        opcode,
         rd: put(bits(imm, 11, 1), bits(imm, 1, 4), 1),
-        funct3: funct3,
-        rs1: rs1,
-        rs2: rs2,
+        funct3,
+        rs1,
+        rs2,
         funct7: put(bits(imm, 5, 6), bits(imm, 12, 1), 6),
     }
 }
@@ -66,8 +67,8 @@ pub fn u_fields(opcode: u64, rd: u64, imm: u64) -> Fields
     ensures { result ≡ u_fields opcode rd imm }
 {
     Fields {
-        opcode: opcode,
-        rd: rd,
+        opcode,
+        rd,
         funct3: bits(imm, 12, 3),
         rs1: bits(imm, 15, 5),
         rs2: bits(imm, 20, 5),
@@ -79,8 +80,8 @@ pub fn j_fields(opcode: u64, rd: u64, imm: u64) -> Fields
     ensures { result ≡ j_fields opcode rd imm }
 {
     Fields {
-        opcode: opcode,
-        rd: rd,
+        opcode,
+        rd,
         funct3: bits(imm, 12, 3),
         rs1: bits(imm, 15, 5),
         rs2: put(bits(imm, 11, 1), bits(imm, 1, 4), 1),

@@ -6,28 +6,25 @@ ghost use Rattle.instructions.specs.Encode.{encode_fields, h_word};
 ghost use Rattle.instructions.specs.declared.instruction.Instruction.TheVariants.{HLoad, HStore};
 
 use crate::format::{i_fields, s_fields};
+use instructions::code::Coded;
 use instructions::fields::Fields;
+use instructions::instruction::EXPLICIT_REGIONS;
 use instructions::kind::{LoadKind, StoreKind};
 use instructions::opcode::{H_LOAD, H_STORE};
 use words::{bits, fits_signed, put};
 
-// The choice that means an explicit region. For any other it is 4, which two bits cannot hold.
+// The choice that means an explicit region; for any other it is their count, which two bits cannot hold.
 fn choice_of(region: u64) -> u64
     ensures { result ≡ place_in explicit_regions region }
 {
-    match region {
-        1 => 0,
-        4 => 1,
-        5 => 2,
-        6 => 3,
-        _ => 4,
-    }
+    let place = EXPLICIT_REGIONS.iter().position(|&r| r == region);
+    place.unwrap_or(EXPLICIT_REGIONS.len()) as u64
 }
 
 pub fn h_word_in_range(region: u64, a: u64, b: u64, imm: u64) -> bool
     ensures { result ≡ h_word region a b (fits_signed 12 imm) }
 {
-    (choice_of(region) < 4) & ((a < 16) & ((b < 16) & fits_signed(imm, 12)))
+    choice_of(region) < 4 && a < 16 && b < 16 && fits_signed(imm, 12)
 }
 
 fn rs1_field(region: u64, register: u64) -> u64

@@ -4,6 +4,7 @@
 ghost use Rattle.std.specs.Prelude.{◌≡◌, true, ◌<◌};
 ghost use Rattle.instructions.specs.Encode.{encode_fields, two, multiple as is_multiple, in_range, encode_word};
 
+pub mod answer;
 pub mod format;
 pub mod h_word;
 
@@ -11,6 +12,7 @@ use crate::format::{
     b_fields, fence_fields, i_fields, j_fields, join, r_fields, s_fields, shift_fields, u_fields,
 };
 use crate::h_word::{h_load_fields, h_store_fields, h_word_in_range};
+use instructions::code::Coded;
 use instructions::fields::Fields;
 use instructions::hfi_table::fields_named;
 use instructions::instruction::Instruction;
@@ -22,7 +24,7 @@ use words::{bits, fits_signed, put};
 fn two_registers(a: u64, b: u64, rest: bool) -> bool
     ensures { result ≡ two a b rest }
 {
-    (a < 32) & ((b < 32) & rest)
+    a < 32 && b < 32 && rest
 }
 
 // Can a signed field of `width` bits express `x`, with its `low` lowest bits zero?
@@ -30,15 +32,15 @@ fn multiple(x: u64, width: u64, low: u64) -> bool
     requires { (0 < width) × (width < 64) × (low < 64) }
     ensures { result ≡ is_multiple width low x }
 {
-    fits_signed(x, width) & (bits(x, 0, low) == 0)
+    fits_signed(x, width) && bits(x, 0, low) == 0
 }
 
 fn in_range(i: Instruction) -> bool
     ensures { result ≡ in_range i }
 {
     match i {
-        Instruction::Upper(_, rd, imm) => (rd < 32) & multiple(imm, 32, 12),
-        Instruction::Jal(rd, offset) => (rd < 32) & multiple(offset, 21, 1),
+        Instruction::Upper(_, rd, imm) => rd < 32 && multiple(imm, 32, 12),
+        Instruction::Jal(rd, offset) => rd < 32 && multiple(offset, 21, 1),
         Instruction::Jalr(rd, rs1, imm) => two_registers(rd, rs1, fits_signed(imm, 12)),
         Instruction::Branch(_, rs1, rs2, imm) => two_registers(rs1, rs2, multiple(imm, 13, 1)),
         Instruction::Load(_, rd, rs1, imm) => two_registers(rd, rs1, fits_signed(imm, 12)),
@@ -52,7 +54,7 @@ fn in_range(i: Instruction) -> bool
         Instruction::Fence(fm, pred, succ, rs1, rd) => two_registers(
             rd,
             rs1,
-            (fm < 16) & ((pred < 16) & (succ < 16)),
+            fm < 16 && pred < 16 && succ < 16,
         ),
         Instruction::System(_) => true,
         Instruction::HLoad(_, region, rd, rs1, imm) => h_word_in_range(region, rd, rs1, imm),
@@ -60,7 +62,7 @@ fn in_range(i: Instruction) -> bool
         Instruction::Hfi(k, rd, rs1, rs2) => two_registers(
             rd,
             rs1,
-            (rs2 < 32) & fields_named(k.code(), rd, rs1, rs2),
+            rs2 < 32 && fields_named(k.code(), rd, rs1, rs2),
         ),
     }
 }
@@ -90,13 +92,10 @@ fn encode_fields(i: Instruction) -> Fields
     }
 }
 
-// The word of any instruction.
+// The word of any instruction; none where a field is out of range.
+#[tactic(auto, using(instructions::proofs::DecodeEncode::encode_in_word), unfolding(instructions::specs::Encode::encode_word))]
 pub fn encode(i: Instruction) -> Option<u32>
     ensures { result ≡ encode_word i }
 {
-    if in_range(i) {
-        Some(join(encode_fields(i)))
-    } else {
-        None
-    }
+    in_range(i).then(|| join(encode_fields(i)))
 }

@@ -7,20 +7,16 @@ ghost use Rattle.compressed.specs.Immediates.{short as short_of};
 ghost use Rattle.compressed.specs.Expand.{expand_half, is_long};
 
 pub mod immediate;
-pub mod legal;
 
 use crate::immediate::{
     addi4spn_immediate, addi16sp_immediate, amount, branch_offset, double_from_stack,
     double_offset, double_to_stack, immediate, jump_offset, lui_immediate, word_from_stack,
     word_offset, word_to_stack,
 };
-use crate::legal::{
-    addiw, branch, ebreak, jal, jalr, load, lui, register, register_word, shift, store,
-    with_immediate,
-};
 use instructions::instruction::Instruction;
 use instructions::kind::{
     BranchKind, ImmediateKind, LoadKind, RegisterKind, RegisterWordKind, ShiftKind, StoreKind,
+    SystemKind, UpperKind,
 };
 use words::{bits, put};
 
@@ -39,18 +35,13 @@ fn quadrant_0(h: u64) -> Option<Instruction>
 {
     let rs1 = short(h, 7);
     let rs2 = short(h, 2);
-    let funct3 = bits(h, 13, 3);
-    match funct3 {
-        0 => {
-            if bits(h, 5, 8) == 0 {
-                return None;
-            }
-            with_immediate(ImmediateKind::Addi, rs2, 2, addi4spn_immediate(h))
-        }
-        2 => load(LoadKind::Lw, rs2, rs1, word_offset(h)),
-        3 => load(LoadKind::Ld, rs2, rs1, double_offset(h)),
-        6 => store(StoreKind::Sw, rs1, rs2, word_offset(h)),
-        7 => store(StoreKind::Sd, rs1, rs2, double_offset(h)),
+    match bits(h, 13, 3) {
+        0 if bits(h, 5, 8) == 0 => None,
+        0 => Some(Instruction::Immediate(ImmediateKind::Addi, rs2, 2, addi4spn_immediate(h))),
+        2 => Some(Instruction::Load(LoadKind::Lw, rs2, rs1, word_offset(h))),
+        3 => Some(Instruction::Load(LoadKind::Ld, rs2, rs1, double_offset(h))),
+        6 => Some(Instruction::Store(StoreKind::Sw, rs1, rs2, word_offset(h))),
+        7 => Some(Instruction::Store(StoreKind::Sd, rs1, rs2, double_offset(h))),
         _ => None,
     }
 }
@@ -61,14 +52,14 @@ fn upper(h: u64) -> Option<Instruction>
     requires { (h < 2 ^ 16) × (field h 0 2 ≡ 1) × (field h 13 3 ≡ 3) }
     ensures { result ≡ expand_half h }
 {
-    if (bits(h, 12, 1) == 0) & (bits(h, 2, 5) == 0) {
+    if bits(h, 12, 1) == 0 && bits(h, 2, 5) == 0 {
         return None;
     }
     let rd = bits(h, 7, 5);
     if rd == 2 {
-        return with_immediate(ImmediateKind::Addi, 2, 2, addi16sp_immediate(h));
+        return Some(Instruction::Immediate(ImmediateKind::Addi, 2, 2, addi16sp_immediate(h)));
     }
-    lui(rd, lui_immediate(h))
+    Some(Instruction::Upper(UpperKind::Lui, rd, lui_immediate(h)))
 }
 
 // The C.xx between two of x8 to x15.
@@ -79,14 +70,13 @@ fn between_registers(h: u64) -> Option<Instruction>
 {
     let rd = short(h, 7);
     let rs2 = short(h, 2);
-    let code = put(bits(h, 5, 2), bits(h, 12, 1), 2);
-    match code {
-        0 => register(RegisterKind::Sub, rd, rd, rs2),
-        1 => register(RegisterKind::Xor, rd, rd, rs2),
-        2 => register(RegisterKind::Or, rd, rd, rs2),
-        3 => register(RegisterKind::And, rd, rd, rs2),
-        4 => register_word(RegisterWordKind::Subw, rd, rd, rs2),
-        5 => register_word(RegisterWordKind::Addw, rd, rd, rs2),
+    match put(bits(h, 5, 2), bits(h, 12, 1), 2) {
+        0 => Some(Instruction::Register(RegisterKind::Sub, rd, rd, rs2)),
+        1 => Some(Instruction::Register(RegisterKind::Xor, rd, rd, rs2)),
+        2 => Some(Instruction::Register(RegisterKind::Or, rd, rd, rs2)),
+        3 => Some(Instruction::Register(RegisterKind::And, rd, rd, rs2)),
+        4 => Some(Instruction::RegisterWord(RegisterWordKind::Subw, rd, rd, rs2)),
+        5 => Some(Instruction::RegisterWord(RegisterWordKind::Addw, rd, rd, rs2)),
         _ => None,
     }
 }
@@ -98,11 +88,10 @@ fn arithmetic(h: u64) -> Option<Instruction>
     ensures { result ≡ expand_half h }
 {
     let rd = short(h, 7);
-    let group = bits(h, 10, 2);
-    match group {
-        0 => shift(ShiftKind::Srli, rd, rd, amount(h)),
-        1 => shift(ShiftKind::Srai, rd, rd, amount(h)),
-        2 => with_immediate(ImmediateKind::Andi, rd, rd, immediate(h)),
+    match bits(h, 10, 2) {
+        0 => Some(Instruction::Shift(ShiftKind::Srli, rd, rd, amount(h))),
+        1 => Some(Instruction::Shift(ShiftKind::Srai, rd, rd, amount(h))),
+        2 => Some(Instruction::Immediate(ImmediateKind::Andi, rd, rd, immediate(h))),
         _ => between_registers(h),
     }
 }
@@ -114,21 +103,16 @@ fn quadrant_1(h: u64) -> Option<Instruction>
 {
     let rd = bits(h, 7, 5);
     let rs1 = short(h, 7);
-    let funct3 = bits(h, 13, 3);
-    match funct3 {
-        0 => with_immediate(ImmediateKind::Addi, rd, rd, immediate(h)),
-        1 => {
-            if rd == 0 {
-                return None;
-            }
-            addiw(rd, rd, immediate(h))
-        }
-        2 => with_immediate(ImmediateKind::Addi, rd, 0, immediate(h)),
+    match bits(h, 13, 3) {
+        0 => Some(Instruction::Immediate(ImmediateKind::Addi, rd, rd, immediate(h))),
+        1 if rd == 0 => None,
+        1 => Some(Instruction::Addiw(rd, rd, immediate(h))),
+        2 => Some(Instruction::Immediate(ImmediateKind::Addi, rd, 0, immediate(h))),
         3 => upper(h),
         4 => arithmetic(h),
-        5 => jal(0, jump_offset(h)),
-        6 => branch(BranchKind::Beq, rs1, 0, branch_offset(h)),
-        _ => branch(BranchKind::Bne, rs1, 0, branch_offset(h)),
+        5 => Some(Instruction::Jal(0, jump_offset(h))),
+        6 => Some(Instruction::Branch(BranchKind::Beq, rs1, 0, branch_offset(h))),
+        _ => Some(Instruction::Branch(BranchKind::Bne, rs1, 0, branch_offset(h))),
     }
 }
 
@@ -140,23 +124,14 @@ fn jump_or_add(h: u64) -> Option<Instruction>
 {
     let rd = bits(h, 7, 5);
     let rs2 = bits(h, 2, 5);
-    let second = bits(h, 12, 1) != 0;
-    if rs2 != 0 {
-        if second {
-            return register(RegisterKind::Add, rd, rd, rs2);
-        }
-        return register(RegisterKind::Add, rd, 0, rs2);
+    match (bits(h, 12, 1), rd, rs2) {
+        (0, 0, 0) => None,
+        (0, _, 0) => Some(Instruction::Jalr(0, rd, 0)),
+        (0, _, _) => Some(Instruction::Register(RegisterKind::Add, rd, 0, rs2)),
+        (_, 0, 0) => Some(Instruction::System(SystemKind::Ebreak)),
+        (_, _, 0) => Some(Instruction::Jalr(1, rd, 0)),
+        _ => Some(Instruction::Register(RegisterKind::Add, rd, rd, rs2)),
     }
-    if rd != 0 {
-        if second {
-            return jalr(1, rd, 0);
-        }
-        return jalr(0, rd, 0);
-    }
-    if second {
-        return ebreak();
-    }
-    None
 }
 
 #[tactic(auto, unfolding(compressed::specs::Expand::expand_half))]
@@ -166,24 +141,14 @@ fn quadrant_2(h: u64) -> Option<Instruction>
 {
     let rd = bits(h, 7, 5);
     let rs2 = bits(h, 2, 5);
-    let funct3 = bits(h, 13, 3);
-    match funct3 {
-        0 => shift(ShiftKind::Slli, rd, rd, amount(h)),
-        2 => {
-            if rd == 0 {
-                return None;
-            }
-            load(LoadKind::Lw, rd, 2, word_from_stack(h))
-        }
-        3 => {
-            if rd == 0 {
-                return None;
-            }
-            load(LoadKind::Ld, rd, 2, double_from_stack(h))
-        }
+    match bits(h, 13, 3) {
+        0 => Some(Instruction::Shift(ShiftKind::Slli, rd, rd, amount(h))),
+        2 | 3 if rd == 0 => None,
+        2 => Some(Instruction::Load(LoadKind::Lw, rd, 2, word_from_stack(h))),
+        3 => Some(Instruction::Load(LoadKind::Ld, rd, 2, double_from_stack(h))),
         4 => jump_or_add(h),
-        6 => store(StoreKind::Sw, 2, rs2, word_to_stack(h)),
-        7 => store(StoreKind::Sd, 2, rs2, double_to_stack(h)),
+        6 => Some(Instruction::Store(StoreKind::Sw, 2, rs2, word_to_stack(h))),
+        7 => Some(Instruction::Store(StoreKind::Sd, 2, rs2, double_to_stack(h))),
         _ => None,
     }
 }
@@ -194,8 +159,7 @@ pub fn expand(h: u16) -> Option<Instruction>
     ensures { result ≡ expand_half h }
 {
     let x = h as u64;
-    let op = bits(x, 0, 2);
-    match op {
+    match bits(x, 0, 2) {
         0 => quadrant_0(x),
         1 => quadrant_1(x),
         2 => quadrant_2(x),

@@ -30,8 +30,8 @@ use Rattle.instructions.specs.declared.kind.HfiKind.{HfiKind}
 use Rattle.instructions.specs.declared.instruction.Instruction.{Instruction}
 use Rattle.instructions.specs.declared.instruction.Instruction.TheVariants.{Upper, Jal, Jalr, Branch, Load, Store, Immediate, Shift, Addiw, ShiftWord, Register, RegisterWord, Fence, System, HLoad, HStore, Hfi}
 use Rattle.instructions.proofs.Tests.{and_of, one_all, two_all, amount_range, fence_range, h_load_range, h_store_range}
-use Rattle.instructions.proofs.Tables.{found_with, upper_code_lem, branch_code_lem, load_code_lem, store_code_lem, immediate_code_lem, shift_code_lem, shift_word_code_lem, register_code_lem, register_word_code_lem, system_code_lem, hfi_code_lem, shift_apart, shift_word_apart}
 use Rattle.instructions.proofs.Named.{named_row}
+use Rattle.instructions.proofs.Tables.{made_of, found_with, upper_code_lem, branch_code_lem, load_code_lem, store_code_lem, immediate_code_lem, shift_code_lem, shift_word_code_lem, register_code_lem, register_word_code_lem, system_code_lem, hfi_code_lem, shift_apart, shift_word_apart}
 use Rattle.instructions.proofs.HWords.{rs1_read, other_read, region_read}
 use Rattle.instructions.proofs.Formats.{r_in_word, i_in_word, s_in_word, h_load_in_word, h_store_in_word, b_in_word, u_in_word, j_in_word, r_read, i_bits_whole, i_read, s_read, b_read, u_read, j_read}
 
@@ -117,13 +117,13 @@ decode_encode (Addiw rd rs1 x) h = ap (λ (y : ℕ). Some (Addiw rd rs1 y)) (i_r
 decode_encode (ShiftWord k rd rs1 amount) h =
     rw (shift_word_apart k)
     (ap (λ (n : ℕ). shift_word_at n rd rs1 amount) (r_read OP_IMM_32 (shift_word_code k) rd rs1 amount (shift_word_code_lem k).small)
-    ∙ (shift_word_code_lem k).found (Option Instruction) (λ (j : ShiftWordKind). Some (ShiftWord j rd rs1 amount)) None)
+    ∙ made_of (shift_word_code_lem k) (λ (j : ShiftWordKind). Some (ShiftWord j rd rs1 amount)) None)
 decode_encode (Register k rd rs1 rs2) h =
     ap (λ (n : ℕ). register_at n rd rs1 rs2) (r_read OP (register_code k) rd rs1 rs2 (register_code_lem k).small)
-    ∙ (register_code_lem k).found (Option Instruction) (λ (j : RegisterKind). Some (Register j rd rs1 rs2)) None
+    ∙ made_of (register_code_lem k) (λ (j : RegisterKind). Some (Register j rd rs1 rs2)) None
 decode_encode (RegisterWord k rd rs1 rs2) h =
     ap (λ (n : ℕ). register_word_at n rd rs1 rs2) (r_read OP_32 (register_word_code k) rd rs1 rs2 (register_word_code_lem k).small)
-    ∙ (register_word_code_lem k).found (Option Instruction) (λ (j : RegisterWordKind). Some (RegisterWord j rd rs1 rs2)) None
+    ∙ made_of (register_word_code_lem k) (λ (j : RegisterWordKind). Some (RegisterWord j rd rs1 rs2)) None
 decode_encode (Fence fm pred succ rs1 rd) h =
     let t = fence_range fm pred succ rs1 rd h in
     let p = fence_parts fm pred succ rs1 rd t.0 t.1 t.2 in
@@ -132,7 +132,7 @@ decode_encode (Fence fm pred succ rs1 rd) h =
     ∙ ap (λ (z : ℕ). Some (Fence fm pred z rs1 rd)) p.2
 decode_encode (System k) h =
     ap system_at (i_bits_whole SYSTEM 0 0 0 (system_code k) (system_code_lem k).small)
-    ∙ (system_code_lem k).found (Option Instruction) (λ (j : SystemKind). Some (System j)) None
+    ∙ made_of (system_code_lem k) (λ (j : SystemKind). Some (System j)) None
 decode_encode (HLoad k region rd rs1 x) h =
     let t = h_load_range k region rd rs1 x h in
     let a = rs1_field region rs1 in
@@ -153,4 +153,4 @@ decode_encode (Hfi k rd rs1 rs2) h =
     let p = field_put 3 7 {q = 0} (hfi_code_lem k).small (lit< tt) in
     ap (λ (n : ℕ). provided (eqb f.funct3 0 && named_at n rd rs1 rs2) (hfi_at n rd rs1 rs2)) p.0
     ∙ ap (λ (b : Bool). provided b (hfi_at (hfi_code k) rd rs1 rs2)) (and_of (eq-eqb _ 0 p.1) (named_row k rd rs1 rs2 ∙ n))
-    ∙ (hfi_code_lem k).found (Option Instruction) (λ (j : HfiKind). Some (Hfi j rd rs1 rs2)) None
+    ∙ made_of (hfi_code_lem k) (λ (j : HfiKind). Some (Hfi j rd rs1 rs2)) None

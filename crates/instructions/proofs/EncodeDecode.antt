@@ -30,8 +30,8 @@ use Rattle.instructions.specs.declared.kind.HfiKind.{HfiKind}
 use Rattle.instructions.specs.declared.instruction.Instruction.{Instruction}
 use Rattle.instructions.specs.declared.instruction.Instruction.TheVariants.{Jalr, Branch, Load, Store, Immediate, Shift, ShiftWord, Register, RegisterWord, Fence, System, HLoad, HStore, Hfi}
 use Rattle.instructions.proofs.Tests.{and_both, and_of, two_of}
-use Rattle.instructions.proofs.Tables.{◌⊗◌, cond_ind, lookup_ind, code_ind}
 use Rattle.instructions.proofs.Named.{named_row}
+use Rattle.instructions.proofs.Tables.{◌⊗◌, cond_ind, lookup_ind, code_ind}
 use Rattle.instructions.proofs.Formats.{i_bits_lt, r_back, i_bits_back, i_back, s_back, h_load_back, h_store_back, b_back, u_back, j_back}
 
 -- ---- what fields are decoded to has these fields, and is in range

@@ -52,7 +52,7 @@ get_place : (choice : ℕ) → choice < 4
     × (among (get_or explicit_regions choice 0) explicit_regions ≡ true)
 get_place choice h =
     let region = get_or explicit_regions choice 0 in
-    let p = and_both (eqb (place_in explicit_regions region) choice) _ (every_at stands explicit_regions refl choice h) in
+    let p = and_both (eqb (place_in explicit_regions region) choice) _ (every_at stands explicit_regions 0 refl choice h) in
     (eqb-true _ choice p.0, p.1)
 
 -- ---- two fields, and what they stand for

@@ -1,7 +1,9 @@
-// The code of each kind: the number of its function fields, of its opcode, or document 01's funct7. Here alone it is
-// written out; decoding, encoding and the codec for C use these names.
-ghost use Rattle.std.specs.Prelude.{◌≡◌};
-ghost use Rattle.instructions.specs.Kinds.{upper_code, branch_code, load_code, store_code, immediate_code, shift_code, shift_word_code, register_code, register_word_code, system_code, hfi_code};
+// Kinds and their codes, both ways: the numbers of their function fields, of their opcode, or document 01's funct7. A code
+// is the discriminant of its kind; a pattern cannot name a discriminant, so `of_code` has each number again, proved to be the same.
+ghost use Rattle.std.specs.Prelude.{◌≡◌, List, ℕ, Some, None};
+ghost use Rattle.instructions.specs.Table.{of_code, Found};
+ghost use Rattle.instructions.specs.Kinds.{upper_code, upper_kinds, branch_code, branch_kinds, load_code, load_kinds, store_code, store_kinds, immediate_code, immediate_kinds, shift_code, shift_kinds, shift_word_code, shift_word_kinds, register_code, register_kinds, register_word_code, register_word_kinds, system_code, system_kinds, hfi_code, hfi_kinds};
+ghost use Rattle.std.proofs.Common.{rules};
 
 use crate::kind::{
     BranchKind, HfiKind, ImmediateKind, LoadKind, RegisterKind, RegisterWordKind, ShiftKind,
@@ -9,329 +11,316 @@ use crate::kind::{
 };
 use crate::opcode::{AUIPC, LUI};
 
-// funct3 of opcode BRANCH.
-pub const BEQ: u64 = 0b000;
+// A kind that stands under a code.
+pub trait Coded: Copy {
+    ghost code_of: { Self → ℕ };
 
-pub const BNE: u64 = 0b001;
+    // In the order of the listing.
+    ghost kinds: { List Self };
 
-pub const BLT: u64 = 0b100;
+    // How many bits a code has.
+    ghost width: { ℕ };
 
-pub const BGE: u64 = 0b101;
+    fn code(self) -> u64
+        ensures { result ≡ code_of self };
 
-pub const BLTU: u64 = 0b110;
+    fn of_code(code: u64) -> Option<Self>
+        ensures { result ≡ of_code code_of Some None kinds code };
 
-pub const BGEU: u64 = 0b111;
+    // Each kind's code has no more bits, and finds the kind.
+    ghost found: { (k : Self) → Found code_of kinds width k };
+}
 
-// funct3 of opcode LOAD, and of opcode 0b.
-pub const LB: u64 = 0b000;
+impl Coded for UpperKind {
+    ghost code_of = { upper_code };
 
-pub const LH: u64 = 0b001;
+    ghost kinds = { upper_kinds };
 
-pub const LW: u64 = 0b010;
+    ghost width = { 7 };
 
-pub const LD: u64 = 0b011;
+    ghost found = { Prim.search rules };
 
-pub const LBU: u64 = 0b100;
+    fn code(self) -> u64 {
+        self as u64
+    }
 
-pub const LHU: u64 = 0b101;
-
-pub const LWU: u64 = 0b110;
-
-// funct3 of opcode STORE, and of opcode 2b.
-pub const SB: u64 = 0b000;
-
-pub const SH: u64 = 0b001;
-
-pub const SW: u64 = 0b010;
-
-pub const SD: u64 = 0b011;
-
-// funct3 of opcode OP-IMM.
-pub const ADDI: u64 = 0b000;
-
-pub const SLTI: u64 = 0b010;
-
-pub const SLTIU: u64 = 0b011;
-
-pub const XORI: u64 = 0b100;
-
-pub const ORI: u64 = 0b110;
-
-pub const ANDI: u64 = 0b111;
-
-// The six bits above the amount, and funct3, of opcode OP-IMM.
-pub const SLLI: u64 = 0b000000_001;
-
-pub const SRLI: u64 = 0b000000_101;
-
-pub const SRAI: u64 = 0b010000_101;
-
-// funct7 and funct3 of opcode OP-IMM-32.
-pub const SLLIW: u64 = 0b0000000_001;
-
-pub const SRLIW: u64 = 0b0000000_101;
-
-pub const SRAIW: u64 = 0b0100000_101;
-
-// funct7 and funct3 of opcode OP.
-pub const ADD: u64 = 0b0000000_000;
-
-pub const SUB: u64 = 0b0100000_000;
-
-pub const SLL: u64 = 0b0000000_001;
-
-pub const SLT: u64 = 0b0000000_010;
-
-pub const SLTU: u64 = 0b0000000_011;
-
-pub const XOR: u64 = 0b0000000_100;
-
-pub const SRL: u64 = 0b0000000_101;
-
-pub const SRA: u64 = 0b0100000_101;
-
-pub const OR: u64 = 0b0000000_110;
-
-pub const AND: u64 = 0b0000000_111;
-
-pub const MUL: u64 = 0b0000001_000;
-
-pub const MULH: u64 = 0b0000001_001;
-
-pub const MULHSU: u64 = 0b0000001_010;
-
-pub const MULHU: u64 = 0b0000001_011;
-
-pub const DIV: u64 = 0b0000001_100;
-
-pub const DIVU: u64 = 0b0000001_101;
-
-pub const REM: u64 = 0b0000001_110;
-
-pub const REMU: u64 = 0b0000001_111;
-
-// funct7 and funct3 of opcode OP-32.
-pub const ADDW: u64 = 0b0000000_000;
-
-pub const SUBW: u64 = 0b0100000_000;
-
-pub const SLLW: u64 = 0b0000000_001;
-
-pub const SRLW: u64 = 0b0000000_101;
-
-pub const SRAW: u64 = 0b0100000_101;
-
-pub const MULW: u64 = 0b0000001_000;
-
-pub const DIVW: u64 = 0b0000001_100;
-
-pub const DIVUW: u64 = 0b0000001_101;
-
-pub const REMW: u64 = 0b0000001_110;
-
-pub const REMUW: u64 = 0b0000001_111;
-
-// funct12 of opcode SYSTEM.
-pub const ECALL: u64 = 0;
-
-pub const EBREAK: u64 = 1;
-
-// Document 01's funct7 of opcode 5b.
-pub const ENTER: u64 = 0;
-
-pub const ENTER_JUMP: u64 = 1;
-
-pub const EXIT: u64 = 2;
-
-pub const SELECT_REGION: u64 = 3;
-
-pub const SET_BASE: u64 = 4;
-
-pub const GET_BASE: u64 = 5;
-
-pub const SET_BOUND: u64 = 6;
-
-pub const GET_BOUND: u64 = 7;
-
-pub const SET_PERMISSION: u64 = 8;
-
-pub const GET_PERMISSION: u64 = 9;
-
-pub const SET_HANDLER: u64 = 10;
-
-pub const GET_HANDLER: u64 = 11;
-
-pub const RESET_REGIONS: u64 = 12;
-
-impl UpperKind {
-    pub fn code(self) -> u64
-        ensures { result ≡ upper_code self }
-    {
-        match self {
-            UpperKind::Lui => LUI,
-            UpperKind::Auipc => AUIPC,
+    fn of_code(code: u64) -> Option<UpperKind> {
+        match code {
+            LUI => Some(UpperKind::Lui),
+            AUIPC => Some(UpperKind::Auipc),
+            _ => None,
         }
     }
 }
 
-impl BranchKind {
-    pub fn code(self) -> u64
-        ensures { result ≡ branch_code self }
-    {
-        match self {
-            BranchKind::Beq => BEQ,
-            BranchKind::Bne => BNE,
-            BranchKind::Blt => BLT,
-            BranchKind::Bge => BGE,
-            BranchKind::Bltu => BLTU,
-            BranchKind::Bgeu => BGEU,
+impl Coded for BranchKind {
+    ghost code_of = { branch_code };
+
+    ghost kinds = { branch_kinds };
+
+    ghost width = { 3 };
+
+    ghost found = { Prim.search rules };
+
+    fn code(self) -> u64 {
+        self as u64
+    }
+
+    fn of_code(code: u64) -> Option<BranchKind> {
+        match code {
+            0b000 => Some(BranchKind::Beq),
+            0b001 => Some(BranchKind::Bne),
+            0b100 => Some(BranchKind::Blt),
+            0b101 => Some(BranchKind::Bge),
+            0b110 => Some(BranchKind::Bltu),
+            0b111 => Some(BranchKind::Bgeu),
+            _ => None,
         }
     }
 }
 
-impl LoadKind {
-    pub fn code(self) -> u64
-        ensures { result ≡ load_code self }
-    {
-        match self {
-            LoadKind::Lb => LB,
-            LoadKind::Lh => LH,
-            LoadKind::Lw => LW,
-            LoadKind::Ld => LD,
-            LoadKind::Lbu => LBU,
-            LoadKind::Lhu => LHU,
-            LoadKind::Lwu => LWU,
+impl Coded for LoadKind {
+    ghost code_of = { load_code };
+
+    ghost kinds = { load_kinds };
+
+    ghost width = { 3 };
+
+    ghost found = { Prim.search rules };
+
+    fn code(self) -> u64 {
+        self as u64
+    }
+
+    fn of_code(code: u64) -> Option<LoadKind> {
+        match code {
+            0b000 => Some(LoadKind::Lb),
+            0b001 => Some(LoadKind::Lh),
+            0b010 => Some(LoadKind::Lw),
+            0b011 => Some(LoadKind::Ld),
+            0b100 => Some(LoadKind::Lbu),
+            0b101 => Some(LoadKind::Lhu),
+            0b110 => Some(LoadKind::Lwu),
+            _ => None,
         }
     }
 }
 
-impl StoreKind {
-    pub fn code(self) -> u64
-        ensures { result ≡ store_code self }
-    {
-        match self {
-            StoreKind::Sb => SB,
-            StoreKind::Sh => SH,
-            StoreKind::Sw => SW,
-            StoreKind::Sd => SD,
+impl Coded for StoreKind {
+    ghost code_of = { store_code };
+
+    ghost kinds = { store_kinds };
+
+    ghost width = { 3 };
+
+    ghost found = { Prim.search rules };
+
+    fn code(self) -> u64 {
+        self as u64
+    }
+
+    fn of_code(code: u64) -> Option<StoreKind> {
+        match code {
+            0b000 => Some(StoreKind::Sb),
+            0b001 => Some(StoreKind::Sh),
+            0b010 => Some(StoreKind::Sw),
+            0b011 => Some(StoreKind::Sd),
+            _ => None,
         }
     }
 }
 
-impl ImmediateKind {
-    pub fn code(self) -> u64
-        ensures { result ≡ immediate_code self }
-    {
-        match self {
-            ImmediateKind::Addi => ADDI,
-            ImmediateKind::Slti => SLTI,
-            ImmediateKind::Sltiu => SLTIU,
-            ImmediateKind::Xori => XORI,
-            ImmediateKind::Ori => ORI,
-            ImmediateKind::Andi => ANDI,
+impl Coded for ImmediateKind {
+    ghost code_of = { immediate_code };
+
+    ghost kinds = { immediate_kinds };
+
+    ghost width = { 3 };
+
+    ghost found = { Prim.search rules };
+
+    fn code(self) -> u64 {
+        self as u64
+    }
+
+    fn of_code(code: u64) -> Option<ImmediateKind> {
+        match code {
+            0b000 => Some(ImmediateKind::Addi),
+            0b010 => Some(ImmediateKind::Slti),
+            0b011 => Some(ImmediateKind::Sltiu),
+            0b100 => Some(ImmediateKind::Xori),
+            0b110 => Some(ImmediateKind::Ori),
+            0b111 => Some(ImmediateKind::Andi),
+            _ => None,
         }
     }
 }
 
-impl ShiftKind {
-    pub fn code(self) -> u64
-        ensures { result ≡ shift_code self }
-    {
-        match self {
-            ShiftKind::Slli => SLLI,
-            ShiftKind::Srli => SRLI,
-            ShiftKind::Srai => SRAI,
+impl Coded for ShiftKind {
+    ghost code_of = { shift_code };
+
+    ghost kinds = { shift_kinds };
+
+    ghost width = { 9 };
+
+    ghost found = { Prim.search rules };
+
+    fn code(self) -> u64 {
+        self as u64
+    }
+
+    fn of_code(code: u64) -> Option<ShiftKind> {
+        match code {
+            0b000000_001 => Some(ShiftKind::Slli),
+            0b000000_101 => Some(ShiftKind::Srli),
+            0b010000_101 => Some(ShiftKind::Srai),
+            _ => None,
         }
     }
 }
 
-impl ShiftWordKind {
-    pub fn code(self) -> u64
-        ensures { result ≡ shift_word_code self }
-    {
-        match self {
-            ShiftWordKind::Slliw => SLLIW,
-            ShiftWordKind::Srliw => SRLIW,
-            ShiftWordKind::Sraiw => SRAIW,
+impl Coded for ShiftWordKind {
+    ghost code_of = { shift_word_code };
+
+    ghost kinds = { shift_word_kinds };
+
+    ghost width = { 10 };
+
+    ghost found = { Prim.search rules };
+
+    fn code(self) -> u64 {
+        self as u64
+    }
+
+    fn of_code(code: u64) -> Option<ShiftWordKind> {
+        match code {
+            0b0000000_001 => Some(ShiftWordKind::Slliw),
+            0b0000000_101 => Some(ShiftWordKind::Srliw),
+            0b0100000_101 => Some(ShiftWordKind::Sraiw),
+            _ => None,
         }
     }
 }
 
-impl RegisterKind {
-    pub fn code(self) -> u64
-        ensures { result ≡ register_code self }
-    {
-        match self {
-            RegisterKind::Add => ADD,
-            RegisterKind::Sub => SUB,
-            RegisterKind::Sll => SLL,
-            RegisterKind::Slt => SLT,
-            RegisterKind::Sltu => SLTU,
-            RegisterKind::Xor => XOR,
-            RegisterKind::Srl => SRL,
-            RegisterKind::Sra => SRA,
-            RegisterKind::Or => OR,
-            RegisterKind::And => AND,
-            RegisterKind::Mul => MUL,
-            RegisterKind::Mulh => MULH,
-            RegisterKind::Mulhsu => MULHSU,
-            RegisterKind::Mulhu => MULHU,
-            RegisterKind::Div => DIV,
-            RegisterKind::Divu => DIVU,
-            RegisterKind::Rem => REM,
-            RegisterKind::Remu => REMU,
+impl Coded for RegisterKind {
+    ghost code_of = { register_code };
+
+    ghost kinds = { register_kinds };
+
+    ghost width = { 10 };
+
+    ghost found = { Prim.search rules };
+
+    fn code(self) -> u64 {
+        self as u64
+    }
+
+    fn of_code(code: u64) -> Option<RegisterKind> {
+        match code {
+            0b0000000_000 => Some(RegisterKind::Add),
+            0b0100000_000 => Some(RegisterKind::Sub),
+            0b0000000_001 => Some(RegisterKind::Sll),
+            0b0000000_010 => Some(RegisterKind::Slt),
+            0b0000000_011 => Some(RegisterKind::Sltu),
+            0b0000000_100 => Some(RegisterKind::Xor),
+            0b0000000_101 => Some(RegisterKind::Srl),
+            0b0100000_101 => Some(RegisterKind::Sra),
+            0b0000000_110 => Some(RegisterKind::Or),
+            0b0000000_111 => Some(RegisterKind::And),
+            0b0000001_000 => Some(RegisterKind::Mul),
+            0b0000001_001 => Some(RegisterKind::Mulh),
+            0b0000001_010 => Some(RegisterKind::Mulhsu),
+            0b0000001_011 => Some(RegisterKind::Mulhu),
+            0b0000001_100 => Some(RegisterKind::Div),
+            0b0000001_101 => Some(RegisterKind::Divu),
+            0b0000001_110 => Some(RegisterKind::Rem),
+            0b0000001_111 => Some(RegisterKind::Remu),
+            _ => None,
         }
     }
 }
 
-impl RegisterWordKind {
-    pub fn code(self) -> u64
-        ensures { result ≡ register_word_code self }
-    {
-        match self {
-            RegisterWordKind::Addw => ADDW,
-            RegisterWordKind::Subw => SUBW,
-            RegisterWordKind::Sllw => SLLW,
-            RegisterWordKind::Srlw => SRLW,
-            RegisterWordKind::Sraw => SRAW,
-            RegisterWordKind::Mulw => MULW,
-            RegisterWordKind::Divw => DIVW,
-            RegisterWordKind::Divuw => DIVUW,
-            RegisterWordKind::Remw => REMW,
-            RegisterWordKind::Remuw => REMUW,
+impl Coded for RegisterWordKind {
+    ghost code_of = { register_word_code };
+
+    ghost kinds = { register_word_kinds };
+
+    ghost width = { 10 };
+
+    ghost found = { Prim.search rules };
+
+    fn code(self) -> u64 {
+        self as u64
+    }
+
+    fn of_code(code: u64) -> Option<RegisterWordKind> {
+        match code {
+            0b0000000_000 => Some(RegisterWordKind::Addw),
+            0b0100000_000 => Some(RegisterWordKind::Subw),
+            0b0000000_001 => Some(RegisterWordKind::Sllw),
+            0b0000000_101 => Some(RegisterWordKind::Srlw),
+            0b0100000_101 => Some(RegisterWordKind::Sraw),
+            0b0000001_000 => Some(RegisterWordKind::Mulw),
+            0b0000001_100 => Some(RegisterWordKind::Divw),
+            0b0000001_101 => Some(RegisterWordKind::Divuw),
+            0b0000001_110 => Some(RegisterWordKind::Remw),
+            0b0000001_111 => Some(RegisterWordKind::Remuw),
+            _ => None,
         }
     }
 }
 
-impl SystemKind {
-    pub fn code(self) -> u64
-        ensures { result ≡ system_code self }
-    {
-        match self {
-            SystemKind::Ecall => ECALL,
-            SystemKind::Ebreak => EBREAK,
+impl Coded for SystemKind {
+    ghost code_of = { system_code };
+
+    ghost kinds = { system_kinds };
+
+    ghost width = { 12 };
+
+    ghost found = { Prim.search rules };
+
+    fn code(self) -> u64 {
+        self as u64
+    }
+
+    fn of_code(code: u64) -> Option<SystemKind> {
+        match code {
+            0 => Some(SystemKind::Ecall),
+            1 => Some(SystemKind::Ebreak),
+            _ => None,
         }
     }
 }
 
-impl HfiKind {
-    pub fn code(self) -> u64
-        ensures { result ≡ hfi_code self }
-    {
-        match self {
-            HfiKind::Enter => ENTER,
-            HfiKind::EnterJump => ENTER_JUMP,
-            HfiKind::Exit => EXIT,
-            HfiKind::SelectRegion => SELECT_REGION,
-            HfiKind::SetBase => SET_BASE,
-            HfiKind::GetBase => GET_BASE,
-            HfiKind::SetBound => SET_BOUND,
-            HfiKind::GetBound => GET_BOUND,
-            HfiKind::SetPermission => SET_PERMISSION,
-            HfiKind::GetPermission => GET_PERMISSION,
-            HfiKind::SetHandler => SET_HANDLER,
-            HfiKind::GetHandler => GET_HANDLER,
-            HfiKind::ResetRegions => RESET_REGIONS,
+impl Coded for HfiKind {
+    ghost code_of = { hfi_code };
+
+    ghost kinds = { hfi_kinds };
+
+    ghost width = { 7 };
+
+    ghost found = { Prim.search rules };
+
+    fn code(self) -> u64 {
+        self as u64
+    }
+
+    fn of_code(code: u64) -> Option<HfiKind> {
+        match code {
+            0 => Some(HfiKind::Enter),
+            1 => Some(HfiKind::EnterJump),
+            2 => Some(HfiKind::Exit),
+            3 => Some(HfiKind::SelectRegion),
+            4 => Some(HfiKind::SetBase),
+            5 => Some(HfiKind::GetBase),
+            6 => Some(HfiKind::SetBound),
+            7 => Some(HfiKind::GetBound),
+            8 => Some(HfiKind::SetPermission),
+            9 => Some(HfiKind::GetPermission),
+            10 => Some(HfiKind::SetHandler),
+            11 => Some(HfiKind::GetHandler),
+            12 => Some(HfiKind::ResetRegions),
+            _ => None,
         }
     }
 }

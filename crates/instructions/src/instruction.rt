@@ -27,3 +27,6 @@ pub enum Instruction {
     HStore(StoreKind, u64, u64, u64, u64), // region, rs1, rs2, immediate
     Hfi(HfiKind, u64, u64, u64), // rd, rs1, rs2; those that the row does not name are 0
 }
+
+// The explicit regions, by the choice that two bits of an h-word make.
+pub const EXPLICIT_REGIONS: [u64; 4] = [1, 4, 5, 6];

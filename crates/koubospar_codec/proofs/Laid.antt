@@ -24,7 +24,7 @@ use Rattle.instructions.specs.declared.kind.HfiKind.{HfiKind}
 use Rattle.instructions.specs.declared.instruction.Instruction.{Instruction}
 use Rattle.instructions.specs.declared.instruction.Instruction.TheVariants.{Upper, Jal, Jalr, Branch, Load, Store, Immediate, Shift, Addiw, ShiftWord, Register, RegisterWord, Fence, System, HLoad, HStore, Hfi}
 use Rattle.instructions.proofs.Tests.{and_both}
-use Rattle.instructions.proofs.Tables.{upper_code_lem, branch_code_lem, load_code_lem, store_code_lem, immediate_code_lem, shift_code_lem, shift_word_code_lem, register_code_lem, register_word_code_lem, system_code_lem, hfi_code_lem}
+use Rattle.instructions.proofs.Tables.{made_of, upper_code_lem, branch_code_lem, load_code_lem, store_code_lem, immediate_code_lem, shift_code_lem, shift_word_code_lem, register_code_lem, register_word_code_lem, system_code_lem, hfi_code_lem}
 use Rattle.instructions.proofs.RoundTrip.{encode_of_decode}
 use Rattle.koubospar_codec.specs.Flat.{flatten, unflatten, same, laid_out, stands_for, encode_decoded, encode_flat}
 use Rattle.koubospar_codec.specs.declared.flat.Flat.{Flat}
@@ -32,23 +32,23 @@ use Rattle.koubospar_codec.specs.declared.flat.Flat.{Flat}
 -- ---- what is laid out is read back: each kind is found under its code
 
 pub unflatten_flatten : (i : Instruction) → unflatten (flatten i) ≡ Some i
-unflatten_flatten (Upper k rd imm) = (upper_code_lem k).found (Option Instruction) (λ (j : UpperKind). Some (Upper j rd imm)) None
+unflatten_flatten (Upper k rd imm) = made_of (upper_code_lem k) (λ (j : UpperKind). Some (Upper j rd imm)) None
 unflatten_flatten (Jal rd offset) = refl
 unflatten_flatten (Jalr rd rs1 imm) = refl
-unflatten_flatten (Branch k rs1 rs2 offset) = (branch_code_lem k).found (Option Instruction) (λ (j : BranchKind). Some (Branch j rs1 rs2 offset)) None
-unflatten_flatten (Load k rd rs1 imm) = (load_code_lem k).found (Option Instruction) (λ (j : LoadKind). Some (Load j rd rs1 imm)) None
-unflatten_flatten (Store k rs1 rs2 imm) = (store_code_lem k).found (Option Instruction) (λ (j : StoreKind). Some (Store j rs1 rs2 imm)) None
-unflatten_flatten (Immediate k rd rs1 imm) = (immediate_code_lem k).found (Option Instruction) (λ (j : ImmediateKind). Some (Immediate j rd rs1 imm)) None
-unflatten_flatten (Shift k rd rs1 amount) = (shift_code_lem k).found (Option Instruction) (λ (j : ShiftKind). Some (Shift j rd rs1 amount)) None
+unflatten_flatten (Branch k rs1 rs2 offset) = made_of (branch_code_lem k) (λ (j : BranchKind). Some (Branch j rs1 rs2 offset)) None
+unflatten_flatten (Load k rd rs1 imm) = made_of (load_code_lem k) (λ (j : LoadKind). Some (Load j rd rs1 imm)) None
+unflatten_flatten (Store k rs1 rs2 imm) = made_of (store_code_lem k) (λ (j : StoreKind). Some (Store j rs1 rs2 imm)) None
+unflatten_flatten (Immediate k rd rs1 imm) = made_of (immediate_code_lem k) (λ (j : ImmediateKind). Some (Immediate j rd rs1 imm)) None
+unflatten_flatten (Shift k rd rs1 amount) = made_of (shift_code_lem k) (λ (j : ShiftKind). Some (Shift j rd rs1 amount)) None
 unflatten_flatten (Addiw rd rs1 imm) = refl
-unflatten_flatten (ShiftWord k rd rs1 amount) = (shift_word_code_lem k).found (Option Instruction) (λ (j : ShiftWordKind). Some (ShiftWord j rd rs1 amount)) None
-unflatten_flatten (Register k rd rs1 rs2) = (register_code_lem k).found (Option Instruction) (λ (j : RegisterKind). Some (Register j rd rs1 rs2)) None
-unflatten_flatten (RegisterWord k rd rs1 rs2) = (register_word_code_lem k).found (Option Instruction) (λ (j : RegisterWordKind). Some (RegisterWord j rd rs1 rs2)) None
+unflatten_flatten (ShiftWord k rd rs1 amount) = made_of (shift_word_code_lem k) (λ (j : ShiftWordKind). Some (ShiftWord j rd rs1 amount)) None
+unflatten_flatten (Register k rd rs1 rs2) = made_of (register_code_lem k) (λ (j : RegisterKind). Some (Register j rd rs1 rs2)) None
+unflatten_flatten (RegisterWord k rd rs1 rs2) = made_of (register_word_code_lem k) (λ (j : RegisterWordKind). Some (RegisterWord j rd rs1 rs2)) None
 unflatten_flatten (Fence fm pred succ rs1 rd) = refl
-unflatten_flatten (System k) = (system_code_lem k).found (Option Instruction) (λ (j : SystemKind). Some (System j)) None
-unflatten_flatten (HLoad k region rd rs1 imm) = (load_code_lem k).found (Option Instruction) (λ (j : LoadKind). Some (HLoad j region rd rs1 imm)) None
-unflatten_flatten (HStore k region rs1 rs2 imm) = (store_code_lem k).found (Option Instruction) (λ (j : StoreKind). Some (HStore j region rs1 rs2 imm)) None
-unflatten_flatten (Hfi k rd rs1 rs2) = (hfi_code_lem k).found (Option Instruction) (λ (j : HfiKind). Some (Hfi j rd rs1 rs2)) None
+unflatten_flatten (System k) = made_of (system_code_lem k) (λ (j : SystemKind). Some (System j)) None
+unflatten_flatten (HLoad k region rd rs1 imm) = made_of (load_code_lem k) (λ (j : LoadKind). Some (HLoad j region rd rs1 imm)) None
+unflatten_flatten (HStore k region rs1 rs2 imm) = made_of (store_code_lem k) (λ (j : StoreKind). Some (HStore j region rs1 rs2 imm)) None
+unflatten_flatten (Hfi k rd rs1 rs2) = made_of (hfi_code_lem k) (λ (j : HfiKind). Some (Hfi j rd rs1 rs2)) None
 
 -- ---- a record that stands for an instruction is that instruction laid out, and the other way
 

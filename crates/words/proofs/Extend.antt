@@ -91,23 +91,21 @@ xor_set j x l u =
     omega arith
 
 -- `(x ^ sign) - sign` of k bits, wrapping
-pub flip_law : (k x r : ℕ) → 0 < k → k < 64 → x < 2 ^ k → r < 2 ^ 64
-    → (r + 1 * 2 ^ (k - 1) % 2 ^ 64) % 2 ^ 64 ≡ bit_xor x (1 * 2 ^ (k - 1) % 2 ^ 64) → r ≡ sext k x
-flip_law k x r h u l f e =
-    let j : k - 1 < 63 = omega arith in
-    go (ltb x (2 ^ (k - 1))) refl j (rw (one_shl (k - 1) (omega arith)) at e)
+pub flip_law : (k x : ℕ) → 0 < k → k < 64 → x < 2 ^ k
+    → (bit_xor x (1 * 2 ^ (k - 1) % 2 ^ 64) + (2 ^ 64 - 1 * 2 ^ (k - 1) % 2 ^ 64)) % 2 ^ 64 ≡ sext k x
+flip_law k x h u l = rw (one_shl (k - 1) (omega arith)) (go (ltb x (2 ^ (k - 1))) refl (omega arith))
   where
-    go : (b : Bool) → ltb x (2 ^ (k - 1)) ≡ b → k - 1 < 63 → (r + 2 ^ (k - 1)) % 2 ^ 64 ≡ bit_xor x (2 ^ (k - 1)) → r ≡ sext k x
-    go true t j e =
+    go : (b : Bool) → ltb x (2 ^ (k - 1)) ≡ b → k - 1 < 63 → (bit_xor x (2 ^ (k - 1)) + (2 ^ 64 - 2 ^ (k - 1))) % 2 ^ 64 ≡ sext k x
+    go true t j =
         let s = ltb-true x (2 ^ (k - 1)) t in
         let p : 2 ^ (k - 1) < 2 ^ 63 = pow-lt j in
         let q = xor_clear (k - 1) x s in
-        let d : r ≡ x = omega arith in
+        let d : (bit_xor x (2 ^ (k - 1)) + (2 ^ 64 - 2 ^ (k - 1))) % 2 ^ 64 ≡ x = omega arith in
         d ∙ sym (sext_low_half k x s (lt_of_lt_of_le l (pow_mono (le_of_lt u))))
-    go false t j e =
+    go false t j =
         let s = ltb-false x (2 ^ (k - 1)) t in
         let w = halves k h in
         let p : 2 ^ (k - 1) < 2 ^ 63 = pow-lt j in
         let q = xor_set (k - 1) x s (omega arith) in
-        let d : r ≡ x + (2 ^ 64 - 2 ^ k) = omega arith in
+        let d : (bit_xor x (2 ^ (k - 1)) + (2 ^ 64 - 2 ^ (k - 1))) % 2 ^ 64 ≡ x + (2 ^ 64 - 2 ^ k) = omega arith in
         d ∙ sym (sext_high_half k x (le_of_lt u) s l)

@@ -1,5 +1,4 @@
-// Integer multiplication and division, the specification's chapter "M". There is no integer of 128 bits: a product of two
-// words is made of the products of their halves of 32 bits. Signed high halves are had from the unsigned one, signed
+// Integer multiplication and division, the specification's chapter "M". Signed high halves are had from the unsigned one, signed
 // quotients and remainders from those of the magnitudes.
 ghost use Rattle.std.specs.Prelude.{◌≡◌, ◌^◌, ◌<◌, ◌≤◌, pos, ◌*ℤ◌, neg_ℤ, if◌then◌else◌, unsigned_abs};
 ghost use Rattle.std.specs.Int.Signed.{non_neg};
@@ -7,27 +6,21 @@ ghost use Rattle.words.specs.Word.{signed, word};
 ghost use Rattle.words.specs.Integer.{low_half, high_half, quotient, remainder as remainder_of};
 
 use crate::{is_negative, ones};
-use std::num::{wrapping_add_u64, wrapping_sub_u64};
-
-// 2^32: a word is its quotient by this, and its remainder.
-const HALF: u64 = 0x1_0000_0000;
 
 // The low half of a product, the same for signed and unsigned operands.
+#[tactic(auto, using(crate::proofs::Products::low_signed))]
 pub fn multiply(a: u64, b: u64) -> u64
     ensures { result ≡ low_half 64 (signed 64 a *ℤ signed 64 b) }
 {
-    let cross = wrapping_add_u64((a / HALF) * (b % HALF), (a % HALF) * (b / HALF));
-    wrapping_add_u64((a % HALF) * (b % HALF), cross << 32)
+    a.wrapping_mul(b)
 }
 
-// The high half, both unsigned: what each pair of halves carries into the next is added to it.
+// The high half, both unsigned.
+#[tactic(auto, using(crate::proofs::Products::high_unsigned))]
 pub fn multiply_high(a: u64, b: u64) -> u64
     ensures { result ≡ high_half 64 (pos a *ℤ pos b) }
 {
-    let low = (a % HALF) * (b % HALF);
-    let middle = (a / HALF) * (b % HALF) + low / HALF;
-    let cross = (a % HALF) * (b / HALF) + middle % HALF;
-    (a / HALF) * (b / HALF) + middle / HALF + cross / HALF
+    ((a as u128 * b as u128) >> 64) as u64
 }
 
 // A number with its sign bit set counts 2^64 less as signed, so the high half of its product with y is y less.
@@ -38,17 +31,18 @@ fn excess(x: u64, y: u64) -> u64
 }
 
 // The high half, a signed and b unsigned.
+#[tactic(auto, using(crate::proofs::Products::high_less))]
 pub fn multiply_high_mixed(a: u64, b: u64) -> u64
     ensures { result ≡ high_half 64 (signed 64 a *ℤ pos b) }
 {
-    wrapping_sub_u64(multiply_high(a, b), excess(a, b))
+    multiply_high(a, b).wrapping_sub(excess(a, b))
 }
 
 // The high half, both signed.
 pub fn multiply_high_signed(a: u64, b: u64) -> u64
     ensures { result ≡ high_half 64 (signed 64 a *ℤ signed 64 b) }
 {
-    wrapping_sub_u64(multiply_high_mixed(a, b), excess(b, a))
+    multiply_high_mixed(a, b).wrapping_sub(excess(b, a))
 }
 
 // The `width` bits of m, or of -m.
@@ -56,7 +50,7 @@ fn with_sign(negative: bool, m: u64, width: u64) -> u64
     requires { (0 < width) × (width ≤ 64) × (m < 2 ^ width) }
     ensures { result ≡ word width (if negative then neg_ℤ (pos m) else pos m) }
 {
-    if negative & (m != 0) {
+    if negative && m != 0 {
         ones(width) - m + 1
     } else {
         m

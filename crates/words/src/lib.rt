@@ -16,6 +16,7 @@ pub fn bits(x: u64, at: u64, width: u64) -> u64
 }
 
 // `high` put above the `at` bits of `low`.
+#[tactic(auto, using(crate::proofs::Shifts::or_above))]
 pub fn put(low: u64, high: u64, at: u64) -> u64
     requires { (at < 64) × (low < 2 ^ at) × (high * 2 ^ at < 2 ^ 64) }
     ensures { result ≡ high * 2 ^ at + low }
@@ -24,12 +25,13 @@ pub fn put(low: u64, high: u64, at: u64) -> u64
 }
 
 // The `width` bits `x` as 64 bits of the same signed number: flipping the sign bit and taking it off again copies it upwards.
+#[tactic(auto, using(crate::proofs::Extend::flip_law))]
 pub fn sign_extend(x: u64, width: u64) -> u64
     requires { (0 < width) × (width < 64) × (x < 2 ^ width) }
     ensures { result ≡ sext width x }
 {
     let sign = 1u64 << (width - 1);
-    std::num::wrapping_sub_u64(x ^ sign, sign)
+    (x ^ sign).wrapping_sub(sign)
 }
 
 // Can a signed field of `width` bits express `x`?
@@ -40,14 +42,15 @@ pub fn fits_signed(x: u64, width: u64) -> bool
     sign_extend(bits(x, 0, width), width) == x
 }
 
-// Is `a` less than `b`, both read as signed numbers? Flipping the sign bits turns that order into the order of numbers.
+// Is `a` less than `b`, both read as signed numbers?
 pub fn signed_less(a: u64, b: u64) -> bool
     ensures { result ≡ int_lt (signed 64 a) (signed 64 b) }
 {
-    (a ^ 0x8000_0000_0000_0000) < (b ^ 0x8000_0000_0000_0000)
+    a.cast_signed() < b.cast_signed()
 }
 
 // The largest number of `width` bits.
+#[tactic(auto, using(crate::proofs::Signed::all_ones))]
 pub fn ones(width: u64) -> u64
     requires { (0 < width) × (width ≤ 64) }
     ensures { result ≡ 2 ^ width - 1 }

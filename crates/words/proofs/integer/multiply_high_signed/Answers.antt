@@ -11,5 +11,4 @@ returns c =
     let a = c.args in
     let y = signed 64 a.a in
     let m = c.multiply_high_mixed.ensures ∙ ap (high_half 64) (*ℤ_comm y (pos a.b)) in
-    high_less a.b a.a _ _ y (search rules) (search rules) (word_signed 64 a.a (search rules)) c.excess.ensures (c.wrapping_sub_u64.ensures.value ∙ m)
-    ∙ ap (high_half 64) (*ℤ_comm (signed 64 a.b) y)
+    high_less a.b a.a _ _ y (search rules) (word_signed 64 a.a (search rules)) c.excess.ensures m ∙ ap (high_half 64) (*ℤ_comm (signed 64 a.b) y)
