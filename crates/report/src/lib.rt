@@ -1,94 +1,88 @@
-// What is printed of a sheet: the definition of the whole program, and the lines of a run's result. Each function answers the
-// position after what it wrote.
+// What is printed of a sheet: the definition of the whole program, and the lines of a run's result.
 #![tactic(auto)]
 
 ghost use Rattle.std.specs.Prelude.{[], ◌∷◌, ◌+◌, ◌≤◌, length};
 ghost use Rattle.text.specs.Scan.{comma};
 ghost use Rattle.text.specs.Number.{hexadecimal};
 ghost use Rattle.text.specs.Split.{join_line, join_lines};
-ghost use Rattle.text.specs.Write.{Wrote};
+ghost use Rattle.text.specs.Write.{Put};
 ghost use Rattle.report.specs.Report.{fault_fields, result_line, register_line, register_lines, result_text};
 
 use model::{Fault, Ran};
-use text::print::{put_byte, put_decimal, put_hexadecimal};
+use text::writer::Writer;
 
 // A comma and a number in hexadecimal: a field after the first.
-fn put_field(buffer: &mut [u8], at: usize, n: u64) -> usize
-    requires { at + 17 ≤ length buffer.old }
-    ensures wrote { Wrote buffer.old at (comma ∷ hexadecimal n) buffer.new result }
-    ensures upper_bound { result ≤ at + 17 }
+fn put_field(w: &mut Writer, n: u64)
+    requires { w.old.at + 17 ≤ length w.old.buffer.now }
+    ensures put { Put w.old (comma ∷ hexadecimal n) w.new }
+    ensures upper_bound { w.new.at ≤ w.old.at + 17 }
 {
-    let end = put_byte(buffer, at, b',');
-    put_hexadecimal(buffer, end, n)
+    w.put_byte(b',');
+    w.put_number::<16, 16>(n);
 }
 
 // The four fields of the fault record.
-fn put_fault(buffer: &mut [u8], at: usize, f: Fault) -> usize
-    requires { at + 68 ≤ length buffer.old }
-    ensures wrote { Wrote buffer.old at (comma ∷ join_line (fault_fields f)) buffer.new result }
-    ensures upper_bound { result ≤ at + 68 }
+fn put_fault(w: &mut Writer, f: Fault)
+    requires { w.old.at + 68 ≤ length w.old.buffer.now }
+    ensures put { Put w.old (comma ∷ join_line (fault_fields f)) w.new }
+    ensures upper_bound { w.new.at ≤ w.old.at + 68 }
 {
-    let a = put_field(buffer, at, f.occurred);
-    let b = put_field(buffer, a, f.region);
-    let c = put_field(buffer, b, f.op);
-    put_field(buffer, c, f.address)
+    put_field(w, f.occurred);
+    put_field(w, f.region);
+    put_field(w, f.op);
+    put_field(w, f.address);
 }
 
-// The first line, from the buffer's start on: 20 bytes for the number, 17 for each of 8 fields, and the line's end.
-fn put_result_line(buffer: &mut [u8], r: Ran) -> usize
-    requires { 157 ≤ length buffer.old }
-    ensures wrote { Wrote buffer.old 0 (join_lines (result_line r ∷ [])) buffer.new result }
-    ensures upper_bound { result ≤ 157 }
+// The first line: 20 bytes for the number, 17 for each of 8 fields, and the line's end.
+fn put_result_line(w: &mut Writer, r: Ran)
+    requires { w.old.at + 157 ≤ length w.old.buffer.now }
+    ensures put { Put w.old (join_lines (result_line r ∷ [])) w.new }
+    ensures upper_bound { w.new.at ≤ w.old.at + 157 }
 {
     let m = r.machine;
     let h = m.hfi;
-    let f = h.fault;
-    let a = put_decimal(buffer, 0, r.stop);
-    let b = put_field(buffer, a, r.count);
-    let c = put_field(buffer, b, m.pc);
-    let d = put_field(buffer, c, h.reason);
-    let e = put_field(buffer, d, h.epc);
-    let g = put_fault(buffer, e, f);
-    put_byte(buffer, g, b'\n')
+    w.put_number::<10, 20>(r.stop);
+    put_field(w, r.count);
+    put_field(w, m.pc);
+    put_field(w, h.reason);
+    put_field(w, h.epc);
+    put_fault(w, h.fault);
+    w.put_byte(b'\n');
 }
 
 // The line of register i, where its value is not 0.
-fn put_register(buffer: &mut [u8], at: usize, i: u64, v: u64) -> usize
-    requires { at + 38 ≤ length buffer.old }
-    ensures wrote { Wrote buffer.old at (join_lines (register_line i v)) buffer.new result }
-    ensures upper_bound { result ≤ at + 38 }
+fn put_register(w: &mut Writer, i: u64, v: u64)
+    requires { w.old.at + 38 ≤ length w.old.buffer.now }
+    ensures put { Put w.old (join_lines (register_line i v)) w.new }
+    ensures upper_bound { w.new.at ≤ w.old.at + 38 }
 {
     if v == 0 {
-        return at;
+        return;
     }
-    let a = put_decimal(buffer, at, i);
-    let b = put_field(buffer, a, v);
-    put_byte(buffer, b, b'\n')
+    w.put_number::<10, 20>(i);
+    put_field(w, v);
+    w.put_byte(b'\n');
 }
 
 // The lines of all registers.
-fn put_registers(buffer: &mut [u8], start: usize, x: [u64; 32]) -> usize
-    requires { start + 1216 ≤ length buffer.old }
-    ensures wrote { Wrote buffer.old start (join_lines (register_lines 0 x)) buffer.new result }
-    ensures upper_bound { result ≤ start + 1216 }
+fn put_registers(w: &mut Writer, x: [u64; 32])
+    requires { w.old.at + 1216 ≤ length w.old.buffer.now }
+    ensures put { Put w.old (join_lines (register_lines 0 x)) w.new }
+    ensures upper_bound { w.new.at ≤ w.old.at + 1216 }
 {
-    let mut at = start;
-    let mut i = 0;
-    while i < 32 {
-        at = put_register(buffer, at, i as u64, x[i]);
-        i += 1;
+    for i in 0..32 {
+        put_register(w, i as u64, x[i]);
     }
-    at
 }
 
 // A run's result: the first line and the registers' lines. 157 + 32 * 38 bytes are enough for every one.
-pub fn put_result(buffer: &mut [u8], r: Ran) -> usize
-    requires { 1373 ≤ length buffer.old }
-    ensures wrote { Wrote buffer.old 0 (result_text r) buffer.new result }
-    ensures upper_bound { result ≤ 1373 }
+pub fn put_result(w: &mut Writer, r: Ran)
+    requires { w.old.at + 1373 ≤ length w.old.buffer.now }
+    ensures put { Put w.old (result_text r) w.new }
+    ensures upper_bound { w.new.at ≤ w.old.at + 1373 }
 {
     let m = r.machine;
     let x = m.x;
-    let at = put_result_line(buffer, r);
-    put_registers(buffer, at, x)
+    put_result_line(w, r);
+    put_registers(w, x);
 }

@@ -12,29 +12,32 @@ use Rattle.model.specs.declared.Machine.{Machine}
 use Rattle.model.specs.Run.{RunAnswer}
 use Rattle.model.specs.Run.{ran_with, run_call}
 use Rattle.setup.specs.Setup.{machine_of}
-use Rattle.sheet.specs.declared.ReadSheet.{ReadSheet}
+use Rattle.setup.specs.Question.{question_number}
+use Rattle.setup.specs.declared.Setup.{Setup}
+use Rattle.sheet.specs.declared.Refusal as code
 use Rattle.sheet.specs.Words.{memory_of}
-use Rattle.sheet.specs.Sheet.{read_sheet, refusal_text}
+use Rattle.sheet.specs.Sheet.{refusal, read_sheet, refusal_text}
+use Rattle.sheet.proofs.Naming.{refuses}
 use Rattle.report.specs.Report.{result_text, report_over}
 use Rattle.respond.specs.Answered.{Answered}
 
 -- ---- the sheet s was read over a memory
-module _ (mem s : List ℕ) (h : ReadSheet) (e : h.refusal ≡ (read_sheet s).refusal) where
-  pub report_refused : (h.refusal.question ≡ 0 → ⊥) → refusal_text h.refusal.question h.refusal.lineno ≡ report_over mem s
+module _ (mem s : List ℕ) where
+  -- and refused
+  pub report_refused : (r : code.Refusal) → refusal (question_number r.question) r.lineno ≡ (read_sheet s).refusal
+      → refusal_text (question_number r.question) r.lineno ≡ report_over mem s
   unfolding report_over
-  report_refused n =
-      let y : (read_sheet s).refusal.question ≡ 0 → ⊥ = λ z. n (ap (λ r. r.question) e ∙ z) in
-      ap (λ r. refusal_text r.question r.lineno) e ∙ sym (rw (ne_eqb (read_sheet s).refusal.question 0 y))
+  report_refused r e =
+      ap (λ q. refusal_text q.question q.lineno) e ∙ sym (rw (ne_eqb (read_sheet s).refusal.question 0 (refuses r (read_sheet s).refusal e)))
 
-  -- it is run over the memory `filled`, which has its words
-  pub report_run : (filled last : List ℕ) (m : Machine) (r : RunAnswer) → h.refusal.question ≡ 0 → h.setup ≡ (read_sheet s).setup
-      → filled ≡ memory_of mem (read_sheet s).words → m ≡ machine_of h.setup → ran_with r last ≡ run_call m filled h.setup.budget
-      → result_text r ≡ report_over mem s
+  -- or run over the memory `filled`, which has its words
+  pub report_run : (setup : Setup) (filled last : List ℕ) (m : Machine) (r : RunAnswer) → refusal 0 0 ≡ (read_sheet s).refusal → setup ≡ (read_sheet s).setup
+      → filled ≡ memory_of mem (read_sheet s).words → m ≡ machine_of setup → ran_with r last ≡ run_call m filled setup.budget → result_text r ≡ report_over mem s
   unfolding report_over
-  report_run filled last m r z t f g a =
-      let y : (read_sheet s).refusal.question ≡ 0 = sym (ap (λ r. r.question) e) ∙ z in
+  report_run setup filled last m r e t f g a =
+      let y : (read_sheet s).refusal.question ≡ 0 = sym (ap (λ q. q.question) e) in
       ap (λ o. result_text o.result) a
-      ∙ ap (λ n. result_text (run_call n filled h.setup.budget).result) g
+      ∙ ap (λ n. result_text (run_call n filled setup.budget).result) g
       ∙ ap (λ k. result_text (run_call (machine_of k) filled k.budget).result) t
       ∙ ap (λ k. result_text (run_call (machine_of (read_sheet s).setup) k (read_sheet s).setup.budget).result) f
       ∙ sym (rw (eq-eqb (read_sheet s).refusal.question 0 y))

@@ -8,7 +8,8 @@ ghost use Rattle.respond.specs.Answered.{Answered};
 use report::put_result;
 use run::run_call;
 use setup::machine_of;
-use sheet::{put_refusal, read_sheet};
+use sheet::read_sheet;
+use text::writer::Writer;
 
 // Room for every report: 157 bytes for the first line, 38 for each of 32 registers.
 pub const MOST: usize = 1373;
@@ -19,14 +20,15 @@ fn respond_over(input: &[u8], output: &mut [u8], mem: &mut [u8; 65536]) -> usize
     ensures answered { Answered output.old (report_over mem.old input.now) output.new result }
     ensures upper_bound { (result ≤ length output.new) × (result ≡ length (take result output.new)) }
 {
-    let sheet = read_sheet(input, mem);
-    let refusal = sheet.refusal;
-    if refusal.question != 0 {
-        return put_refusal(output, refusal.question, refusal.lineno);
+    let mut w = Writer::new(output);
+    match read_sheet(input, mem) {
+        Ok(setup) => {
+            let r = run_call(machine_of(setup), mem, setup.budget);
+            put_result(&mut w, r);
+        }
+        Err(refusal) => refusal.put(&mut w),
     }
-    let setup = sheet.setup;
-    let r = run_call(machine_of(setup), mem, setup.budget);
-    put_result(output, r)
+    w.at
 }
 
 // The report of a sheet, over a memory of 65,536 zero bytes. The result is the number of bytes written.

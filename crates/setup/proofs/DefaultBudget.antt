@@ -16,8 +16,7 @@ use Rattle.text.proofs.Asking.{first_half, second_half, yes_at}
 use Rattle.text.proofs.Numbers.{nil_without}
 use Rattle.text.proofs.Rows.{row_count, row_widths, wide_at}
 use Rattle.model.specs.Machine.{last_region}
-use Rattle.setup.specs.declared.ReadSetup.{ReadSetup}
-use Rattle.setup.specs.Setup.{budget_field, setup_fields, regions_given, counted, setup_row, default_budget, setup_of, permissions_in_range, setup_questions, read_setup}
+use Rattle.setup.specs.Setup.{ReadSetup, budget_field, setup_fields, regions_given, counted, setup_row, default_budget, setup_of, permissions_in_range, setup_questions, read_setup}
 use Rattle.setup.proofs.Fields.{read_by, read_then, refused_then, count_given, given_few, last_field, last_is, value_at, width_at}
 
 -- ---- of the last field only the budget is read, and whether it is too wide

@@ -16,8 +16,7 @@ use Rattle.text.proofs.RoundTrip.{field_then}
 use Rattle.text.proofs.Rows.{row_count}
 use Rattle.model.specs.Machine.{last_region, no_region, regions_from}
 use Rattle.setup.specs.declared.Setup.{Setup}
-use Rattle.setup.specs.declared.ReadSetup.{ReadSetup}
-use Rattle.setup.specs.Setup.{setup_fields, budget_field, few_regions, regions_given, counted, setup_row, default_budget, permissions_in_range, read_setup}
+use Rattle.setup.specs.Setup.{ReadSetup, setup_fields, budget_field, few_regions, regions_given, counted, setup_row, default_budget, permissions_in_range, read_setup}
 use Rattle.setup.proofs.Regions.{sets_over, regions_same}
 
 -- ---- a count that passes 32

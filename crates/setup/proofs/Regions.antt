@@ -1,13 +1,14 @@
 -- The regions of line 1, one after another.
 use mathlib.Core.Path.{◌≡◌, refl, ap, ◌∙◌}
-use mathlib.Core.Bool.{true, ◌&&◌}
+use mathlib.Core.Bool.{◌&&◌}
 use mathlib.Core.List.{List, ◌++◌}
 use Prim.Native.Nat.{ℕ, zero, suc, ◌+◌, ◌-◌, ◌*◌, ◌<◌, ◌≤◌}
-use native.Mathlib.Numerals.{add-one}
 use native.Mathlib.Omega.{arith}
 use lib.Dec.{leb}
-use lib.ListN.{length, get_or, drop, set, replicate, drop_of_length-le, length-replicate}
-use lib.Seq.{drop-cons, sets, sets-eq}
+use lib.ListN.{length, get_or, drop, set, replicate, length-replicate}
+use lib.Seq.{sets, sets-eq}
+use Rattle.std.specs.List.{list_all}
+use Rattle.std.proofs.lemmas.List.Recursion.{same_from_clauses}
 use Rattle.model.specs.Machine.{last_region, no_region, regions_from}
 use Rattle.model.specs.declared.Region.{Region}
 use Rattle.setup.specs.Setup.{permissions_in_range}
@@ -63,12 +64,8 @@ module _ (vs : List ℕ) (first n i : ℕ) where
       (sets_over last_region no_region (regions_from vs first n) few
       ∙ ap (λ k. regions_from vs first n ++ replicate (last_region - k) no_region) (regions_length vs first n))
 
--- ---- the permissions of the regions before index i are in range
-pub permissions_on : (rs : List Region) (i : ℕ) → i < length rs
-    → permissions_in_range (drop i rs) ≡ leb (get_or rs i no_region).permission 0xff && permissions_in_range (drop (i + 1) rs)
+-- ---- the permissions
+pub in_range_is : (rs : List Region) → permissions_in_range rs ≡ list_all (λ r. leb r.permission 0xff) rs
 unfolding permissions_in_range
-permissions_on rs i h = rw (drop-cons rs i no_region h, add-one i)
-
-pub permissions_off : (rs : List Region) (i : ℕ) → length rs ≤ i → permissions_in_range (drop i rs) ≡ true
-unfolding permissions_in_range
-permissions_off rs i h = rw (drop_of_length-le rs h)
+in_range_is rs =
+    same_from_clauses permissions_in_range (list_all (λ r. leb r.permission 0xff)) (λ r b. leb r.permission 0xff && b) refl (λ _ _. refl) (λ _ _. refl) rs

@@ -1,6 +1,6 @@
 -- Line 1 of a sheet: "pc, options, handler, then base, bound or mask, permission for regions 1, 2, 3, then budget" (01, The run sheet),
 -- or for all ten (02, Job 7); and the machine that a run of the sheet starts from.
--- Setup and ReadSetup are declared in src/lib.rt, Region and Machine in model/src/lib.rt, Row in text/specs/Split.antt. Assumes nothing.
+-- Setup is declared in src/lib.rt, Region and Machine in model/src/lib.rt, Row in text/specs/Split.antt. Assumes nothing.
 use Rattle.std.specs.Prelude.{Bool, true, cond, ◌&&◌, ◌||◌, List, [], ◌∷◌, ◌++◌, ℕ, ◌+◌, ◌-◌, ◌*◌, eqb, leb, get_or, take, replicate}
 use Rattle.text.specs.Split.{Row, row_of, all_wide}
 use Rattle.text.specs.Questions.{first_no}
@@ -8,7 +8,6 @@ use Rattle.model.specs.Machine.{last_region, no_region, regions_from}
 use Rattle.model.specs.declared.Region.{Region}
 use Rattle.model.specs.declared.Machine.{Machine}
 use Rattle.setup.specs.declared.Setup.{Setup}
-use Rattle.setup.specs.declared.ReadSetup.{ReadSetup}
 
 -- ---- a line that gives n regions: pc, options, handler, three fields for each region, then the budget
 
@@ -55,14 +54,26 @@ unfoldable pub permissions_in_range : List Region → Bool
 permissions_in_range [] = true
 permissions_in_range (r ∷ rs) = leb r.permission 0xff && permissions_in_range rs
 
+-- the fields before the budget have 1 to 16 digits, "an empty budget passes"
+abbrev pub digits_in_range : ℕ → Row → Bool
+digits_in_range n r = all_wide (take (budget_field n) r.widths) && leb (get_or r.widths (budget_field n) 0) 16
+
+abbrev pub values_in_range : Setup → Bool
+values_in_range s = leb s.options 0xff && (permissions_in_range s.regions && leb s.budget 0xffffffff)
+
 -- "32: are there 13 fields (line 1) or 2?", and "32 lets 34 pass" (02, Job 7); "33: has each field 1 to 16 digits (an empty budget
 -- passes)? 34: are options and permissions at most ff, budget and words at most ffffffff"
 abbrev pub setup_questions : ℕ → Row → Setup → List (Bool × ℕ)
 setup_questions n r s =
     ((counted r.count, 32)
-    ∷ (all_wide (take (budget_field n) r.widths) && leb (get_or r.widths (budget_field n) 0) 16, 33)
-    ∷ (leb s.options 0xff && (permissions_in_range s.regions && leb s.budget 0xffffffff), 34)
+    ∷ (digits_in_range n r, 33)
+    ∷ (values_in_range s, 34)
     ∷ [])
+
+-- line 1 as read: the question of 32 to 34 that it fails first, 0 where it fails none, and its values
+pub record ReadSetup : Type 0 where
+  pub question : ℕ
+  pub setup : Setup
 
 unfoldable pub read_setup : Row → ReadSetup
 read_setup r =

@@ -1,13 +1,17 @@
 // Line 1 of a sheet: its values, questions 32 to 34 of it, and the machine that a run of the sheet starts from.
 #![tactic(auto)]
 
-ghost use Rattle.std.specs.Prelude.{◌≡◌, ◌++◌, ◌+◌, ◌-◌, ◌*◌, ◌≤◌, length, replicate};
+pub mod question;
+
+ghost use Rattle.std.specs.Prelude.{◌≡◌, ℕ, ◌++◌, ◌+◌, ◌-◌, ◌*◌, ◌≤◌, length, replicate, IfOk};
+ghost use Rattle.text.specs.Split.{values_of, row_as};
 ghost use Rattle.model.specs.Machine.{last_region, no_region, regions_from};
-ghost use Rattle.setup.specs.Setup.{regions_given, permissions_in_range, setup_row, read_setup, machine_of};
+ghost use Rattle.setup.specs.Question.{question_of};
+ghost use Rattle.setup.specs.Setup.{regions_given, counted, permissions_in_range, budget_field, digits_in_range, values_in_range, setup_row, setup_of, read_setup, machine_of};
 
 use model::{Fault, HfiState, Machine, REGIONS, Region};
-use text::ask;
-use text::row::{all_wide, read_row};
+use question::Question;
+use text::row::{Field, all_wide, read_row};
 
 // The regions that a short line 1 gives; a long one gives all.
 const FEW_REGIONS: usize = 3;
@@ -20,6 +24,19 @@ const LONG_FORM: usize = 4 + 3 * REGIONS;
 // What an empty budget means.
 const DEFAULT_BUDGET: u64 = 50000;
 
+const NO_REGION: Region = Region {
+    base: 0,
+    bound: 0,
+    permission: 0,
+};
+
+const NO_FAULT: Fault = Fault {
+    occurred: 0,
+    region: 0,
+    op: 0,
+    address: 0,
+};
+
 // The values of line 1.
 #[derive(Clone, Copy)]
 pub struct Setup {
@@ -28,13 +45,6 @@ pub struct Setup {
     pub handler: u64,
     pub regions: [Region; REGIONS],
     pub budget: u64,
-}
-
-// Line 1 as read: the question of 32 to 34 that it fails first, 0 where it fails none, and its values.
-#[derive(Clone, Copy)]
-pub struct ReadSetup {
-    pub question: u64,
-    pub setup: Setup,
 }
 
 // How many regions a line of so many fields gives.
@@ -49,70 +59,100 @@ fn regions_given(count: usize) -> usize
     }
 }
 
+// The budget's place in a line that gives n regions.
+fn budget_field(n: usize) -> usize
+    requires { n ≤ last_region }
+    ensures { result ≡ budget_field n }
+{
+    3 + 3 * n
+}
+
 // The regions, of which the first n are in the values from place `first` on; the others are zero.
 pub fn regions_from(values: &[u64], first: usize, n: usize) -> [Region; REGIONS]
     requires { (n ≤ last_region) × (first + 3 * n ≤ length values.now) }
     ensures { result ≡ regions_from values.now first n ++ replicate (last_region - n) no_region }
 {
-    let none = Region {
-        base: 0,
-        bound: 0,
-        permission: 0,
-    };
-    let mut regions = [none; REGIONS];
-    let mut i = 0;
-    while i < n {
+    let mut regions = [NO_REGION; REGIONS];
+    for i in 0..n {
         let k = first + 3 * i;
         regions[i] = Region {
             base: values[k],
             bound: values[k + 1],
             permission: values[k + 2],
         };
-        i += 1;
     }
     regions
 }
 
 // Are all permissions at most ff?
-fn permissions_in_range(rs: [Region; REGIONS]) -> bool
-    ensures { result ≡ permissions_in_range rs }
+fn permissions_in_range(rs: &[Region; REGIONS]) -> bool
+    ensures { result ≡ permissions_in_range rs.now }
 {
-    let mut i = 0;
-    while i < REGIONS {
-        let r = rs[i];
-        if 0xff < r.permission {
-            return false;
-        }
-        i += 1;
-    }
-    true
+    rs.iter().all(|r| r.permission <= 0xff)
 }
 
-// The line is taken apart once. Every test is worked out, and the first no is picked from the answers.
-pub fn read_setup(line: &[u8]) -> ReadSetup
-    ensures { result ≡ read_setup (setup_row line.now) }
+// The fields' numbers.
+fn values(fields: [Field; LONG_FORM]) -> [u64; LONG_FORM]
+    ensures { result ≡ values_of fields }
 {
-    let mut values = [0u64; LONG_FORM];
-    let mut widths = [0u64; LONG_FORM];
-    let count = read_row(line, &mut values, &mut widths);
-    let n = regions_given(count);
-    let last = 3 + 3 * n;
-    let regions = regions_from(&values, 3, n);
-    let budget = ask(widths[last] == 0, values[last], DEFAULT_BUDGET);
-    let wide = all_wide(&widths[..last]) & (widths[last] <= 16);
-    let counted = (count == SHORT_FORM) | (count == LONG_FORM);
-    let range = (values[1] <= 0xff) & (permissions_in_range(regions) & (budget <= 0xffffffff));
-    let setup = Setup {
+    fields.map(|f| f.value)
+}
+
+// The values of a line that gives n regions.
+fn setup_of(n: usize, fields: &[Field; LONG_FORM]) -> Setup
+    requires { n ≤ last_region }
+    ensures { (count : ℕ) → result ≡ setup_of n (row_as count fields.now) }
+{
+    let values = values(*fields);
+    let budget = fields[budget_field(n)];
+    Setup {
         pc: values[0],
         options: values[1],
         handler: values[2],
-        regions,
-        budget,
-    };
-    ReadSetup {
-        question: ask(counted, 32, ask(wide, 33, ask(range, 34, 0))),
-        setup,
+        regions: regions_from(&values, 3, n),
+        budget: if budget.width == 0 {
+            DEFAULT_BUDGET
+        } else {
+            budget.value
+        },
     }
+}
+
+// Has a line so many fields?
+fn counted(count: usize) -> bool
+    ensures { result ≡ counted count }
+{
+    count == SHORT_FORM || count == LONG_FORM
+}
+
+// Has each field before the budget 1 to 16 digits, and the budget at most 16?
+fn digits_in_range(fields: &[Field; LONG_FORM], n: usize) -> bool
+    requires { n ≤ last_region }
+    ensures { (count : ℕ) → result ≡ digits_in_range n (row_as count fields.now) }
+{
+    let last = budget_field(n);
+    all_wide(&fields[..last]) && fields[last].width <= 16
+}
+
+// Are options and permissions at most ff, and the budget at most ffffffff?
+fn values_in_range(s: &Setup) -> bool
+    ensures { result ≡ values_in_range s.now }
+{
+    s.options <= 0xff && permissions_in_range(&s.regions) && s.budget <= 0xffffffff
+}
+
+// The questions of line 1 in their order. The line is taken apart once.
+pub fn read_setup(line: &[u8]) -> Result<Setup, Question>
+    ensures refusal { question_of result ≡ (read_setup (setup_row line.now)).question }
+    ensures value { IfOk result (λ setup. setup ≡ (read_setup (setup_row line.now)).setup) }
+{
+    let (count, fields) = read_row::<LONG_FORM>(line);
+    let n = regions_given(count);
+    let setup = setup_of(n, &fields);
+    Question::FieldCount.ask(counted(count))?;
+    Question::FieldWidth.ask(digits_in_range(&fields, n))?;
+    Question::Range.ask(values_in_range(&setup))?;
+    Ok(setup)
 }
 
 // The machine in HFI mode, with the values of line 1; all else is 0.
@@ -120,12 +160,6 @@ pub fn machine_of(s: Setup) -> Machine
     ensures { result ≡ machine_of s }
 {
     let regions = s.regions;
-    let fault = Fault {
-        occurred: 0,
-        region: 0,
-        op: 0,
-        address: 0,
-    };
     let hfi = HfiState {
         mode: 1,
         reason: 0,
@@ -134,8 +168,11 @@ pub fn machine_of(s: Setup) -> Machine
         handler: s.handler,
         selector: 0,
         regions,
-        fault,
+        fault: NO_FAULT,
     };
-    let x = [0u64; 32];
-    Machine { x, pc: s.pc, hfi }
+    Machine {
+        x: [0; 32],
+        pc: s.pc,
+        hfi,
+    }
 }

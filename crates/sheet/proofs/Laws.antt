@@ -5,23 +5,41 @@ use mathlib.Core.List.{List, [], ◌∷◌}
 use Prim.Native.Nat.{ℕ, ◌+◌, ◌-◌, ◌%◌, ◌<◌, ◌≤◌}
 use native.Mathlib.Omega.{arith}
 use lib.Dec.{eqb, leb}
-use lib.ListN.{length, get_or, drop, drop_of_length-le}
+use lib.ListN.{length, get_or, take, drop, get_or-map, length-drop}
+use lib.Seq.{drop-drop}
 use borrow.Author.Tests.{leb-true, eqb-true, eq-eqb, ne_eqb}
-use Rattle.text.specs.Scan.{newline, first_that, line_number, LineStart}
-use Rattle.text.specs.Split.{lines, Row, row_of}
+use Rattle.text.specs.Scan.{newline, is, count, first_that, line_number, LineStart}
+use Rattle.text.specs.declared.row.Field.{Field}
+use Rattle.text.specs.Questions.{first_no}
+use Rattle.text.specs.Split.{FirstLine, lines, Row, row_as, row_of}
 use Rattle.text.proofs.Asking.{first_half, second_half, yes_at}
+use Rattle.std.specs.Prelude.{Some, None}
+use Rattle.text.proofs.Scanning.{found, found_is}
 use Rattle.text.proofs.Splitting.{line_more, line_ends, lines_none}
 use Rattle.text.proofs.LineNumbers.{number_first, start_first, start_next}
 use Rattle.model.specs.Bytes.{written}
 use Rattle.setup.specs.Setup.{setup_row, read_setup}
-use Rattle.sheet.specs.declared.ReadWord.{ReadWord}
-use Rattle.sheet.specs.Words.{word_of, words_of, word_questions, read_word, memory_of}
-use Rattle.sheet.specs.Sheet.{refusal, whole, foreign, foreign_line, file_questions, file_no, file_refusal, words_refusal, lines_refusal, sheet_refusal}
+use Rattle.std.specs.List.{count_by}
+use Rattle.std.proofs.lemmas.List.Recursion.{is_count_by}
+use Rattle.sheet.specs.declared.WordLine.{WordLine}
+use Rattle.sheet.specs.Words.{word_of, words_of, placed, word_questions, read_word, memory_of}
+use Rattle.sheet.specs.Sheet.{refusal, whole, foreign, foreign_line, foreign_found, file_questions, file_no, file_refusal, words_refusal, lines_refusal, sheet_refusal}
 
 -- a word line that is read is the word line
 pub read_is : (least : ℕ) (r : Row) → ((read_word least r).address ≡ (word_of r).address) × ((read_word least r).word ≡ (word_of r).word)
 unfolding read_word
 read_is least r = (refl, refl)
+
+-- a word line by its slots, and by its questions
+pub word_at : (n : ℕ) (fs : List Field)
+    → record { address = (get_or fs 0 (record { value = 0; width = 0 })).value; word = (get_or fs 1 (record { value = 0; width = 0 })).value } ≡ word_of (row_as n fs)
+word_at n fs =
+    let none : Field = record { value = 0; width = 0 } in
+    rw (get_or-map (λ f. f.value) fs 0 none, get_or-map (λ f. f.value) fs 1 none)
+
+pub word_asked : (least : ℕ) (r : Row) (n : ℕ) → first_no (word_questions least r (word_of r)) ≡ n → (read_word least r).question ≡ n
+unfolding read_word
+word_asked least r n e = e
 
 -- where it passes, its word lies in memory
 pub word_fits : (least : ℕ) (r : Row) → (read_word least r).question ≡ 0 → (read_word least r).address ≤ 0xfffc
@@ -48,14 +66,20 @@ pub file_whole : (s : List ℕ) → file_no s ≡ 0 → (1 ≤ length s) × (len
 unfolding file_no
 file_whole s e = whole_parts s (yes_at 0 (file_questions s) refl e)
 
+-- ---- line numbers, as std counts
+counted_is : (c : ℕ) (s : List ℕ) → count c s ≡ count_by (is c) s
+unfolding count
+counted_is c s = is_count_by (count c) (is c) refl (λ b bs. by (is c b) (count c bs)) s
+  where
+    by : (t : Bool) (n : ℕ) → cond t 1 0 + n ≡ cond t (1 + n) n
+    by true n = refl
+    by false n = omega arith
+
+pub number_counted : (s : List ℕ) (at n : ℕ) → n ≡ count_by (is newline) (take at s) → 1 + n ≡ line_number s at
+number_counted s at n e = omega (arith, e, counted_is newline (take at s))
+
 -- ---- the first foreign byte: its line, or 0; so 31 may ask for the line
 module _ (s : List ℕ) where
-  pub foreign_here : (i : ℕ) → i < length s → first_that foreign s ≡ i → line_number s i ≡ foreign_line s
-  foreign_here i h e = rw (e, ne_eqb i (length s) (λ z. omega (arith, z)))
-
-  pub foreign_none : first_that foreign s ≡ length s → 0 ≡ foreign_line s
-  foreign_none e = rw (eq-eqb (first_that foreign s) (length s) e)
-
   pub foreign_asked : eqb (foreign_line s) 0 ≡ eqb (first_that foreign s) (length s)
   foreign_asked = by (eqb (first_that foreign s) (length s))
     where
@@ -63,42 +87,104 @@ module _ (s : List ℕ) where
       by true = refl
       by false = ne_eqb (line_number s (first_that foreign s)) 0 (λ z. omega (arith, z))
 
--- ---- the word lines from position `at` on: the line there is read as w
-module _ (s line : List ℕ) (at least : ℕ) (w : ReadWord) (e : line ≡ get_or (lines (drop at s)) 0 []) (h : at < length s) (j : w ≡ read_word least (row_of 2 line)) where
-  refused : words_refusal s at least (lines (drop at s)) ≡ words_refusal s at least (line ∷ lines (drop (at + length line + 1) s))
-  refused = ap (words_refusal s at least) (line_more s line at e h)
+  -- a search finds it, or finds none
+  pub foreign_at : (i : ℕ) → Some i ≡ found foreign s → Some (line_number s i) ≡ foreign_found s
+  foreign_at i e = by (eqb (first_that foreign s) (length s)) (e ∙ found_is foreign s)
+    where
+      by : (t : Bool) → Some i ≡ cond t None (Some (first_that foreign s)) → Some (line_number s i) ≡ cond t None (Some (line_number s (first_that foreign s)))
+      by true f = cc
+      by false f = let k : i ≡ first_that foreign s = cc in ap (λ n. Some (line_number s n)) k
 
-  pub refusal_on : w.question ≡ 0
-      → words_refusal s (at + length line + 1) (w.address + 1) (lines (drop (at + length line + 1) s)) ≡ words_refusal s at least (lines (drop at s))
+  pub foreign_nowhere : None ≡ found foreign s → None ≡ foreign_found s
+  foreign_nowhere e = by (eqb (first_that foreign s) (length s)) (e ∙ found_is foreign s)
+    where
+      by : (t : Bool) → None ≡ cond t None (Some (first_that foreign s)) → None ≡ cond t None (Some (line_number s (first_that foreign s)))
+      by true f = refl
+      by false f = cc
+
+  -- ---- 30 and 31, of the file
+  pub file_not_whole : whole s ≡ false → refusal 30 0 ≡ file_refusal s
+  unfolding file_no
+  file_not_whole e = rw e refl
+
+  pub file_foreign : (n : ℕ) → whole s ≡ true → Some n ≡ foreign_found s → refusal 31 n ≡ file_refusal s
+  unfolding file_no
+  file_foreign n e f = rw e (by (eqb (first_that foreign s) (length s)) f)
+    where
+      by : (t : Bool) → Some n ≡ cond t None (Some (line_number s (first_that foreign s)))
+          → refusal 31 n ≡ refusal (cond t 0 31) (cond (eqb (cond t 0 31) 31) (cond t 0 (line_number s (first_that foreign s))) 0)
+      by true g = cc
+      by false g = let k : n ≡ line_number s (first_that foreign s) = cc in ap (refusal 31) k
+
+  pub file_passed : whole s ≡ true → None ≡ foreign_found s → refusal 0 0 ≡ file_refusal s
+  unfolding file_no
+  file_passed e f = rw e (by (eqb (first_that foreign s) (length s)) f)
+    where
+      by : (t : Bool) → None ≡ cond t None (Some (line_number s (first_that foreign s)))
+          → refusal 0 0 ≡ refusal (cond t 0 31) (cond (eqb (cond t 0 31) 31) (cond t 0 (line_number s (first_that foreign s))) 0)
+      by true g = refl
+      by false g = cc
+
+-- ---- the word lines: those left begin at position `at`, with the line of number n
+pub record LeftAt (s left : List ℕ) (at n : ℕ) : Type 0 where
+  pub is : left ≡ drop at s
+  pub inside : at ≤ length s
+  pub start : LineStart s at n
+
+module _ (s left line after : List ℕ) (at n : ℕ) (l : LeftAt s left at n) (f : FirstLine left line after) where
+  left_width : length left ≡ length s - at
+  left_width = ap length l.is ∙ length-drop at s
+
+  pub left_lines : lines left ≡ line ∷ lines after
+  left_lines =
+      let z : 0 + length line + 1 ≡ length line + 1 = omega arith in
+      line_more left line 0 f.first f.some ∙ ap (λ k. line ∷ lines (drop k left)) z ∙ ap (λ t. line ∷ lines t) (sym f.after)
+
+  -- the next line, where the text ends in 0a
+  pub left_on : get_or s (length s - 1) 0 ≡ newline → LeftAt s after (at + length line + 1) (n + 1)
+  left_on z =
+      let first : line ≡ get_or (lines (drop at s)) 0 [] = f.first ∙ ap (λ t. get_or (lines t) 0 []) l.is in
+      let some : at < length s = omega (arith, f.some, left_width) in
+      let end : at + length line < length s = line_ends s line at first some z in
+      let next : at + (length line + 1) ≡ at + length line + 1 = omega arith in
+      record {
+        is = f.after ∙ ap (drop (length line + 1)) l.is ∙ drop-drop (length line + 1) at s ∙ ap (λ k. drop k s) next;
+        inside = omega arith;
+        start = start_next s line at first end n l.start;
+      }
+
+  pub left_shorter : length after < length left
+  left_shorter = omega (arith, f.some, ap length f.after, length-drop (length line + 1) left)
+
+  -- line by line it is read as w, and passes or is refused
+  pub refusal_on : (least a : ℕ) → (read_word least (row_of 2 line)).question ≡ 0 → a ≡ (word_of (row_of 2 line)).address
+      → words_refusal s (at + length line + 1) (a + 1) (lines after) ≡ words_refusal s at least (lines left)
   unfolding words_refusal
-  refusal_on z =
-      let y : (read_word least (row_of 2 line)).question ≡ 0 = sym (ap (λ r. r.question) j) ∙ z in
-      ap (λ r. words_refusal s (at + length line + 1) (r.address + 1) (lines (drop (at + length line + 1) s))) j
-      ∙ sym (refused ∙ rw (eq-eqb (read_word least (row_of 2 line)).question 0 y))
+  refusal_on least a z e =
+      ap (λ k. words_refusal s (at + length line + 1) (k + 1) (lines after)) (e ∙ sym (read_is least (row_of 2 line)).0)
+      ∙ sym (ap (words_refusal s at least) left_lines ∙ rw (eq-eqb (read_word least (row_of 2 line)).question 0 z))
 
-  pub refusal_stop : (w.question ≡ 0 → ⊥) → refusal w.question (line_number s at) ≡ words_refusal s at least (lines (drop at s))
+  pub refusal_stop : (least q : ℕ) → q ≡ (read_word least (row_of 2 line)).question → (q ≡ 0 → ⊥) → refusal q n ≡ words_refusal s at least (lines left)
   unfolding words_refusal
-  refusal_stop z =
-      let y : (read_word least (row_of 2 line)).question ≡ 0 → ⊥ = λ u. z (ap (λ r. r.question) j ∙ u) in
-      ap (λ r. refusal r.question (line_number s at)) j ∙ sym (refused ∙ rw (ne_eqb (read_word least (row_of 2 line)).question 0 y))
+  refusal_stop least q e z =
+      let y : (read_word least (row_of 2 line)).question ≡ 0 → ⊥ = λ u. z (e ∙ u) in
+      ap (refusal q) l.start.counted
+      ∙ ap (λ k. refusal k (line_number s at)) e
+      ∙ sym (ap (words_refusal s at least) left_lines ∙ rw (ne_eqb (read_word least (row_of 2 line)).question 0 y))
 
-  pub memory_on : (mem after : List ℕ) → after ≡ written mem w.address 0 4 w.word
-      → memory_of after (words_of (lines (drop (at + length line + 1) s))) ≡ memory_of mem (words_of (lines (drop at s)))
+  pub memory_on : (mem now : List ℕ) (w : WordLine) → w ≡ word_of (row_of 2 line) → now ≡ written mem w.address 0 4 w.word
+      → memory_of now (words_of (lines after)) ≡ memory_of mem (words_of (lines left))
   unfolding memory_of
-  memory_on mem after m =
-      let a : w.address ≡ (word_of (row_of 2 line)).address = ap (λ r. r.address) j ∙ (read_is least (row_of 2 line)).0 in
-      let b : w.word ≡ (word_of (row_of 2 line)).word = ap (λ r. r.word) j ∙ (read_is least (row_of 2 line)).1 in
-      ap (λ k. memory_of k (words_of (lines (drop (at + length line + 1) s))))
-      (m ∙ ap (λ k. written mem k 0 4 w.word) a ∙ ap (written mem (word_of (row_of 2 line)).address 0 4) b)
-      ∙ sym (ap (λ ls. memory_of mem (words_of ls)) (line_more s line at e h))
+  memory_on mem now w e m =
+      ap (λ k. memory_of k (words_of (lines after))) (m ∙ ap (placed mem) e) ∙ sym (ap (λ ls. memory_of mem (words_of ls)) left_lines)
 
-pub refusal_off : (s : List ℕ) (at least : ℕ) → length s ≤ at → words_refusal s at least (lines (drop at s)) ≡ refusal 0 0
+pub refusal_off : (s left : List ℕ) (at least : ℕ) → left ≡ [] → words_refusal s at least (lines left) ≡ refusal 0 0
 unfolding words_refusal
-refusal_off s at least h = ap (words_refusal s at least) (ap lines (drop_of_length-le s h) ∙ lines_none)
+refusal_off s left at least e = ap (words_refusal s at least) (ap lines e ∙ lines_none)
 
-pub memory_off : (s : List ℕ) (at : ℕ) (mem : List ℕ) → length s ≤ at → memory_of mem (words_of (lines (drop at s))) ≡ mem
+pub memory_off : (left mem : List ℕ) → left ≡ [] → memory_of mem (words_of (lines left)) ≡ mem
 unfolding memory_of
-memory_off s at mem h = ap (λ ls. memory_of mem (words_of ls)) (ap lines (drop_of_length-le s h) ∙ lines_none)
+memory_off left mem e = ap (λ ls. memory_of mem (words_of ls)) (ap lines e ∙ lines_none)
 
 -- ---- the whole sheet: refused as a file, refused at line 1, or read on from line 2
 pub sheet_file : (s : List ℕ) → (file_no s ≡ 0 → ⊥) → sheet_refusal s ≡ file_refusal s

@@ -1,4 +1,5 @@
 pub mod Laws
+pub mod Naming
 pub mod LineNumbers
 pub mod LineOne
 pub mod EmptyFields

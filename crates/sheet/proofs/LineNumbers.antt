@@ -16,9 +16,8 @@ use Rattle.text.proofs.Scanning.{first_is, first_le, first_before}
 use Rattle.text.proofs.Splitting.{line_more, line_ends, lines_none}
 use Rattle.text.proofs.LineNumbers.{LineAt, line_there, lines_from, line_end, number_within, start_first, start_next}
 use Rattle.setup.specs.Setup.{setup_row, read_setup}
-use Rattle.sheet.specs.declared.Refusal.{Refusal}
 use Rattle.sheet.specs.Words.{word_of, read_word}
-use Rattle.sheet.specs.Sheet.{refusal, whole, foreign, file_no, file_refusal, words_refusal, sheet_refusal}
+use Rattle.sheet.specs.Sheet.{Refusal, refusal, whole, foreign, file_no, file_refusal, words_refusal, sheet_refusal}
 use Rattle.sheet.proofs.Laws.{read_is, whole_parts, file_whole, sheet_file, sheet_setup, sheet_words, second_line}
 
 -- what the address of line j + 2 is to be at least: 0 in line 2, then one more than the address in the line before

@@ -1,6 +1,6 @@
 -- A sheet as read: whether it is refused, its setup and its word lines (01, The run sheet).
--- Refusal is declared in src/lib.rt, Setup in setup/src/lib.rt, WordLine in Words.antt. Assumes nothing.
-use Rattle.std.specs.Prelude.{Bool, cond, not, ◌&&◌, ◌||◌, List, [], ◌∷◌, ◌++◌, ℕ, ◌+◌, ◌-◌, eqb, leb, length, get_or, drop}
+-- Setup is declared in setup/src/lib.rt, WordLine in src/lib.rt; the code's refusal too, whose question is an enum. Assumes nothing.
+use Rattle.std.specs.Prelude.{Bool, cond, not, ◌&&◌, ◌||◌, List, [], ◌∷◌, ◌++◌, ℕ, ◌+◌, ◌-◌, eqb, leb, length, get_or, drop, Option, None, Some, Result, Ok, Err}
 use Rattle.text.specs.Ascii.{ascii}
 use Rattle.text.specs.Scan.{newline, comma, first_that, line_number}
 use Rattle.text.specs.Number.{is_digit, decimal}
@@ -8,12 +8,23 @@ use Rattle.text.specs.Split.{lines, row_of}
 use Rattle.text.specs.Questions.{first_no}
 use Rattle.setup.specs.declared.Setup.{Setup}
 use Rattle.setup.specs.Setup.{setup_row, read_setup}
-use Rattle.sheet.specs.declared.Refusal.{Refusal}
-use Rattle.sheet.specs.Words.{WordLine, words_of, read_word}
+use Rattle.setup.specs.Question.{question_number}
+use Rattle.sheet.specs.declared.Refusal as code
+use Rattle.sheet.specs.declared.WordLine.{WordLine}
+use Rattle.sheet.specs.Words.{words_of, read_word}
 
 -- a question that is answered no, and the line that it is asked of; the question 0 refuses nothing
+pub record Refusal : Type 0 where
+  pub question : ℕ
+  pub lineno : ℕ
+
 abbrev pub refusal : ℕ → ℕ → Refusal
 refusal question lineno = record { question = question; lineno = lineno }
+
+-- what the code answers as a refusal: one, or none
+abbrev pub refusal_of : {A : Type 0} → Result A code.Refusal → Refusal
+refusal_of (Ok a) = refusal 0 0
+refusal_of (Err r) = refusal (question_number r.question) r.lineno
 
 -- ---- the whole file
 
@@ -35,6 +46,10 @@ file_no s = first_no (file_questions s)
 -- "for 31 the line of the first such byte"; 0 where there is none
 abbrev pub foreign_line : List ℕ → ℕ
 foreign_line s = cond (eqb (first_that foreign s) (length s)) 0 (line_number s (first_that foreign s))
+
+-- that line, where there is one
+abbrev pub foreign_found : List ℕ → Option ℕ
+foreign_found s = cond (eqb (first_that foreign s) (length s)) None (Some (line_number s (first_that foreign s)))
 
 -- "0 for 30"
 abbrev pub file_refusal : List ℕ → Refusal

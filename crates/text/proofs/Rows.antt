@@ -1,51 +1,59 @@
 -- A line read field by field into slots.
 use mathlib.Core.Path.{◌≡◌, refl, ap, sym, ◌∙◌}
-use mathlib.Core.Bool.{true, ◌&&◌}
-use mathlib.Core.List.{List, [], ◌∷◌, ◌++◌, map, append-nil}
+use mathlib.Core.Bool.{true, cond, ◌&&◌}
+use lib.Dec.{eqb}
+use mathlib.Core.List.{List, [], ◌∷◌, ◌++◌, map, map-append, append-nil}
 use Prim.Native.Nat.{ℕ, zero, suc, ◌+◌, ◌<◌, ◌≤◌}
-use native.Mathlib.Numerals.{add-one}
 use native.Mathlib.Omega.{arith}
-use lib.ListN.{length, get_or, drop, take, set, replicate, drop_of_length-le, length-replicate, length-map, get_or-map}
-use lib.Seq.{drop-cons, sets, sets-eq, length-sets}
+use lib.ListN.{length, get_or, take, set, replicate, drop_of_length-le, length-replicate, length-map, length-append, get_or-map}
+use lib.Seq.{sets, sets-eq, length-sets}
+use Rattle.std.proofs.lemmas.List.{map-set}
+use Rattle.std.specs.List.{list_all, slice_split, onto_first}
+use Rattle.std.proofs.lemmas.List.Recursion.{same_from_clauses}
 use Rattle.text.specs.Number.{number}
-use Rattle.text.specs.Split.{fields, Row, row_with, row_over, row_of, wide, all_wide}
-use Rattle.text.proofs.Splitting.{field_more, field_last}
+use Rattle.text.specs.declared.row.Field.{Field}
+use Rattle.text.specs.Scan.{is, comma}
+use Rattle.text.specs.Split.{push, split, values_of, widths_of, fields, Row, row_with, row_as, row_over, row_of, wide, all_wide}
+use Rattle.text.proofs.Writing.{stores_append}
 use Rattle.text.proofs.Asking.{first_half, second_half}
 
--- the row of a line of which n fields are read and the fields fs remain
-abbrev pub row_from : ℕ → List ℕ → List ℕ → List (List ℕ) → Row
-row_from n vs ws fs = row_with (n + length fs) (sets vs n (map (number 16) fs)) (sets ws n (map length fs))
+-- the pieces that std cuts a line into are its fields
+pushed : (b : ℕ) (ps : List (List ℕ)) → onto_first b ps ≡ push b ps
+pushed b [] = refl
+pushed b (p ∷ ps) = refl
 
-pub row_all : (vs ws line : List ℕ) → row_from 0 vs ws (fields line) ≡ row_over vs ws line
-row_all vs ws line =
-    let z : 0 + length (fields line) ≡ length (fields line) = omega arith in
-    ap (λ n. row_with n (sets vs 0 (map (number 16) (fields line))) (sets ws 0 (map length (fields line)))) z
+pub fields_are : (line : List ℕ) → fields line ≡ slice_split (is comma) line
+unfolding split
+fields_are line =
+    same_from_clauses fields (slice_split (is comma)) (λ b ps. cond (eqb b comma) ([] ∷ ps) (push b ps)) refl (λ _ _. refl)
+    (λ b bs. ap (λ ps. cond (eqb b comma) ([] ∷ slice_split (is comma) bs) ps) (pushed b (slice_split (is comma) bs))) line
 
--- the field f begins at position `at` and goes to slot n: its value v, and its width
-module _ (line f : List ℕ) (at n v : ℕ) (vs ws us zs : List ℕ) (e : f ≡ get_or (fields (drop at line)) 0 []) (g : v ≡ number 16 f)
-    (p : us ≡ set vs n v) (q : zs ≡ set ws n (length f)) where
-  row_on : (fs : List (List ℕ)) → row_from (n + 1) us zs fs ≡ row_from n vs ws (f ∷ fs)
-  row_on fs =
-      let s : n + 1 ≡ suc n = omega arith in
-      let l : suc n + length fs ≡ n + suc (length fs) = omega arith in
-      rw (p, q, g, s) (ap (λ k. row_with k (sets vs n (map (number 16) (f ∷ fs))) (sets ws n (map length (f ∷ fs)))) l)
+-- the row of the fields fs
+abbrev pub row_by : List ℕ → List ℕ → List (List ℕ) → Row
+row_by vs ws fs = row_with (length fs) (sets vs 0 (map (number 16) fs)) (sets ws 0 (map length fs))
 
-  pub row_more : at + length f < length line → row_from (n + 1) us zs (fields (drop (at + length f + 1) line)) ≡ row_from n vs ws (fields (drop at line))
-  row_more h = row_on (fields (drop (at + length f + 1) line)) ∙ ap (row_from n vs ws) (sym (field_more line f at e h))
+-- a value more
+sets_push : (vs : List ℕ) (g : List ℕ → ℕ) (fs : List (List ℕ)) (f : List ℕ)
+    → sets vs 0 (map g (fs ++ (f ∷ []))) ≡ set (sets vs 0 (map g fs)) (length fs) (g f)
+sets_push vs g fs f =
+    let n : 0 + length (map g fs) ≡ length fs = omega (arith, length-map fs g) in
+    ap (sets vs 0) (map-append g fs (f ∷ []))
+    ∙ sym (stores_append vs 0 (map g fs) (g f ∷ []))
+    ∙ ap (λ k. set (sets vs 0 (map g fs)) k (g f)) n
 
-  pub row_last : length line ≤ at + length f → row_with (n + 1) us zs ≡ row_from n vs ws (fields (drop at line))
-  row_last h =
-      let z : n + 1 ≡ n + 1 + 0 = omega arith in
-      ap (λ k. row_with k us zs) z ∙ row_on [] ∙ ap (row_from n vs ws) (sym (field_last line f at e h))
+-- the field f goes to the slot after those of fs
+pub row_push : (vs ws : List ℕ) (slots : List Field) (n v : ℕ) (fs : List (List ℕ)) (f : List ℕ) → v ≡ number 16 f
+    → row_as n slots ≡ row_by vs ws fs → row_as (n + 1) (set slots n (record { value = v; width = length f })) ≡ row_by vs ws (fs ++ (f ∷ []))
+row_push vs ws slots n v fs f g e =
+    let count : n ≡ length fs = ap (λ r. r.count) e in
+    let more : length (fs ++ (f ∷ [])) ≡ n + 1 = omega (arith, length-append fs (f ∷ []), count) in
+    rw (map-set (λ k. k.value) slots n (record { value = v; width = length f }), map-set (λ k. k.width) slots n (record { value = v; width = length f }), g)
+    (rw (more, sets_push vs (number 16) fs f, sets_push ws length fs f, ← count, ← ap (λ r. r.values) e, ← ap (λ r. r.widths) e) refl)
 
--- ---- widths: those before slot i are wide
-pub wide_on : (ws : List ℕ) (i : ℕ) → i < length ws → all_wide (drop i ws) ≡ wide (get_or ws i 0) && all_wide (drop (i + 1) ws)
+-- ---- widths
+pub wide_is : (fs : List Field) → all_wide (widths_of fs) ≡ list_all (λ f. wide f.width) fs
 unfolding all_wide
-wide_on ws i h = rw (drop-cons ws i 0 h, add-one i)
-
-pub wide_off : (ws : List ℕ) (i : ℕ) → length ws ≤ i → all_wide (drop i ws) ≡ true
-unfolding all_wide
-wide_off ws i h = rw (drop_of_length-le ws h)
+wide_is fs = same_from_clauses (λ l. all_wide (widths_of l)) (list_all (λ f. wide f.width)) (λ f b. wide f.width && b) refl (λ _ _. refl) (λ _ _. refl) fs
 
 -- each of the first n is wide
 pub wide_at : (ws : List ℕ) (n i : ℕ) → i < n → i < length ws → all_wide (take n ws) ≡ true → wide (get_or ws i 0) ≡ true
@@ -62,9 +70,16 @@ sets_all l vs e =
     let none : length l ≤ 0 + length vs = omega (arith, e) in
     sets-eq vs l 0 fits ∙ ap (λ k. vs ++ k) (drop_of_length-le l none) ∙ append-nil vs
 
-pub row_in : (n : ℕ) (line : List ℕ) (r : Row) → r ≡ row_over (replicate n 0) (replicate n 0) line → r ≡ row_of n line
+map_replicate : {A B : Type 0} (f : A → B) (n : ℕ) (a : A) → map f (replicate n a) ≡ replicate n (f a)
+map_replicate f zero a = refl
+map_replicate f (suc n) a = ap (λ l. f a ∷ l) (map_replicate f n a)
+
+abbrev no_field : Field
+no_field = record { value = 0; width = 0 }
+
+pub row_in : (n : ℕ) (line : List ℕ) (r : Row) → r ≡ row_over (values_of (replicate n no_field)) (widths_of (replicate n no_field)) line → r ≡ row_of n line
 unfolding row_of
-row_in n line r e = e
+row_in n line r e = e ∙ rw (map_replicate (λ f. f.value) n no_field, map_replicate (λ f. f.width) n no_field) refl
 
 pub row_count : (n : ℕ) (line : List ℕ) → (row_of n line).count ≡ length (fields line)
 unfolding row_of

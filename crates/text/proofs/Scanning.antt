@@ -1,13 +1,18 @@
 -- Scanning a text. A loop at position i speaks of what is left, `drop i s`: each definition has a law for the next byte and one for the end.
-use mathlib.Core.Path.{◌≡◌, refl, ap}
+use mathlib.Core.Path.{◌≡◌, refl, ap, sym}
 use mathlib.Core.Bool.{Bool, true, false, cond}
 use mathlib.Core.List.{List, [], ◌∷◌, ◌++◌}
 use Prim.Native.Nat.{ℕ, zero, suc, ◌+◌, ◌-◌, ◌<◌, ◌≤◌}
 use native.Mathlib.Numerals.{add-one}
 use native.Mathlib.Omega.{arith}
-use lib.Dec.{lit≤}
+use lib.Dec.{lit≤, ltb, eqb}
 use lib.ListN.{length, get_or, drop, take, length-drop, drop_of_length-le}
 use lib.Seq.{drop-cons, take_all}
+use borrow.Author.Tests.{ltb-true, ltb-false, eq-eqb, ne_eqb}
+use Rattle.std.proofs.Common.{Option, Some, None}
+use Rattle.std.specs.Option.{unwrap_or}
+use Rattle.std.specs.List.{position_or_len}
+use Rattle.std.proofs.lemmas.List.Recursion.{is_position_or_len}
 use Rattle.text.specs.Scan.{first_that, is, count}
 
 -- the position of the first c; the length where there is none
@@ -36,6 +41,31 @@ first_le test (b ∷ bs) = by (test b) (first_le test bs)
     by : (t : Bool) → first_that test bs ≤ length bs → cond t 0 (suc (first_that test bs)) ≤ suc (length bs)
     by true h = omega arith
     by false h = omega arith
+
+-- it is std's word, and what a search of a slice answers
+pub first_is_position : (test : ℕ → Bool) (s : List ℕ) → first_that test s ≡ position_or_len test s
+unfolding first_that
+first_is_position test s =
+    is_position_or_len (first_that test) test refl (λ b bs. (let e : suc (first_that test bs) ≡ 1 + first_that test bs = omega arith in ap (cond (test b) 0) e)) s
+
+abbrev pub found : (ℕ → Bool) → List ℕ → Option ℕ
+found test s = cond (ltb (position_or_len test s) (length s)) (Some (position_or_len test s)) None
+
+pub first_found : (test : ℕ → Bool) (s : List ℕ) (r : Option ℕ)
+    → r ≡ found test s → unwrap_or r (length s) ≡ first_that test s
+first_found test s r e = rw (e, sym (first_is_position test s)) (by (ltb (first_that test s) (length s)) refl)
+  where
+    by : (t : Bool) → ltb (first_that test s) (length s) ≡ t → unwrap_or (cond t (Some (first_that test s)) None) (length s) ≡ first_that test s
+    by true f = refl
+    by false f = omega (arith, ltb-false (first_that test s) (length s) f, first_le test s)
+
+pub found_is : (test : ℕ → Bool) (s : List ℕ) → found test s ≡ cond (eqb (first_that test s) (length s)) None (Some (first_that test s))
+found_is test s = rw (sym (first_is_position test s)) (by (ltb (first_that test s) (length s)) refl)
+  where
+    by : (t : Bool) → ltb (first_that test s) (length s) ≡ t
+        → cond t (Some (first_that test s)) None ≡ cond (eqb (first_that test s) (length s)) None (Some (first_that test s))
+    by true f = let k = ltb-true (first_that test s) (length s) f in rw (ne_eqb (first_that test s) (length s) (λ z. omega (arith, z, k)))
+    by false f = rw (eq-eqb (first_that test s) (length s) (omega (arith, ltb-false (first_that test s) (length s) f, first_le test s)))
 
 -- where a byte passes, the first that passes stands no later
 pub first_before : (test : ℕ → Bool) (s : List ℕ) (i : ℕ) → i < length s → test (get_or s i 0) ≡ true → first_that test s ≤ i

@@ -1,26 +1,29 @@
 -- Writing one text after another.
 use mathlib.Core.Path.{◌≡◌, refl, ap, sym, subst, ◌∙◌}
-use mathlib.Core.List.{List, [], ◌∷◌, ◌++◌}
-use Prim.Native.Nat.{ℕ, suc, ◌+◌, ◌<◌, ◌≤◌}
-use native.Mathlib.Numerals.{add-one}
+use mathlib.Core.List.{List, [], ◌∷◌, ◌++◌, append_assoc}
+use Prim.Native.Nat.{ℕ, suc, ◌+◌, ◌≤◌}
 use native.Mathlib.Omega.{arith}
-use lib.ListN.{length, get_or, drop, take, set, drop_of_length-le, length-append}
-use lib.Seq.{drop-cons, sets, sets-eq}
-use Rattle.text.specs.Write.{Wrote}
+use lib.ListN.{length, drop, take, set, length-append}
+use lib.Seq.{drop-drop, sets, sets-eq, length-sets}
+use borrow.Rule.Slice.PartMut.{put_mid}
+use Rattle.text.specs.declared.writer.Writer.{Writer}
+use Rattle.text.specs.Write.{Wrote, Put}
 
--- ---- storing byte by byte: the first i bytes of a text are stored
-module _ (old text : List ℕ) (at i : ℕ) where
-  pub stores_on : i < length text → sets old (at + i) (drop i text) ≡ sets (set old (at + i) (get_or text i 0)) (at + (i + 1)) (drop (i + 1) text)
-  stores_on h =
-      let after : suc (at + i) ≡ at + (i + 1) = omega arith in
-      let rest : drop i text ≡ get_or text i 0 ∷ drop (i + 1) text = rw (drop-cons text i 0 h, add-one i) in
-      ap (sets old (at + i)) rest ∙ ap (λ k. sets (set old (at + i) (get_or text i 0)) k (drop (i + 1) text)) after
-
-  pub stores_off : length text ≤ i → sets old at (drop i text) ≡ old
-  stores_off h = ap (sets old at) (drop_of_length-le text h)
+-- a text copied into its place
+pub wrote_mid : (old text new : List ℕ) (at k : ℕ) → k ≡ length text → new ≡ text → at + length text ≤ length old
+    → Wrote old at text (put_mid at k old new) (at + length text)
+wrote_mid old text new at k e f h =
+    record {
+      stored =
+          rw (e, f)
+          (sym (append_assoc (take at old) text (drop (length text) (drop at old)))
+          ∙ ap (λ d. take at old ++ text ++ d) (drop-drop (length text) at old)
+          ∙ sym (sets-eq text old at h));
+      after = refl;
+    }
 
 -- ---- texts
-stores_append : (old : List ℕ) (at : ℕ) (s t : List ℕ) → sets (sets old at s) (at + length s) t ≡ sets old at (s ++ t)
+pub stores_append : (old : List ℕ) (at : ℕ) (s t : List ℕ) → sets (sets old at s) (at + length s) t ≡ sets old at (s ++ t)
 stores_append old at [] t = let z : at + 0 ≡ at = omega arith in ap (λ k. sets old k t) z
 stores_append old at (b ∷ bs) t =
     let e : at + suc (length bs) ≡ suc at + length bs = omega arith in
@@ -47,3 +50,22 @@ pub wrote_parts : (old : List ℕ) (at : ℕ) (text new : List ℕ) (end : ℕ) 
     → new ≡ take at old ++ text ++ drop end old
 wrote_parts old at text new end h w =
     w.stored ∙ sets-eq text old at h ∙ ap (λ k. take at old ++ text ++ drop k old) (sym w.after)
+
+-- a text keeps the buffer's length
+pub wrote_length : {old text new : List ℕ} {at end : ℕ} → Wrote old at text new end → length new ≡ length old
+wrote_length {old} {text} {at = at} w = ap length w.stored ∙ length-sets old at text
+
+-- ---- the same of a writer
+pub put_none : (w : Writer) → Put w [] w
+put_none w = record { same_buffer = refl; same_length = refl; wrote = wrote_none }
+
+pub put_then : {a b c : Writer} {s t : List ℕ} → Put a s b → Put b t c → Put a (s ++ t) c
+put_then v w =
+    record { same_buffer = w.same_buffer ∙ v.same_buffer; same_length = w.same_length ∙ v.same_length; wrote = wrote_then v.wrote w.wrote }
+
+pub put_as : {a b : Writer} {s t : List ℕ} → s ≡ t → Put a s b → Put a t b
+put_as {a} {b} e w = subst (λ text. Put a text b) e w
+
+-- what a new writer's buffer is left with
+pub put_last : {a b : Writer} {text old last : List ℕ} → Put a text b → (a.buffer.now ≡ old) × (a.at ≡ 0) → last ≡ b.buffer.now → Wrote old 0 text last b.at
+put_last {a} {b} {text} p start e = rw (e, ← start.0, ← start.1) p.wrote

@@ -1,8 +1,10 @@
--- A text cut into pieces at a byte, a line read as a row of numbers, and fields joined to lines. Assumes nothing.
-use Rattle.std.specs.Prelude.{Bool, true, cond, ◌&&◌, List, [], ◌∷◌, ◌++◌, map, ℕ, eqb, leb, length, replicate}
+-- A text cut into pieces at a byte, a line read as a row of numbers, and fields joined to lines.
+-- Field is declared in src/row.rt. Assumes nothing.
+use Rattle.std.specs.Prelude.{◌≡◌, Bool, true, cond, ◌&&◌, List, [], ◌∷◌, ◌++◌, map, ℕ, ◌+◌, ◌<◌, eqb, leb, length, get_or, drop, replicate}
 use Rattle.std.proofs.lemmas.List.Edits.{sets}
 use Rattle.text.specs.Scan.{newline, comma}
 use Rattle.text.specs.Number.{number}
+use Rattle.text.specs.declared.row.Field.{Field}
 
 -- b in front of the first piece
 abbrev pub push : ℕ → List (List ℕ) → List (List ℕ)
@@ -18,6 +20,12 @@ split c last (b ∷ bs) = cond (eqb b c) ([] ∷ split c last bs) (push b (split
 abbrev pub lines : List ℕ → List (List ℕ)
 lines s = split newline [] s
 
+-- a text with a line has its first line, and what follows the end of that: the other lines
+pub record FirstLine (s line rest : List ℕ) : Type 0 where
+  pub some : 0 < length s
+  pub first : line ≡ get_or (lines s) 0 []
+  pub after : rest ≡ drop (length line + 1) s
+
 -- fields are parted by commas, so a text without commas is one field
 abbrev pub fields : List ℕ → List (List ℕ)
 fields s = split comma ([] ∷ []) s
@@ -32,6 +40,16 @@ pub record Row : Type 0 where
 -- the count that a call answers, with the slots that it leaves
 abbrev pub row_with : ℕ → List ℕ → List ℕ → Row
 row_with n vs ws = record { count = n; values = vs; widths = ws }
+
+-- the values and the widths that fields have
+abbrev pub values_of : List Field → List ℕ
+values_of fs = map (λ f. f.value) fs
+
+abbrev pub widths_of : List Field → List ℕ
+widths_of fs = map (λ f. f.width) fs
+
+abbrev pub row_as : ℕ → List Field → Row
+row_as n fs = row_with n (values_of fs) (widths_of fs)
 
 -- the values, "lower-case hexadecimal", and the widths of the fields, one after another (`sets`) in as many slots as there are;
 -- a slot past the last field keeps what it held

@@ -1,7 +1,8 @@
-// The lines of a text, and the fields of a line.
-ghost use Rattle.std.specs.Prelude.{◌≡◌, [], get_or, drop, take};
+// The lines of a text, and the fields of a line. `line_at` and `field_at` are two since they promise two things: an empty text has no
+// line, and one field.
+ghost use Rattle.std.specs.Prelude.{◌≡◌, [], get_or, drop, take, MatchOption};
 ghost use Rattle.text.specs.Scan.{first_that, is};
-ghost use Rattle.text.specs.Split.{lines, fields};
+ghost use Rattle.text.specs.Split.{FirstLine, lines, fields};
 
 use crate::scan::{front, position, rest};
 
@@ -25,4 +26,15 @@ pub fn field_at(line: &[u8], at: usize) -> &[u8]
     ensures { result.now ≡ get_or (fields (drop at line.now)) 0 [] }
 {
     piece_at(line, at, b',')
+}
+
+// The first line of a text, without its end, and what follows its end; none of an empty text.
+pub fn split_line(s: &[u8]) -> Option<(&[u8], &[u8])>
+    ensures { MatchOption result (s.now ≡ []) (λ parts. FirstLine s.now parts.0.now parts.1.now) }
+{
+    if s.is_empty() {
+        return None;
+    }
+    let end = position(s, b'\n');
+    Some((front(s, end), rest(s, end + 1)))
 }

@@ -29,10 +29,8 @@ pub fn number(s: &[u8], base: u64) -> u64
         return 0;
     }
     let mut v: u64 = 0;
-    let mut i = 0;
-    while i < s.len() {
-        v = v * base + digit_value(s[i]);
-        i += 1;
+    for &b in s {
+        v = v * base + digit_value(b);
     }
     v
 }

@@ -1,49 +1,53 @@
 // The fields of a line as numbers, each field read once.
 ghost use Rattle.std.specs.Prelude.{◌≡◌, set};
-ghost use Rattle.text.specs.Split.{row_with, row_over, all_wide};
+ghost use Rattle.text.specs.Split.{row_as, row_of, row_over, all_wide, values_of, widths_of};
 
-use crate::field::field_at;
 use crate::number::number;
 
-// A number in slot k, where there is such a slot.
-fn fill(slots: &mut [u64], k: usize, n: u64)
-    ensures { slots.new ≡ set slots.old k n }
-{
-    if slots.len() <= k {
-        return;
-    }
-    slots[k] = n;
+// A field as read: its number, and how many digits it has. All zero, it is a field that a line lacks.
+#[derive(Clone, Copy)]
+pub struct Field {
+    pub value: u64,
+    pub width: u64,
 }
 
-// The values and the widths of a line's fields, in as many slots as are lent, and how many fields there are.
-pub fn read_row(line: &[u8], values: &mut [u64], widths: &mut [u64]) -> usize
-    ensures { row_with result values.new widths.new ≡ row_over values.old widths.old line.now }
+// A field in slot k, where there is such a slot.
+fn fill(slots: &mut [Field], k: usize, f: Field)
+    ensures { slots.new ≡ set slots.old k f }
 {
-    let mut at = 0;
+    if k < slots.len() {
+        slots[k] = f;
+    }
+}
+
+// A line's fields, in as many slots as are lent, and how many fields there are.
+fn read_into(line: &[u8], slots: &mut [Field]) -> usize
+    ensures { row_as result slots.new ≡ row_over (values_of slots.old) (widths_of slots.old) line.now }
+{
     let mut count = 0;
-    loop {
-        let f = field_at(line, at);
-        fill(values, count, number(f, 16));
-        fill(widths, count, f.len() as u64);
+    for f in line.split(|&b| b == b',') {
+        let field = Field {
+            value: number(f, 16),
+            width: f.len() as u64,
+        };
+        fill(slots, count, field);
         count += 1;
-        at = at + f.len();
-        if at == line.len() {
-            break count;
-        }
-        at += 1;
     }
+    count
 }
 
-// Have all fields of these widths 1 to 16 digits?
-pub fn all_wide(widths: &[u64]) -> bool
-    ensures { result ≡ all_wide widths.now }
+// A line's fields, in N slots, and how many fields there are.
+pub fn read_row<const N: usize>(line: &[u8]) -> (usize, [Field; N])
+    ensures { row_as result.0 result.1 ≡ row_of N line.now }
 {
-    let mut i = 0;
-    while i < widths.len() {
-        if !((1 <= widths[i]) & (widths[i] <= 16)) {
-            return false;
-        }
-        i += 1;
-    }
-    true
+    let mut slots = [Field { value: 0, width: 0 }; N];
+    let count = read_into(line, &mut slots);
+    (count, slots)
+}
+
+// Has each field 1 to 16 digits?
+pub fn all_wide(fields: &[Field]) -> bool
+    ensures { result ≡ all_wide (widths_of fields.now) }
+{
+    fields.iter().all(|f| (1..=16).contains(&f.width))
 }

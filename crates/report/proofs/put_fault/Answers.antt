@@ -1,8 +1,8 @@
 -- One field after another.
-use Rattle.text.proofs.Writing.{wrote_then}
+use Rattle.text.proofs.Writing.{put_then}
 use Rattle.report.proofs.put_fault.Goals as goal
 
-pub returns-clause-wrote : goal.returns-clause-wrote
-returns-clause-wrote c =
-    let last = wrote_then c.put_field-c.ensures.wrote c.put_field.ensures.wrote in
-    wrote_then c.put_field-a.ensures.wrote (wrote_then c.put_field-b.ensures.wrote last)
+pub returns-clause-put : goal.returns-clause-put
+returns-clause-put c =
+    let last = put_then c.put_field-3.ensures.put c.put_field-4.ensures.put in
+    put_then c.put_field.ensures.put (put_then c.put_field-2.ensures.put last)

@@ -1,35 +1,24 @@
 -- A refusal, or the result of the run.
-use Rattle.std.proofs.Common.{arith}
-use Rattle.text.proofs.Writing.{wrote_as}
+use Rattle.std.proofs.Common.{◌+◌, ◌≤◌, sym, ◌∙◌, arith, rules}
+use Rattle.text.specs.Write.{Put}
+use Rattle.text.proofs.Writing.{put_as, put_last}
+use Rattle.report.specs.Report.{report_over}
 use Rattle.respond.proofs.Laws.{report_refused, report_run, answered}
 use Rattle.respond.proofs.respond_over.Goals as goal
-
-pub returns-then-refusal-ne0-clause-answered : goal.returns-then-refusal-ne0-clause-answered
-returns-then-refusal-ne0-clause-answered c =
-    let a = c.args in
-    let sheet = c.read_sheet-sheet in
-    let w = c.put_refusal.ensures in
-    let printed = report_refused a.mem.now a.input.now sheet.result sheet.ensures.refusal_value.0 c.if-refusal-ne0.true in
-    (answered a.output.now _ _ _ (wrote_as printed w.wrote) (omega (arith, w.upper_bound, c.requires))).0
-
-pub returns-then-refusal-ne0-clause-upper_bound : goal.returns-then-refusal-ne0-clause-upper_bound
-returns-then-refusal-ne0-clause-upper_bound c =
-    let w = c.put_refusal.ensures in
-    (answered c.args.output.now _ _ _ w.wrote (omega (arith, w.upper_bound, c.requires))).1
+use Rattle.respond.proofs.respond_over.Goals.{in-Ok, in-Err}
 
 pub returns-clause-answered : goal.returns-clause-answered
 returns-clause-answered c =
     let a = c.args in
-    let sheet = c.read_sheet-sheet in
-    let yes = c.if-refusal-ne0.false in
-    let m = c.machine_of in
-    let ran = c.run_call-r in
-    let w = c.put_result.ensures in
-    let run = report_run a.mem.now a.input.now sheet.result sheet.ensures.refusal_value.0 in
-    let printed = run _ _ m.result ran.result yes sheet.ensures.refusal_value.1 (sheet.ensures.mem_after yes) m.ensures ran.ensures in
-    (answered a.output.now _ _ _ (wrote_as printed w.wrote) (omega (arith, w.upper_bound, c.requires))).0
-
-pub returns-clause-upper_bound : goal.returns-clause-upper_bound
-returns-clause-upper_bound c =
-    let w = c.put_result.ensures in
-    (answered c.args.output.now _ _ _ w.wrote (omega (arith, w.upper_bound, c.requires))).1
+    let mem = a.mem.now in
+    let s = a.input.now in
+    let put : Put c.new-w.result (report_over mem s) c.match-read_sheet.w × (c.match-read_sheet.w.at ≤ c.new-w.result.at + 1373) =
+    elim c.match-read_sheet.branch [
+      | in-Ok w ↦
+          let read = w.in-Ok.ensures in
+          let printed = report_run mem s w.in-Ok.setup _ _ _ _ read.refusal read.value read.mem_after w.machine_of.ensures w.run_call-r.ensures in
+          rw w.w-is (put_as printed w.put_result.ensures.put, w.put_result.ensures.upper_bound)
+      | in-Err w ↦ rw w.w-is (put_as (report_refused mem s w.in-Err.refusal w.in-Err.ensures.refusal) w.put.ensures.put, omega (arith, w.put.ensures.upper_bound))
+    ] in
+    let same = put.0.same_buffer ∙ c.new-w.ensures.same_buffer in
+    (answered a.output.now _ _ _ (put_last put.0 c.new-w.ensures.value (search (rules, sym same))) (omega (arith, put.1, c.new-w.ensures.value.1, c.requires))).0

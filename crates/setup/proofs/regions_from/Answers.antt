@@ -1,12 +1,12 @@
 -- A region more is stored.
-use Rattle.std.proofs.Common.{refl, sym, ◌∙◌, rules}
+use Rattle.std.proofs.Common.{arith, refl, sym, ◌∙◌, rules}
 use Rattle.setup.proofs.Regions.{regions_on, regions_all}
 use Rattle.setup.proofs.regions_from.Goals as goal
 
 pub loop-i-init : goal.loop-i-init
-loop-i-init c = (search rules, search rules, regions_all c.args.values.now c.args.first c.args.n 0 c.requires.0 refl)
+loop-i-init c = (search rules, regions_all c.args.values.now c.args.first c.args.n 0 c.requires.0 refl)
 
 pub loop-i-preserved : goal.loop-i-preserved
 loop-i-preserved c =
-    let on = regions_on c.args.values.now c.args.first c.args.n c.loop-i.i c.loop-i.regions c.loop-i-test.true in
-    (search rules, search rules, sym on ∙ c.loop-i.invariant.2)
+    let on = regions_on c.args.values.now c.args.first c.args.n c.loop-i.i c.loop-i.regions (omega arith) in
+    (search rules, sym on ∙ c.loop-i.invariant.1)

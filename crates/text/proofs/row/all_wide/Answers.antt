@@ -1,18 +1,13 @@
--- The width in slot i is wide or not.
-use Rattle.std.proofs.Common.{◌≡◌, true, false, get_or, sym, ◌∙◌, rules}
+-- Each width is tested.
+use Rattle.std.proofs.Common.{sym, ◌∙◌, rules}
+use borrow.Author.Tests.{tests}
+use Rattle.std.proofs.lemmas.Iterator.{YieldsList-from_slice}
+use Rattle.std.proofs.lemmas.Iterator.Search.{all_from_yields_List}
 use Rattle.text.specs.Split.{wide}
-use Rattle.text.proofs.Rows.{wide_on, wide_off}
+use Rattle.text.proofs.Rows.{wide_is}
 use Rattle.text.proofs.row.all_wide.Goals as goal
 
-pub returns-then-not-widths-i : goal.returns-then-not-widths-i
-returns-then-not-widths-i c =
-    let t : wide (get_or c.args.widths.now c.loop-i.i 0) ≡ false = c.if-not-widths-i.true in
-    sym (rw t at (wide_on c.args.widths.now c.loop-i.i c.loop-i-test.true)) ∙ c.loop-i.invariant.1
-
-pub loop-i-preserved : goal.loop-i-preserved
-loop-i-preserved c =
-    let t : wide (get_or c.args.widths.now c.loop-i.i 0) ≡ true = c.if-not-widths-i.false in
-    (search rules, sym (rw t at (wide_on c.args.widths.now c.loop-i.i c.loop-i-test.true)) ∙ c.loop-i.invariant.1)
-
 pub returns : goal.returns
-returns c = sym (wide_off _ _ c.loop-i-test.false) ∙ c.loop-i.invariant.1
+returns c =
+    let fs = c.args.fields.now in
+    all_from_yields_List (λ f. wide f.width) _ _ c.all.result c.all.ensures.ran (YieldsList-from_slice fs cc) (λ x b q k. search (rules, tests)) ∙ sym (wide_is fs)

@@ -1,19 +1,15 @@
--- The next byte is c, and the answer is its position; or it is not, and the first c stands one further on.
-use Rattle.std.proofs.Common.{arith, rules}
-use borrow.Author.Tests.{eq-eqb, ne_eqb}
+-- The search answers the first place, or none.
+use Rattle.std.proofs.Common.{◌∙◌, arith, rules}
+use borrow.Author.Tests.{tests}
+use Rattle.std.proofs.lemmas.Iterator.{YieldsList-from_slice}
+use Rattle.std.proofs.lemmas.Iterator.Search.{position_from_yields_List}
 use Rattle.text.specs.Scan.{is}
-use Rattle.text.proofs.Scanning.{first_on, first_off}
+use Rattle.text.proofs.Scanning.{first_found, first_le}
 use Rattle.text.proofs.scan.position.Goals as goal
 
-pub returns-then-s-i : goal.returns-then-s-i
-returns-then-s-i c =
-    let e = first_on c.args.s.now c.loop-i.i (is c.args.c) c.loop-i-test.true in
-    (omega (arith, rw (eq-eqb _ _ c.if-s-i.true) at e), search rules)
-
-pub loop-i-preserved : goal.loop-i-preserved
-loop-i-preserved c =
-    let e = first_on c.args.s.now c.loop-i.i (is c.args.c) c.loop-i-test.true in
-    (search rules, omega (arith, rw (ne_eqb _ _ c.if-s-i.false) at e))
-
 pub returns : goal.returns
-returns c = (omega (arith, first_off c.args.s.now c.loop-i.i (is c.args.c) c.loop-i-test.false), search rules)
+returns c =
+    let s = c.args.s.now in
+    let found = position_from_yields_List (is c.args.c) _ _ c.position.result c.position.ensures.ran (YieldsList-from_slice s cc) (λ x b q k. search (rules, tests)) in
+    let first = c.unwrap_or.ensures ∙ first_found (is c.args.c) s c.position.result found in
+    (first, omega (arith, first, first_le (is c.args.c) s))

@@ -1,5 +1,5 @@
 -- `room` falls with each call.
-use Rattle.text.proofs.print.+put_digits.Given as goal
+use Rattle.text.proofs.writer.Writer.+put_digits.Given as goal
 
 abbrev pub decreases-put_digits : goal.decreases-put_digits
 decreases-put_digits l = l.room

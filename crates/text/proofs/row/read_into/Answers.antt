@@ -1,0 +1,35 @@
+-- A field more, or the line's end.
+use Rattle.std.proofs.Common.{◌+◌, ◌^◌, ◌<◌, length, [], ◌∷◌, map, sym, ap, ◌∙◌, arith, rules}
+use borrow.Author.Tests.{tests}
+use Rattle.std.proofs.lemmas.List.{map-append, length-map}
+use Rattle.std.proofs.lemmas.List.Splits.{length-slice_split}
+use Rattle.std.proofs.lemmas.List.Sums.{count_by-le-length}
+use Rattle.std.proofs.lemmas.Iterator.Consumers.{YieldsList-turn, YieldsList-end}
+use Rattle.std.proofs.lemmas.Iterator.Splits.{YieldsList-from_slice_split}
+use Rattle.text.specs.Scan.{is, comma}
+use Rattle.text.specs.Split.{values_of, widths_of}
+use Rattle.text.proofs.Rows.{row_by, row_push, fields_are}
+use Rattle.text.proofs.row.read_into.Goals as goal
+
+pub loop-f-preserved : goal.loop-f-preserved
+loop-f-preserved c =
+    let l = c.loop-f in
+    let vs = values_of c.args.slots.now in
+    let ws = widths_of c.args.slots.now in
+    rw (c.fill.ensures, map-append (λ f. f.now) l.yielded (c.in-Some.f ∷ []))
+    (row_push vs ws l.slots l.count c.number.result (map (λ f. f.now) l.yielded) c.in-Some.f.now c.number.ensures l.invariant)
+
+pub overflow_add-count : goal.overflow_add-count
+overflow_add-count c =
+    let pieces = YieldsList-from_slice_split _ (is comma) c.args.line.now (cc) (cc) (cc) (λ x b q k. search (rules, tests)) in
+    let turn = YieldsList-turn pieces c.loop-f.yielded _ c.loop-f.yielded_by c.next.result c.next.new.self c.in-Some.f c.in-Some.is c.next.ensures.steps in
+    let few : length c.args.line.now + 2 < 2 ^ 64 = search rules in
+    let pieces_le = count_by-le-length (is comma) c.args.line.now in
+    let so_far = ap (λ r. r.count) c.loop-f.invariant ∙ length-map c.loop-f.yielded (λ f. f.now) in
+    omega (arith, few, so_far, turn.0, length-slice_split (is comma) c.args.line.now, pieces_le)
+
+pub returns : goal.returns
+returns c =
+    let pieces = YieldsList-from_slice_split _ (is comma) c.args.line.now (cc) (cc) (cc) (λ x b q k. search (rules, tests)) in
+    let all = YieldsList-end pieces c.loop-f.yielded _ c.loop-f.yielded_by c.next.result c.next.new.self c.in-None.is c.next.ensures.steps in
+    c.loop-f.invariant ∙ ap (row_by (values_of c.args.slots.now) (widths_of c.args.slots.now)) (all.0 ∙ sym (fields_are c.args.line.now))
