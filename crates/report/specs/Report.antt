@@ -1,12 +1,11 @@
 -- The whole program of document 01, "The run sheet": the bytes that it prints for the bytes that it reads. A run is printed as lines
 -- of fields.
--- Fault and RunAnswer are declared in model/src/lib.rt, Sheet in sheet/specs/Sheet.antt. Assumes nothing.
+-- Fault is declared in model/src/lib.rt, Sheet in sheet/specs/Sheet.antt. Assumes nothing.
 use Rattle.std.specs.Prelude.{cond, List, [], ◌∷◌, ◌++◌, ℕ, ◌+◌, eqb}
 use Rattle.text.specs.Number.{decimal, hexadecimal}
 use Rattle.text.specs.Split.{join_lines}
 use Rattle.model.specs.declared.Fault.{Fault}
-use Rattle.model.specs.Run.{RunAnswer}
-use Rattle.model.specs.Run.{run_call}
+use Rattle.model.specs.Run.{RunAnswer, run_call}
 use Rattle.setup.specs.Setup.{machine_of}
 use Rattle.sheet.specs.Words.{memory_of, blank}
 use Rattle.sheet.specs.Sheet.{Sheet, read_sheet, refusal_text}

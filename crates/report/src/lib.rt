@@ -6,6 +6,7 @@ ghost use Rattle.text.specs.Scan.{comma};
 ghost use Rattle.text.specs.Number.{hexadecimal};
 ghost use Rattle.text.specs.Split.{join_line, join_lines};
 ghost use Rattle.text.specs.Write.{Put};
+ghost use Rattle.model.specs.Run.{run_answer};
 ghost use Rattle.report.specs.Report.{fault_fields, result_line, register_line, register_lines, result_text};
 
 use model::{Fault, Ran};
@@ -36,14 +37,13 @@ fn put_fault(w: &mut Writer, f: Fault)
 // The first line: 20 bytes for the number, 17 for each of 8 fields, and the line's end.
 fn put_result_line(w: &mut Writer, r: Ran)
     requires { w.old.at + 157 ≤ length w.old.buffer.now }
-    ensures put { Put w.old (join_lines (result_line r ∷ [])) w.new }
+    ensures put { Put w.old (join_lines (result_line (run_answer r) ∷ [])) w.new }
     ensures upper_bound { w.new.at ≤ w.old.at + 157 }
 {
-    let m = r.machine;
-    let h = m.hfi;
-    w.put_number::<10, 20>(r.stop);
+    let h = r.machine.hfi;
+    w.put_number::<10, 20>(r.stop.number());
     put_field(w, r.count);
-    put_field(w, m.pc);
+    put_field(w, r.machine.pc);
     put_field(w, h.reason);
     put_field(w, h.epc);
     put_fault(w, h.fault);
@@ -78,11 +78,9 @@ fn put_registers(w: &mut Writer, x: [u64; 32])
 // A run's result: the first line and the registers' lines. 157 + 32 * 38 bytes are enough for every one.
 pub fn put_result(w: &mut Writer, r: Ran)
     requires { w.old.at + 1373 ≤ length w.old.buffer.now }
-    ensures put { Put w.old (result_text r) w.new }
+    ensures put { Put w.old (result_text (run_answer r)) w.new }
     ensures upper_bound { w.new.at ≤ w.old.at + 1373 }
 {
-    let m = r.machine;
-    let x = m.x;
     put_result_line(w, r);
-    put_registers(w, x);
+    put_registers(w, r.machine.x);
 }
