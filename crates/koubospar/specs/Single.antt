@@ -1,5 +1,5 @@
 -- A run of one step, read as a step. No promise rests on this file: what is made by it is proved to be model's step call.
--- StepAnswer and RunAnswer are declared in model/src/lib.rt. Assumes nothing.
+-- Assumes nothing.
 use Rattle.std.specs.Prelude.{cond, eqb}
 use Rattle.model.specs.Outcome.{StepAnswer}
 use Rattle.model.specs.Run.{RunAnswer}

@@ -1,5 +1,6 @@
 // "The oven's main loop keeps one machine record and lends it to each call, which updates it there."
 ghost use Rattle.std.specs.Prelude.{◌≡◌};
+ghost use Rattle.model.specs.Stops.{number_of, address_of};
 ghost use Rattle.model.specs.Outcome.{stepped_with};
 ghost use Rattle.model.specs.Step.{step_call, resume_call};
 ghost use Rattle.model.specs.Run.{ran_with, run_call};
@@ -7,13 +8,33 @@ ghost use Rattle.koubospar.specs.Lent.{stop_with, run_stop_with};
 
 use crate::single::single_step;
 use model::Machine;
+use model::stop::Stop;
+use step::call::resume_call;
 
-// What a step or a resumption of a lent machine answers: the documents' number, and the absent address of 12 and 17.
+// What a step or a resumption of a lent machine answers: the documents' number, and the absent address of 12 and 17. The answers here are
+// numbers, since an enum cannot cross to C.
 #[repr(C)]
 #[derive(Clone, Copy)]
-pub struct Stop {
+pub struct StepStop {
     pub stop: u64,
     pub address: u64,
+}
+
+impl From<Result<(), Stop>> for StepStop {
+    ghost from_gives = { λ r s. s ≡ record { stop = number_of r; address = address_of r } };
+
+    fn from(r: Result<(), Stop>) -> StepStop {
+        match r {
+            Ok(()) => StepStop {
+                stop: 0,
+                address: 0,
+            },
+            Err(stop) => StepStop {
+                stop: stop.number(),
+                address: stop.address(),
+            },
+        }
+    }
 }
 
 // What a run of a lent machine answers, with the count of completed steps.
@@ -26,15 +47,12 @@ pub struct RunStop {
 }
 
 // One step.
-pub fn koubospar_step(m: &mut Machine, mem: &mut [u8]) -> Stop
+pub fn koubospar_step(m: &mut Machine, mem: &mut [u8]) -> StepStop
     ensures { stepped_with (stop_with result m.new) mem.new ≡ step_call m.old mem.old }
 {
     let r = single_step(*m, mem);
     *m = r.machine;
-    Stop {
-        stop: r.stop,
-        address: r.address,
-    }
+    StepStop::from(r.stop)
 }
 
 // A run of at most `budget` steps.
@@ -44,20 +62,17 @@ pub fn koubospar_run(m: &mut Machine, mem: &mut [u8], budget: u64) -> RunStop
     let r = run::run_call(*m, mem, budget);
     *m = r.machine;
     RunStop {
-        stop: r.stop,
+        stop: r.stop.number(),
         count: r.count,
-        address: r.address,
+        address: r.stop.address(),
     }
 }
 
 // `v` in x10, and pc past the word that it stands at: meant for stop 18.
-pub fn koubospar_resume(m: &mut Machine, v: u64) -> Stop
+pub fn koubospar_resume(m: &mut Machine, v: u64) -> StepStop
     ensures { stop_with result m.new ≡ resume_call m.old v }
 {
-    let r = step::call::resume_call(*m, v);
+    let r = resume_call(*m, v);
     *m = r.machine;
-    Stop {
-        stop: r.stop,
-        address: r.address,
-    }
+    StepStop::from(r.stop)
 }

@@ -32,18 +32,7 @@ pub fn koubospar_probe() -> Machine
     x[0] = 1000;
     x[31] = 1031;
     let first = 1000 + FIRST_REGION;
-    let regions = [
-        numbered(first),
-        numbered(first + 3),
-        numbered(first + 6),
-        numbered(first + 9),
-        numbered(first + 12),
-        numbered(first + 15),
-        numbered(first + 18),
-        numbered(first + 21),
-        numbered(first + 24),
-        numbered(first + 27),
-    ];
+    let regions = std::array::from_fn(|i| numbered(first + 3 * i as u64));
     let fault = Fault {
         occurred: 1000 + FIRST_FAULT,
         region: 1001 + FIRST_FAULT,
@@ -57,14 +46,10 @@ pub fn koubospar_probe() -> Machine
         options: 1036,
         handler: 1037,
         selector: 1038,
-        regions: regions,
-        fault: fault,
+        regions,
+        fault,
     };
-    Machine {
-        x: x,
-        pc: 1032,
-        hfi: hfi,
-    }
+    Machine { x, pc: 1032, hfi }
 }
 
 // What stands in place i of the registers, pc and the HFI state before its regions.

@@ -8,7 +8,7 @@ use scheduler::Scheduler;
 
 // What a turn of lent slots answers: the slot whose turn it was, and its run's stop, count and address.
 #[repr(C)]
-#[derive(Clone, Copy)]
+#[derive(Clone, Copy, Default)]
 pub struct TurnStop {
     pub slot: u64,
     pub stop: u64,
@@ -20,13 +20,18 @@ pub struct TurnStop {
 pub fn koubospar_turn(s: &mut Scheduler, mem: &mut [u8], allowance: u64) -> TurnStop
     ensures { turned_with (turn_stop_with result s.new) mem.new ≡ turn_call s.old mem.old allowance }
 {
-    let r = turn::turn_call(*s, mem, allowance);
-    *s = r.scheduler;
-    TurnStop {
-        slot: r.slot,
-        stop: r.stop,
-        count: r.count,
-        address: r.address,
+    match turn::turn_call(s, mem, allowance) {
+        Ok(Some(t)) => TurnStop {
+            slot: t.slot,
+            stop: t.stop.number(),
+            count: t.count,
+            address: t.stop.address(),
+        },
+        Ok(None) => TurnStop::default(),
+        Err(refusal) => TurnStop {
+            stop: refusal.number(),
+            ..TurnStop::default()
+        },
     }
 }
 
@@ -34,7 +39,5 @@ pub fn koubospar_turn(s: &mut Scheduler, mem: &mut [u8], allowance: u64) -> Turn
 pub fn koubospar_put(s: &mut Scheduler, n: u64, m: &Machine) -> bool
     ensures { put_with result s.new ≡ put_call s.old n m.now }
 {
-    let r = turn::put_call(*s, n, *m);
-    *s = r.scheduler;
-    r.done
+    turn::put_call(s, n, *m)
 }

@@ -14,7 +14,7 @@ use Rattle.model.specs.declared.Machine.{Machine}
 use Rattle.scheduler.specs.Turn.{most_slots, within, slot, stopped, place_in, next_slot, refusal, Left, turned_with, no_turn, turn_call, put_call}
 use Rattle.scheduler.specs.declared.Slot.{Slot}
 use Rattle.scheduler.specs.declared.Scheduler.{Scheduler}
-use Rattle.scheduler.specs.declared.Put.{Put}
+use Rattle.scheduler.specs.Turn.{PutAnswer}
 use Rattle.scheduler.proofs.Round.{Numbered, first_found, distance_below, place_numbered, numbered_within}
 use Rattle.scheduler.proofs.Turn.{Took, Turn, turn_is, turn_runs}
 use Rattle.scheduler.proofs.Turn.Turn.{none, took}
@@ -105,7 +105,7 @@ refused_turn s mem allowance r = rw (ne_eqb _ 0 r) refl
 
 -- ---- "until the main loop puts a machine there again"
 
-pub record PutThere (s : Scheduler) (n : ℕ) (m : Machine) (p : Put) : Type 0 where
+pub record PutThere (s : Scheduler) (n : ℕ) (m : Machine) (p : PutAnswer) : Type 0 where
   pub done : p.done ≡ true
   pub own : n - 1 < length s.slots → slot p.scheduler.slots n ≡ record { machine = m; stop = 0 }
   pub others : (k : ℕ) → 1 ≤ k → (n ≡ k → ⊥) → slot p.scheduler.slots k ≡ slot s.slots k

@@ -23,7 +23,7 @@ use Rattle.model.proofs.Rows.{x, pc, mode, reason, epc, options, base, bound, pe
 use Rattle.scheduler.specs.Turn.{stopped, first_unstopped, next_slot, slot_refusal, slots_refusal, refusal, Left, turned_with, no_turn, turn_call, put_call}
 use Rattle.scheduler.specs.declared.Slot.{Slot}
 use Rattle.scheduler.specs.declared.Scheduler.{Scheduler}
-use Rattle.scheduler.specs.declared.Put.{Put}
+use Rattle.scheduler.specs.Turn.{PutAnswer}
 
 -- ---- slots
 
@@ -307,7 +307,7 @@ whole_rows = refl
 -- ---- a machine put into a slot
 
 -- whether it was done, count, place, total, and each slot's stop and pc
-abbrev after_put : Put → List ℕ
+abbrev after_put : PutAnswer → List ℕ
 after_put p = (p.scheduler.count ∷ p.scheduler.place ∷ p.scheduler.total ∷ []) ++ map (λ (d : Slot). d.stop) p.scheduler.slots ++ map (λ (d : Slot). d.machine.pc) p.scheduler.slots
 
 abbrev put : ℕ → List ℕ
@@ -333,10 +333,10 @@ done_rows = refl
 abbrev bad : Machine
 bad = with ((x 0, 1) ∷ (x 5, 5) ∷ (pc, 8) ∷ (reason, 1) ∷ (epc, 8) ∷ (options, 16) ∷ (occurred, 1) ∷ [])
 
-abbrev whole_put : ℕ → Put
+abbrev whole_put : ℕ → PutAnswer
 whole_put n = put_call (first_of (marked [] 18) 2 7) n bad
 
-abbrev has : Bool → List Slot → Put
+abbrev has : Bool → List Slot → PutAnswer
 has done ds = record { done = done; scheduler = scheduled ds 3 2 7 }
 
 pub whole_put_rows : map whole_put (0 ∷ 1 ∷ 2 ∷ 3 ∷ 4 ∷ 5 ∷ (2 ^ 64 - 1) ∷ [])

@@ -1,18 +1,19 @@
 -- One turn of several machines over one memory: document 02, Job 9, whose sentences are quoted. What the document calls a deck
 -- is a slot here.
--- Slot, Scheduler, Turned and Put are declared in src/lib.rt, Machine in model/src/lib.rt. Assumes nothing.
-use Rattle.std.specs.Prelude.{Bool, true, false, cond, not, ◌&&◌, ◌||◌, List, ℕ, zero, suc, ◌-◌, eqb, leb, ltb, length, get_or, set, replicate}
+-- Slot, Scheduler, Turned and Refusal are declared in src/lib.rt, Machine in model/src/lib.rt. Assumes nothing.
+use Rattle.std.specs.Prelude.{Bool, true, false, cond, not, ◌&&◌, ◌||◌, List, ℕ, zero, suc, ◌-◌, eqb, leb, ltb, length, get_or, set, replicate, Option, Some, None, Result, Ok, Err, ⊤}
 use Rattle.model.specs.Machine.{sum, locked, zero_regions}
 use Rattle.model.specs.WellFormed.{well_formed}
 use Rattle.model.specs.WritableCode.{exposes_code}
 use Rattle.model.specs.Step.{longest}
-use Rattle.model.specs.Run.{run_call}
+use Rattle.model.specs.Run.{RunAnswer, run_call}
 use Rattle.model.specs.declared.Machine.{Machine}
-use Rattle.model.specs.Run.{RunAnswer}
 use Rattle.scheduler.specs.declared.Slot.{Slot}
 use Rattle.scheduler.specs.declared.Scheduler.{Scheduler}
+use Rattle.model.specs.Stops.{stop_number, stop_address}
 use Rattle.scheduler.specs.declared.Turned.{Turned}
-use Rattle.scheduler.specs.declared.Put.{Put}
+use Rattle.scheduler.specs.declared.Refusal.{Refusal}
+use Rattle.scheduler.specs.declared.Refusal.TheVariants.{MemoryTooLong, SlotCount, Allowance, NotWellFormed, WritableCode, Unlocked}
 
 -- "Take 1 to 4 machines and a step allowance of 1 to 10,000."
 abbrev pub most_slots : ℕ
@@ -77,6 +78,20 @@ next_slot s = first_unstopped s.slots s.count s.count (place_in s.count s.place)
 
 -- ---- refusals: a number, or 0 for none
 
+-- of the code's refusals: "Refused: 50, the deck count; 51, the allowance; 52, a machine that isn't in locked HFI mode", and 1, 3 and 4
+abbrev pub refusal_number : Refusal → ℕ
+refusal_number MemoryTooLong = 1
+refusal_number SlotCount = 50
+refusal_number Allowance = 51
+refusal_number NotWellFormed = 3
+refusal_number WritableCode = 4
+refusal_number Unlocked = 52
+
+-- 0 where there is none
+abbrev pub refused_number : Result ⊤ Refusal → ℕ
+refused_number (Ok tt) = 0
+refused_number (Err r) = refusal_number r
+
 -- "stopped ones left out, 3, 4, 52": "52, a machine that isn't in locked HFI mode"
 unfoldable pub slot_refusal : Slot → ℕ
 slot_refusal d =
@@ -96,17 +111,25 @@ refusal s size allowance =
 
 -- ---- the turn
 
+-- the slot whose turn it was, its run's stop, count and address, and the scheduler
+pub record TurnAnswer : Type 0 where
+  pub slot : ℕ
+  pub stop : ℕ
+  pub count : ℕ
+  pub address : ℕ
+  pub scheduler : Scheduler
+
 -- what a turn answers, and the memory that it leaves
 pub record Left : Type 0 where
-  pub result : Turned
+  pub result : TurnAnswer
   pub memory : List ℕ
 
 -- the answer of a call, and the memory after it
-abbrev pub turned_with : Turned → List ℕ → Left
+abbrev pub turned_with : TurnAnswer → List ℕ → Left
 turned_with r mem = record { result = r; memory = mem }
 
 -- no run is made: "deck, count and address are then 0, and nothing has changed"
-abbrev pub no_turn : ℕ → Scheduler → Turned
+abbrev pub no_turn : ℕ → Scheduler → TurnAnswer
 no_turn stop s = record { slot = 0; stop = stop; count = 0; address = 0; scheduler = s }
 
 -- "then the place becomes the deck after that one"; "each turn adds its run's count, modulo 2^64"
@@ -120,7 +143,7 @@ advanced s n r =
     }
 
 -- "It answers the deck and its run's stop, count and address."
-abbrev pub took_turn : Scheduler → ℕ → RunAnswer → Turned
+abbrev pub took_turn : Scheduler → ℕ → RunAnswer → TurnAnswer
 took_turn s n r = record { slot = n; stop = r.stop; count = r.count; address = r.address; scheduler = advanced s n r }
 
 -- "A turn is one run, with the allowance as its budget": the run call of Run.antt. "With all decks stopped a turn makes no run, changes
@@ -134,10 +157,24 @@ turn_call s mem allowance =
     (cond (eqb n 0) (turned_with (no_turn 0 s) mem) (turned_with (took_turn s n e.result) e.memory))
     (turned_with (no_turn r s) mem)
 
+-- what the code answers, and the scheduler after it: a refusal; that all slots are stopped; or the run of a slot
+abbrev pub turn_answer : Result (Option Turned) Refusal → Scheduler → TurnAnswer
+turn_answer (Err r) s = no_turn (refusal_number r) s
+turn_answer (Ok None) s = no_turn 0 s
+turn_answer (Ok (Some t)) s = record { slot = t.slot; stop = stop_number t.stop; count = t.count; address = stop_address t.stop; scheduler = s }
+
 -- ---- "until the main loop puts a machine there again"
 
+-- whether it was put there, and the scheduler
+pub record PutAnswer : Type 0 where
+  pub done : Bool
+  pub scheduler : Scheduler
+
+abbrev pub put_answer : Bool → Scheduler → PutAnswer
+put_answer done s = record { done = done; scheduler = s }
+
 -- into slot n, which then has had no turn; a number that no slot has changes nothing
-unfoldable pub put_call : Scheduler → ℕ → Machine → Put
+unfoldable pub put_call : Scheduler → ℕ → Machine → PutAnswer
 put_call s n m =
     cond (within most_slots n)
     (record {

@@ -4,7 +4,11 @@
 // What the document calls a deck is a slot here: the place of one machine among those that take turns.
 #![tactic(auto)]
 
+ghost use Rattle.std.specs.Prelude.{◌≡◌};
+ghost use Rattle.scheduler.specs.Turn.{refusal_number};
+
 use model::Machine;
+use model::stop::Stop;
 
 // "Take 1 to 4 machines and a step allowance of 1 to 10,000."
 pub const SLOTS: usize = 4;
@@ -15,7 +19,7 @@ pub const LARGEST_ALLOWANCE: u64 = 10_000;
 
 // A machine, and the stop of its last turn: 0 if it has had none since it was put there.
 #[repr(C)]
-#[derive(Clone, Copy)]
+#[derive(Clone, Copy, Default)]
 pub struct Slot {
     pub machine: Machine,
     pub stop: u64,
@@ -23,7 +27,7 @@ pub struct Slot {
 
 // What the main loop keeps and lends to each turn. Slot n stands at n - 1; the first `count` of them take turns.
 #[repr(C)]
-#[derive(Clone, Copy)]
+#[derive(Clone, Copy, Default)]
 pub struct Scheduler {
     pub slots: [Slot; SLOTS],
     pub count: u64,
@@ -31,19 +35,36 @@ pub struct Scheduler {
     pub total: u64,
 }
 
-// What a turn answers, and the scheduler after it: the slot whose turn it was, and its run's stop, count and address.
+// What a turn answers that made a run: the slot whose turn it was, and its run's stop and count.
 #[derive(Clone, Copy)]
 pub struct Turned {
     pub slot: u64,
-    pub stop: u64,
+    pub stop: Stop,
     pub count: u64,
-    pub address: u64,
-    pub scheduler: Scheduler,
 }
 
-// Whether a machine was put into a slot, and the scheduler after it.
-#[derive(Clone, Copy)]
-pub struct Put {
-    pub done: bool,
-    pub scheduler: Scheduler,
+// Why a turn is refused; specs/Turn.antt gives each the documents' number.
+#[derive(Clone, Copy, PartialEq, Eq)]
+pub enum Refusal {
+    MemoryTooLong,
+    SlotCount,
+    Allowance,
+    NotWellFormed,
+    WritableCode,
+    Unlocked,
+}
+
+impl Refusal {
+    pub fn number(self) -> u64
+        ensures { result ≡ refusal_number self }
+    {
+        match self {
+            Refusal::MemoryTooLong => 1,
+            Refusal::SlotCount => 50,
+            Refusal::Allowance => 51,
+            Refusal::NotWellFormed => 3,
+            Refusal::WritableCode => 4,
+            Refusal::Unlocked => 52,
+        }
+    }
 }

@@ -1,8 +1,10 @@
-// One turn of several machines over one memory, and putting a machine into a slot again.
+// One turn of several machines over one memory, and putting a machine into a slot again. The slots are lent, and changed where they
+// stand.
 #![tactic(auto)]
 
-ghost use Rattle.std.specs.Prelude.{◌≡◌, ◌≤◌};
-ghost use Rattle.scheduler.specs.Turn.{most_slots, no_turn, took_turn, turned_with, turn_call, put_call};
+ghost use Rattle.std.specs.Prelude.{◌≡◌, ◌≤◌, Ok, Some};
+ghost use Rattle.model.specs.Run.{run_answer};
+ghost use Rattle.scheduler.specs.Turn.{most_slots, took_turn, turn_answer, turned_with, turn_call, put_answer, put_call};
 
 pub mod order;
 pub mod refusal;
@@ -10,82 +12,55 @@ pub mod refusal;
 use crate::order::{following, next_slot, slot_at, within};
 use crate::refusal::refusal;
 use model::{Machine, Ran};
-use scheduler::{MOST_SLOTS, Put, Scheduler, Slot, Turned};
-
-// A turn in which no run is made: nothing has changed.
-fn no_turn(stop: u64, s: Scheduler) -> Turned
-    ensures { result ≡ no_turn stop s }
-{
-    let t = s;
-    Turned {
-        slot: 0,
-        stop: stop,
-        count: 0,
-        address: 0,
-        scheduler: t,
-    }
-}
+use run::run_call;
+use scheduler::{MOST_SLOTS, Refusal, Scheduler, Slot, Turned};
 
 // Slot n has made the run that answered r: what that run left, and whose turn is next.
-fn took_turn(s: Scheduler, n: u64, r: Ran) -> Turned
+fn took_turn(s: &mut Scheduler, n: u64, r: Ran) -> Turned
     requires { (1 ≤ n) × (n ≤ most_slots) }
-    ensures { result ≡ took_turn s n r }
+    ensures { turn_answer (Ok (Some result)) s.new ≡ took_turn s.old n (run_answer r) }
 {
-    let m = r.machine;
-    let d = Slot {
-        machine: m,
-        stop: r.stop,
+    s.slots[(n - 1) as usize] = Slot {
+        machine: r.machine,
+        stop: r.stop.number(),
     };
-    let mut t = s;
-    t.slots[(n - 1) as usize] = d;
-    t.place = following(s.count, n);
-    t.total = s.total.wrapping_add(r.count);
+    s.place = following(s.count, n);
+    s.total = s.total.wrapping_add(r.count);
     Turned {
         slot: n,
         stop: r.stop,
         count: r.count,
-        address: r.address,
-        scheduler: t,
     }
 }
 
-// A turn of any machines over any memory, with any allowance.
-pub fn turn_call(s: Scheduler, mem: &mut [u8], allowance: u64) -> Turned
-    ensures { turned_with result mem.new ≡ turn_call s mem.old allowance }
+// A turn of any machines over any memory, with any allowance; none where all slots are stopped.
+pub fn turn_call(
+    s: &mut Scheduler,
+    mem: &mut [u8],
+    allowance: u64,
+) -> Result<Option<Turned>, Refusal>
+    ensures { turned_with (turn_answer result s.new) mem.new ≡ turn_call s.old mem.old allowance }
 {
-    let stop = refusal(s, mem.len(), allowance);
-    if stop != 0 {
-        return no_turn(stop, s);
-    }
-    let n = next_slot(s);
-    if n == 0 {
-        return no_turn(0, s);
-    }
-    let slots = s.slots;
-    let d = slot_at(slots, n);
-    let m = d.machine;
-    took_turn(s, n, run::run_call(m, mem, allowance))
+    refusal(s, mem.len(), allowance)?;
+    let Some(n) = next_slot(s) else {
+        return Ok(None);
+    };
+    let m = slot_at(&s.slots, n).machine;
+    let r = run_call(m, mem, allowance);
+    Ok(Some(took_turn(s, n, r)))
 }
 
 // A machine put into slot n; a number that no slot has changes nothing.
 #[tactic(auto, unfolding(scheduler::specs::Turn::put_call))]
-pub fn put_call(s: Scheduler, n: u64, m: Machine) -> Put
-    ensures { result ≡ put_call s n m }
+pub fn put_call(s: &mut Scheduler, n: u64, m: Machine) -> bool
+    ensures { put_answer result s.new ≡ put_call s.old n m }
 {
-    let mut t = s;
-    if !within(MOST_SLOTS, n) {
-        return Put {
-            done: false,
-            scheduler: t,
+    let there = within(MOST_SLOTS, n);
+    if there {
+        s.slots[(n - 1) as usize] = Slot {
+            machine: m,
+            stop: 0,
         };
     }
-    let d = Slot {
-        machine: m,
-        stop: 0,
-    };
-    t.slots[(n - 1) as usize] = d;
-    Put {
-        done: true,
-        scheduler: t,
-    }
+    there
 }

@@ -1,5 +1,5 @@
 // Whose turn it is: "the first deck not stopped, from the place on and round to the first".
-ghost use Rattle.std.specs.Prelude.{◌≡◌, ◌≤◌};
+ghost use Rattle.std.specs.Prelude.{◌≡◌, ◌≤◌, unwrap_or, IfSome};
 ghost use Rattle.scheduler.specs.Turn.{most_slots, within as is_within, slot, stopped as is_stopped, place_in, following as following_of, next_slot};
 
 use scheduler::{SLOTS, Scheduler, Slot};
@@ -12,16 +12,16 @@ pub fn within(most: u64, n: u64) -> bool
 }
 
 // Slot n.
-pub fn slot_at(slots: [Slot; SLOTS], n: u64) -> Slot
+pub fn slot_at(slots: &[Slot; SLOTS], n: u64) -> Slot
     requires { (1 ≤ n) × (n ≤ most_slots) }
-    ensures { result ≡ slot slots n }
+    ensures { result ≡ slot slots.now n }
 {
     slots[(n - 1) as usize]
 }
 
 // Is it passed over?
-pub fn stopped(d: Slot) -> bool
-    ensures { result ≡ is_stopped d }
+pub fn stopped(d: &Slot) -> bool
+    ensures { result ≡ is_stopped d.now }
 {
     !((d.stop == 0) | (d.stop == 21))
 }
@@ -40,21 +40,18 @@ pub fn following(count: u64, n: u64) -> u64
     if n < count { n + 1 } else { 1 }
 }
 
-// The slot whose turn it is; 0 if all are stopped.
-pub fn next_slot(s: Scheduler) -> u64
-    requires { (1 ≤ s.count) × (s.count ≤ most_slots) }
-    ensures { result ≡ next_slot s }
+// The slot whose turn it is; none if all are stopped.
+pub fn next_slot(s: &Scheduler) -> Option<u64>
+    requires { (1 ≤ s.now.count) × (s.now.count ≤ most_slots) }
+    ensures value { unwrap_or result 0 ≡ next_slot s.now }
+    ensures numbered { IfSome result (λ n. (1 ≤ n) × (n ≤ most_slots)) }
 {
-    let slots = s.slots;
-    let count = s.count;
-    let mut n = place_in(count, s.place);
-    let mut unasked = count;
-    while 0 < unasked {
-        if !stopped(slot_at(slots, n)) {
-            return n;
+    let mut n = place_in(s.count, s.place);
+    for _ in 0..s.count {
+        if !stopped(&slot_at(&s.slots, n)) {
+            return Some(n);
         }
-        n = following(count, n);
-        unasked -= 1;
+        n = following(s.count, n);
     }
-    0
+    None
 }

@@ -1,65 +1,45 @@
 -- A turn is refused, or all slots are stopped, or the next slot makes its run.
-use Rattle.std.proofs.Common.{◌≡◌, ℕ, ◌≤◌, length, sym, ap, ◌∙◌, arith}
+use Rattle.std.proofs.Common.{◌≡◌, length, sym, ap, ◌∙◌, arith, rules}
 use borrow.Author.Tests.{eq-eqb, ne_eqb}
 use Rattle.model.specs.Run.{Ended, run_call}
-use Rattle.scheduler.specs.Turn.{most_slots, place_in, next_slot, refusal, turned_with, no_turn, took_turn, turn_call}
+use Rattle.scheduler.specs.Turn.{most_slots, refusal, refusal_number, next_slot, TurnAnswer, turn_answer, turned_with, no_turn, took_turn, turn_call}
 use Rattle.scheduler.specs.declared.Slot.{Slot}
-use Rattle.scheduler.specs.declared.Scheduler.{Scheduler}
-use Rattle.scheduler.specs.declared.Turned.{Turned}
-use Rattle.scheduler.proofs.Round.{Numbered, within_numbered, place_numbered, found_unstopped}
+use Rattle.scheduler.proofs.Round.{within_numbered}
 use Rattle.scheduler.proofs.Turn.{accepted, turn_runs}
+use Rattle.turn.proofs.Refusals.{never_zero}
 use Rattle.turn.proofs.turn_call.Goals as goal
 
--- a turn that is not refused has 1 to 4 slots
-counted : (s : Scheduler) (size allowance : ℕ) → refusal s size allowance ≡ 0 → Numbered most_slots s.count
-counted s size allowance e = within_numbered most_slots s.count (accepted s size allowance e).count
-
--- and the next one is a slot
-next_numbered : (s : Scheduler) (size allowance n : ℕ) → refusal s size allowance ≡ 0 → n ≡ next_slot s → (n ≡ 0 → ⊥) → (1 ≤ n) × (n ≤ most_slots)
-next_numbered s size allowance n e f z =
-    let k = counted s size allowance e in
-    let u = found_unstopped s.slots s.count s.count (place_in s.count s.place) (place_numbered s.count s.place k.low) (λ g. z (f ∙ g)) in
-    (omega (arith, f, u.0.low), omega (arith, f, u.0.high, k.high))
-
-pub returns-then-stop-ne0 : goal.returns-then-stop-ne0
+pub returns-in_err-refusal : goal.returns-in_err-refusal
 unfolding turn_call
-returns-then-stop-ne0 c =
-    let s = c.args.s in
+returns-in_err-refusal c =
+    let s = c.args.s.now in
     let mem = c.args.mem.now in
-    let r = c.refusal-stop.ensures in
-    rw (ne_eqb (refusal s (length mem) c.args.allowance) 0 (λ e. c.if-stop-ne0.true (r ∙ e)))
-    (ap (λ (t : Turned). turned_with t mem) c.no_turn.ensures ∙ ap (λ k. turned_with (no_turn k s) mem) r)
+    let why = c.in_err-refusal.field-0.0 in
+    let said : refusal_number why ≡ refusal s (length mem) c.args.allowance = c.in_err-refusal.ensures in
+    let r : turn_answer c.from_residual.result s ≡ no_turn (refusal_number why) s = search rules in
+    rw (ne_eqb (refusal s (length mem) c.args.allowance) 0 (λ e. never_zero why (said ∙ e)))
+    (ap (λ (t : TurnAnswer). turned_with t mem) r ∙ ap (λ k. turned_with (no_turn k s) mem) said)
 
-pub next_slot-n-requires : goal.next_slot-n-requires
-next_slot-n-requires c =
-    let k = counted c.args.s (length c.args.mem.now) c.args.allowance (sym c.refusal-stop.ensures ∙ c.if-stop-ne0.false) in
+-- a turn that is not refused has 1 to 4 slots
+pub next_slot-requires : goal.next_slot-requires
+next_slot-requires c =
+    let s = c.args.s.now in
+    let k = within_numbered most_slots s.count (accepted s (length c.args.mem.now) c.args.allowance (sym c.in_ok-refusal.ensures)).count in
     (k.low, k.high)
 
-pub returns-then-n-eq0 : goal.returns-then-n-eq0
+pub returns-in_default : goal.returns-in_default
 unfolding turn_call
-returns-then-n-eq0 c =
-    let s = c.args.s in
-    let mem = c.args.mem.now in
-    rw (eq-eqb (refusal s (length mem) c.args.allowance) 0 (sym c.refusal-stop.ensures ∙ c.if-stop-ne0.false), eq-eqb (next_slot s) 0 (sym c.next_slot-n.ensures ∙ c.if-n-eq0.true))
-    (ap (λ (t : Turned). turned_with t mem) c.no_turn-then-n-eq0.ensures)
-
-pub slot_at-d-requires : goal.slot_at-d-requires
-slot_at-d-requires c =
-    let asked = sym c.refusal-stop.ensures ∙ c.if-stop-ne0.false in
-    next_numbered c.args.s (length c.args.mem.now) c.args.allowance c.next_slot-n.result asked c.next_slot-n.ensures c.if-n-eq0.false
-
-pub took_turn-requires : goal.took_turn-requires
-took_turn-requires c =
-    let asked = sym c.refusal-stop.ensures ∙ c.if-stop-ne0.false in
-    next_numbered c.args.s (length c.args.mem.now) c.args.allowance c.next_slot-n.result asked c.next_slot-n.ensures c.if-n-eq0.false
+returns-in_default c =
+    let s = c.args.s.now in
+    rw (eq-eqb (refusal s (length c.args.mem.now) c.args.allowance) 0 (sym c.in_ok-refusal.ensures), eq-eqb (next_slot s) 0 (sym c.in_default.ensures.value))
 
 pub returns : goal.returns
 returns c =
-    let s = c.args.s in
+    let s = c.args.s.now in
     let mem = c.args.mem.now in
-    let n = c.next_slot-n.result in
-    let asked = sym c.refusal-stop.ensures ∙ c.if-stop-ne0.false in
-    let ran = c.run_call.ensures ∙ ap (λ (d : Slot). run_call d.machine mem c.args.allowance) c.slot_at-d.ensures in
-    ap (λ (t : Turned). turned_with t c.run_call.new.mem) c.took_turn.ensures
+    let n = c.in-Some.n in
+    let ran = c.run_call-r.ensures ∙ ap (λ (d : Slot). run_call d.machine mem c.args.allowance) c.slot_at.ensures in
+    ap (λ (t : TurnAnswer). turned_with t c.run_call-r.new.mem) c.took_turn.ensures
     ∙ ap (λ (e : Ended). turned_with (took_turn s n e.result) e.memory) ran
-    ∙ sym (turn_runs s mem c.args.allowance n asked (sym c.next_slot-n.ensures) c.if-n-eq0.false)
+    ∙ sym (turn_runs s mem c.args.allowance n (sym c.in_ok-refusal.ensures) (sym c.in-Some.ensures.value)
+    (λ e. omega (arith, e, c.in-Some.ensures.numbered.0)))
