@@ -13,7 +13,7 @@ ghost use Rattle.respond.specs.Answered.{Answered};
 ghost use Rattle.koubospar.specs.Lent.{stop_with, run_stop_with, turn_stop_with, put_with};
 ghost use Rattle.koubospar.specs.Probe.{probe, at_place};
 
-use koubospar::lent::{RunStop, Stop};
+use koubospar::lent::{RunStop, StepStop};
 use koubospar::scheduled::TurnStop;
 use model::Machine;
 use scheduler::Scheduler;
@@ -21,7 +21,7 @@ use scheduler::Scheduler;
 // ---- a lent machine
 
 #[unsafe(no_mangle)]
-pub extern "C" fn koubospar_step(m: &mut Machine, mem: &mut [u8]) -> Stop
+pub extern "C" fn koubospar_step(m: &mut Machine, mem: &mut [u8]) -> StepStop
     ensures { stepped_with (stop_with result m.new) mem.new ≡ step_call m.old mem.old }
 {
     koubospar::lent::koubospar_step(m, mem)
@@ -35,7 +35,7 @@ pub extern "C" fn koubospar_run(m: &mut Machine, mem: &mut [u8], budget: u64) ->
 }
 
 #[unsafe(no_mangle)]
-pub extern "C" fn koubospar_resume(m: &mut Machine, v: u64) -> Stop
+pub extern "C" fn koubospar_resume(m: &mut Machine, v: u64) -> StepStop
     ensures { stop_with result m.new ≡ resume_call m.old v }
 {
     koubospar::lent::koubospar_resume(m, v)
