@@ -66,14 +66,12 @@ fn words(rt: &impl Print, s: &[u8]) -> io::Result<()> {
 
 fn rows_of(rt: &(impl Files + Print + Eprint), path: &str) -> io::Result<()> {
     let mut room = [0u8; 16384];
-    let n = read_file(rt, path, &mut room);
-    rows(rt, &room[..n])
+    rows(rt, read_file(rt, path, &mut room))
 }
 
 fn words_of(rt: &(impl Files + Print + Eprint), path: &str) -> io::Result<()> {
     let mut room = [0u8; 131072];
-    let n = read_file(rt, path, &mut room);
-    words(rt, &room[..n])
+    words(rt, read_file(rt, path, &mut room))
 }
 
 fn main(rt: HostRuntime) -> io::Result<()> {
