@@ -57,10 +57,8 @@ const STATE_FIELDS: usize = FIRST_FAULT + 4;
 
 // The numbers of a line of at most as many fields; the first field is a word.
 fn numbers(line: &[u8]) -> [u64; STATE_FIELDS] {
-    let mut values = [0u64; STATE_FIELDS];
-    let mut widths = [0u64; STATE_FIELDS];
-    read_row(line, &mut values, &mut widths);
-    values
+    let (_, fields) = read_row::<STATE_FIELDS>(line);
+    fields.map(|f| f.value)
 }
 
 // The machine with these registers and the rest as a state line has it.
@@ -260,8 +258,7 @@ fn show_in(
     name: &str,
     room: &mut [u8; 655360],
 ) -> io::Result<()> {
-    let n = read_file(rt, name, room);
-    show_all(rt, &room[..n])
+    show_all(rt, read_file(rt, name, room))
 }
 
 // Makes each call of a file.

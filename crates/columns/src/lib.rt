@@ -2,7 +2,7 @@
 // every other line of it, and each of its fields stands at a fixed position of the line, padded with spaces.
 #![tactic(auto)]
 
-ghost use Rattle.std.specs.Prelude.{◌≡◌, ◌≤◌, length, take, drop};
+ghost use Rattle.std.specs.Prelude.{◌≡◌, take, drop};
 ghost use Rattle.text.specs.Scan.{first_that, is};
 ghost use Rattle.text.specs.Number.{number as number_of};
 
@@ -48,16 +48,14 @@ pub fn print_hexadecimal(rt: &impl Print, n: u64, width: usize) -> io::Result<()
     print!(rt; "{n:0width$x}")
 }
 
-// The bytes of a file, as many as there is room for; none where it cannot be read, which is told on standard error. Their
-// count lies within the room; which bytes they are and how many is left free: no contract can speak of what a file holds.
-pub fn read_file(rt: &(impl Files + Eprint), path: &str, room: &mut [u8]) -> usize
-    ensures { result ≤ length room.new }
-{
+// The bytes of a file, as many as there is room for; none where it cannot be read, which is told on standard error. Which bytes
+// they are and how many is left free: no contract can speak of what a file holds.
+pub fn read_file<'a>(rt: &(impl Files + Eprint), path: &str, room: &'a mut [u8]) -> &'a [u8] {
     match read_stored(rt, path, room) {
-        Ok(n) => n,
+        Ok(bytes) => bytes,
         Err(e) => {
             fail(rt, path, e);
-            0
+            &[]
         }
     }
 }

@@ -42,8 +42,7 @@ fn print_records(
     requires { 0 < record_size }
 {
     let mut room = [0u8; 131072];
-    let n = read_file(rt, path, &mut room);
-    for r in room[..n].chunks_exact(record_size) {
+    for r in read_file(rt, path, &mut room).chunks_exact(record_size) {
         let w = (hexadecimal_at(r, 0, 8) % 4294967296) as u32;
         print(rt, column(r, 9, 24))?;
         print_word(rt, w)?;

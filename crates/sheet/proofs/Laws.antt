@@ -5,22 +5,19 @@ use mathlib.Core.List.{List, [], ◌∷◌}
 use Prim.Native.Nat.{ℕ, ◌+◌, ◌-◌, ◌%◌, ◌<◌, ◌≤◌}
 use native.Mathlib.Omega.{arith}
 use lib.Dec.{eqb, leb}
-use lib.ListN.{length, get_or, take, drop, get_or-map, length-drop}
+use lib.ListN.{length, get_or, drop, get_or-map, length-drop}
 use lib.Seq.{drop-drop}
 use borrow.Author.Tests.{leb-true, eqb-true, eq-eqb, ne_eqb}
-use Rattle.text.specs.Scan.{newline, is, count, first_that, line_number, LineStart}
+use Rattle.text.specs.Scan.{newline, first_that, line_number, LineStart}
 use Rattle.text.specs.declared.row.Field.{Field}
 use Rattle.text.specs.Questions.{first_no}
 use Rattle.text.specs.Split.{FirstLine, lines, Row, row_as, row_of}
 use Rattle.text.proofs.Asking.{first_half, second_half, yes_at}
 use Rattle.std.specs.Prelude.{Some, None}
-use Rattle.text.proofs.Scanning.{found, found_is}
 use Rattle.text.proofs.Splitting.{line_more, line_ends, lines_none}
 use Rattle.text.proofs.LineNumbers.{number_first, start_first, start_next}
 use Rattle.model.specs.Bytes.{written}
 use Rattle.setup.specs.Setup.{setup_row, read_setup}
-use Rattle.std.specs.List.{count_by}
-use Rattle.std.proofs.lemmas.List.Recursion.{is_count_by}
 use Rattle.sheet.specs.declared.WordLine.{WordLine}
 use Rattle.sheet.specs.Words.{word_of, words_of, placed, word_questions, read_word, memory_of}
 use Rattle.sheet.specs.Sheet.{refusal, whole, foreign, foreign_line, foreign_found, file_questions, file_no, file_refusal, words_refusal, lines_refusal, sheet_refusal}
@@ -66,18 +63,6 @@ pub file_whole : (s : List ℕ) → file_no s ≡ 0 → (1 ≤ length s) × (len
 unfolding file_no
 file_whole s e = whole_parts s (yes_at 0 (file_questions s) refl e)
 
--- ---- line numbers, as std counts
-counted_is : (c : ℕ) (s : List ℕ) → count c s ≡ count_by (is c) s
-unfolding count
-counted_is c s = is_count_by (count c) (is c) refl (λ b bs. by (is c b) (count c bs)) s
-  where
-    by : (t : Bool) (n : ℕ) → cond t 1 0 + n ≡ cond t (1 + n) n
-    by true n = refl
-    by false n = omega arith
-
-pub number_counted : (s : List ℕ) (at n : ℕ) → n ≡ count_by (is newline) (take at s) → 1 + n ≡ line_number s at
-number_counted s at n e = omega (arith, e, counted_is newline (take at s))
-
 -- ---- the first foreign byte: its line, or 0; so 31 may ask for the line
 module _ (s : List ℕ) where
   pub foreign_asked : eqb (foreign_line s) 0 ≡ eqb (first_that foreign s) (length s)
@@ -87,20 +72,12 @@ module _ (s : List ℕ) where
       by true = refl
       by false = ne_eqb (line_number s (first_that foreign s)) 0 (λ z. omega (arith, z))
 
-  -- a search finds it, or finds none
-  pub foreign_at : (i : ℕ) → Some i ≡ found foreign s → Some (line_number s i) ≡ foreign_found s
-  foreign_at i e = by (eqb (first_that foreign s) (length s)) (e ∙ found_is foreign s)
-    where
-      by : (t : Bool) → Some i ≡ cond t None (Some (first_that foreign s)) → Some (line_number s i) ≡ cond t None (Some (line_number s (first_that foreign s)))
-      by true f = cc
-      by false f = let k : i ≡ first_that foreign s = cc in ap (λ n. Some (line_number s n)) k
+  -- it stands at i, or nowhere
+  pub foreign_here : (i : ℕ) → i < length s → first_that foreign s ≡ i → Some (line_number s i) ≡ foreign_found s
+  foreign_here i h e = rw (e, ne_eqb i (length s) (λ z. omega (arith, z)))
 
-  pub foreign_nowhere : None ≡ found foreign s → None ≡ foreign_found s
-  foreign_nowhere e = by (eqb (first_that foreign s) (length s)) (e ∙ found_is foreign s)
-    where
-      by : (t : Bool) → None ≡ cond t None (Some (first_that foreign s)) → None ≡ cond t None (Some (line_number s (first_that foreign s)))
-      by true f = refl
-      by false f = cc
+  pub foreign_none : first_that foreign s ≡ length s → None ≡ foreign_found s
+  foreign_none e = rw (eq-eqb (first_that foreign s) (length s) e)
 
   -- ---- 30 and 31, of the file
   pub file_not_whole : whole s ≡ false → refusal 30 0 ≡ file_refusal s

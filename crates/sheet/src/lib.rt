@@ -2,7 +2,7 @@
 #![tactic(auto)]
 
 ghost use Rattle.std.specs.Prelude.{◌≡◌, ◌+◌, ◌-◌, ◌≤◌, length, drop, get_or, IfOk, OnOk};
-ghost use Rattle.text.specs.Scan.{newline, line_number, LineStart};
+ghost use Rattle.text.specs.Scan.{newline, LineStart};
 ghost use Rattle.text.specs.Split.{lines, row_of};
 ghost use Rattle.text.specs.Write.{Put};
 ghost use Rattle.setup.specs.Question.{question_number, question_of};
@@ -64,20 +64,20 @@ fn foreign(b: u8) -> bool
     !(is_digit(b) || b == b',' || b == b'\n')
 }
 
-// The number of the line that a position lies in.
-fn line_number(s: &[u8], at: usize) -> u64
-    requires { at ≤ length s.now }
-    ensures { result ≡ line_number s.now at }
-{
-    1 + s[..at].iter().filter(|&&b| b == b'\n').count() as u64
-}
-
-// The line of the first byte that no sheet has.
+// The line of the first byte that no sheet has. The line number runs along.
 fn foreign_line(s: &[u8]) -> Option<u64>
     ensures { result ≡ foreign_found s.now }
 {
-    let at = s.iter().position(|&b| foreign(b))?;
-    Some(line_number(s, at))
+    let mut lineno = 1;
+    for &b in s {
+        if foreign(b) {
+            return Some(lineno);
+        }
+        if b == b'\n' {
+            lineno += 1;
+        }
+    }
+    None
 }
 
 // 30 and 31, of the whole file. Only 31 has a line: that of the first foreign byte.

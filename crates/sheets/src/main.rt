@@ -3,7 +3,7 @@
 #![tactic(auto)]
 
 use columns::{column, print, unpadded};
-use input::{counted, fail, read_stored};
+use input::{fail, read_stored};
 use std::rt::Files;
 use std::{io, str};
 
@@ -19,7 +19,7 @@ fn print_answer(rt: &impl Print, name: &str, sheet: &[u8]) -> io::Result<()> {
 fn show(rt: &(impl Files + Print + Eprint), name: &str) -> io::Result<()> {
     let mut room = [0u8; input::ROOM];
     match read_stored(rt, name, &mut room) {
-        Ok(n) => print_answer(rt, name, counted(&room, n)),
+        Ok(sheet) => print_answer(rt, name, sheet),
         Err(e) => {
             fail(rt, name, e);
             Ok(())
@@ -49,7 +49,7 @@ fn show_all(rt: &(impl Files + Print + Eprint), index: &[u8]) -> io::Result<()> 
 fn show_index(rt: &(impl Files + Print + Eprint), name: &str) -> io::Result<()> {
     let mut room = [0u8; input::ROOM];
     match read_stored(rt, name, &mut room) {
-        Ok(n) => show_all(rt, counted(&room, n)),
+        Ok(index) => show_all(rt, index),
         Err(e) => {
             fail(rt, name, e);
             Ok(())

@@ -5,10 +5,10 @@ use mathlib.Core.List.{List, [], ◌∷◌, ◌++◌}
 use Prim.Native.Nat.{ℕ, zero, suc, ◌+◌, ◌-◌, ◌<◌, ◌≤◌}
 use native.Mathlib.Numerals.{add-one}
 use native.Mathlib.Omega.{arith}
-use lib.Dec.{lit≤, ltb, eqb}
+use lib.Dec.{lit≤, ltb}
 use lib.ListN.{length, get_or, drop, take, length-drop, drop_of_length-le}
 use lib.Seq.{drop-cons, take_all}
-use borrow.Author.Tests.{ltb-true, ltb-false, eq-eqb, ne_eqb}
+use borrow.Author.Tests.{ltb-false}
 use Rattle.std.proofs.Common.{Option, Some, None}
 use Rattle.std.specs.Option.{unwrap_or}
 use Rattle.std.specs.List.{position_or_len}
@@ -48,24 +48,13 @@ unfolding first_that
 first_is_position test s =
     is_position_or_len (first_that test) test refl (λ b bs. (let e : suc (first_that test bs) ≡ 1 + first_that test bs = omega arith in ap (cond (test b) 0) e)) s
 
-abbrev pub found : (ℕ → Bool) → List ℕ → Option ℕ
-found test s = cond (ltb (position_or_len test s) (length s)) (Some (position_or_len test s)) None
-
 pub first_found : (test : ℕ → Bool) (s : List ℕ) (r : Option ℕ)
-    → r ≡ found test s → unwrap_or r (length s) ≡ first_that test s
+    → r ≡ cond (ltb (position_or_len test s) (length s)) (Some (position_or_len test s)) None → unwrap_or r (length s) ≡ first_that test s
 first_found test s r e = rw (e, sym (first_is_position test s)) (by (ltb (first_that test s) (length s)) refl)
   where
     by : (t : Bool) → ltb (first_that test s) (length s) ≡ t → unwrap_or (cond t (Some (first_that test s)) None) (length s) ≡ first_that test s
     by true f = refl
     by false f = omega (arith, ltb-false (first_that test s) (length s) f, first_le test s)
-
-pub found_is : (test : ℕ → Bool) (s : List ℕ) → found test s ≡ cond (eqb (first_that test s) (length s)) None (Some (first_that test s))
-found_is test s = rw (sym (first_is_position test s)) (by (ltb (first_that test s) (length s)) refl)
-  where
-    by : (t : Bool) → ltb (first_that test s) (length s) ≡ t
-        → cond t (Some (first_that test s)) None ≡ cond (eqb (first_that test s) (length s)) None (Some (first_that test s))
-    by true f = let k = ltb-true (first_that test s) (length s) f in rw (ne_eqb (first_that test s) (length s) (λ z. omega (arith, z, k)))
-    by false f = rw (eq-eqb (first_that test s) (length s) (omega (arith, ltb-false (first_that test s) (length s) f, first_le test s)))
 
 -- where a byte passes, the first that passes stands no later
 pub first_before : (test : ℕ → Bool) (s : List ℕ) (i : ℕ) → i < length s → test (get_or s i 0) ≡ true → first_that test s ≤ i

@@ -250,6 +250,5 @@ fn show_all(rt: &impl Print, s: &[u8]) -> io::Result<()> {
 
 fn main(rt: HostRuntime) -> io::Result<()> {
     let mut room = vec![in rt.alloc(); 0u8; 524288]?;
-    let n = read_file(&rt, "turns", &mut room);
-    show_all(&rt, &room[..n])
+    show_all(&rt, read_file(&rt, "turns", &mut room))
 }

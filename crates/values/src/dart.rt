@@ -61,6 +61,5 @@ fn cases(rt: &impl Print, s: &[u8]) -> io::Result<()> {
 // A line for each case of a file. What is printed is left free: no contract can speak of it, and the stored output has it.
 pub fn cases_of(rt: &(impl Files + Print + Eprint), path: &str) -> io::Result<()> {
     let mut room = [0u8; 131072];
-    let n = read_file(rt, path, &mut room);
-    cases(rt, &room[..n])
+    cases(rt, read_file(rt, path, &mut room))
 }

@@ -72,8 +72,7 @@ pub fn table_of(
     values_path: &str,
 ) -> io::Result<()> {
     let mut words_room = [0u8; 1024];
-    let n = read_file(rt, words_path, &mut words_room);
+    let word_rows = read_file(rt, words_path, &mut words_room);
     let mut values_room = [0u8; 1024];
-    let m = read_file(rt, values_path, &mut values_room);
-    words(rt, &words_room[..n], &values_room[..m])
+    words(rt, word_rows, read_file(rt, values_path, &mut values_room))
 }

@@ -105,8 +105,7 @@ fn cases_in(
     path: &str,
     room: &mut [u8; 524288],
 ) -> io::Result<()> {
-    let n = read_file(rt, path, room);
-    cases(rt, &room[..n])
+    cases(rt, read_file(rt, path, room))
 }
 
 // A line for each case of a file. What is printed is left free: no contract can speak of it, and the stored output has it.
