@@ -1,6 +1,6 @@
 -- What the loops over the bytes of an access find is what the definitions ask.
 -- Assumes nothing.
-use Rattle.std.proofs.Common.{◌≡◌, ℕ, ◌+◌, ◌%◌, ◌^◌, ◌<◌, ◌≤◌, Bool, true, Err, cond, ◌&&◌, ◌||◌, eqb, ltb, pos, ◌+ℤ◌, sym, refl, arith, le-ltb, lt-ltb}
+use Rattle.std.proofs.Common.{◌≡◌, ℕ, ◌+◌, ◌%◌, ◌^◌, ◌<◌, ◌≤◌, Bool, true, false, Err, cond, ◌&&◌, ◌||◌, eqb, ltb, pos, ◌+ℤ◌, sym, refl, ◌-◌, ◌∙◌, zero-add, arith, le-ltb, lt-ltb}
 use Rattle.words.specs.Word.{fits_signed}
 use Rattle.model.specs.Regions.{permits, below, explicit_rule, explicit_grants}
 use Rattle.model.specs.Bytes.{byte_of}
@@ -10,7 +10,8 @@ use Rattle.model.specs.Access.{Verdict}
 use Rattle.model.specs.declared.stop.Denied.TheVariants.{Refused}
 use Rattle.model.proofs.Offset.{below_offset}
 use Rattle.model.proofs.Intervals.{explicit_ends}
-use Rattle.memory.specs.Loops.{presence_of}
+use Rattle.model.proofs.Scan.{scan_all}
+use Rattle.memory.specs.Loops.{explicit_refused, presence_of}
 use Rattle.memory.proofs.Truth.{explicit_once}
 
 -- the test of the loop over an explicit region
@@ -24,6 +25,22 @@ explicit_asked far mode r wanted v imm i low high f l p q s e =
     rw (p, q, e, s)
     (explicit_once (eqb mode 0) (explicit_rule r) (permits wanted r) (ltb v far) (ltb (byte_of ((v + imm) % 2 ^ 64) i) r.bound) (below (offset v imm +ℤ pos i) r.bound)
     (λ t. sym (below_offset far v imm i r.bound low high f (omega arith) (omega (arith, (explicit_ends r t).1)))))
+
+or_true : (b : Bool) → (b || true) ≡ true
+or_true true = refl
+or_true false = refl
+
+-- where the region has all bytes the loop would pass each
+pub explicit_whole : (far mode : ℕ) (r : Region) (wanted v imm n : ℕ) {rule permitted : Bool}
+    → 2 ^ 48 + 2 ^ 11 ≤ far → far ≤ 2 ^ 62 → fits_signed 12 imm ≡ true → n ≤ 8
+    → rule ≡ explicit_rule r → permitted ≡ permits wanted r → r.bound < 2 ^ 64
+    → ((rule && permitted) && ltb v far) ≡ true → (v + imm) % 2 ^ 64 < r.bound → n ≤ r.bound - (v + imm) % 2 ^ 64
+    → n ≡ explicit_refused mode r wanted (offset v imm) n
+explicit_whole far mode r wanted v imm n {rule} {permitted} low high f l p q fits ok first last =
+    sym (scan_all _ n 0 (λ j a b. sym (explicit_asked far mode r wanted v imm j low high f (omega arith) p q refl refl) ∙ here j (omega arith)) ∙ zero-add n)
+  where
+    here : (j : ℕ) → j < n → (eqb mode 0 || (((rule && permitted) && ltb v far) && ltb (byte_of ((v + imm) % 2 ^ 64) j) r.bound)) ≡ true
+    here j h = rw (ok, lt-ltb (byte_of ((v + imm) % 2 ^ 64) j) r.bound (omega (arith, first, last))) (or_true (eqb mode 0))
 
 -- ---- the verdict, from what the loops find
 

@@ -125,6 +125,10 @@ fn first_refused_explicit(
 {
     let ok = (explicit_rule(r) & permits(wanted, r)) & (operand < FAR);
     let sum = operand.wrapping_add(imm);
+    // Where the region has them all, none is asked singly.
+    if ok && sum < r.bound && n <= r.bound - sum {
+        return n;
+    }
     first_failing(n, move |i| (mode == 0) | (ok & (sum.wrapping_add(i) < r.bound)))
 }
 

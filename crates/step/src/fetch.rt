@@ -35,24 +35,17 @@ pub fn check_word(h: &HfiState, mem: &[u8], pc: u64) -> Result<(), Denied>
     }
 }
 
-// How many bytes the word at `pc` has.
-pub fn size_at(mem: &[u8], pc: u64) -> u64
-    requires { pc + 2 ≤ length mem.now }
-    ensures { result ≡ size_at mem.now pc }
-{
-    if is_long(read(mem, pc, 2)) { 4 } else { 2 }
-}
-
-// The instruction of the word at `pc`.
+// How many bytes the word at `pc` has, and its instruction.
 #[tactic(auto, unfolding(crate::specs::Fetch::word_at))]
-pub fn word_at(mem: &[u8], pc: u64) -> Option<Instruction>
+pub fn word_at(mem: &[u8], pc: u64) -> (u64, Option<Instruction>)
     requires { (pc + 2 ≤ length mem.now) × (is_long (half_at mem.now pc) ≡ true → pc + 4 ≤ length mem.now) }
-    ensures { result ≡ word_at mem.now pc }
+    ensures size { result.0 ≡ size_at mem.now pc }
+    ensures instruction { result.1 ≡ word_at mem.now pc }
 {
     let h = read(mem, pc, 2);
     if is_long(h) {
-        decode(read(mem, pc, 4) as u32)
+        (4, decode(read(mem, pc, 4) as u32))
     } else {
-        expand(h as u16)
+        (2, expand(h as u16))
     }
 }

@@ -8,7 +8,7 @@ ghost use Rattle.model.specs.Outcome.{answer_of, stepped_with};
 ghost use Rattle.model.specs.Step.{execute_word, step};
 ghost use Rattle.step.specs.Fetch.{half_at, size_at, word_at};
 
-use crate::fetch::{check_word, size_at, word_at};
+use crate::fetch::{check_word, word_at};
 use execute::execute;
 use hart::machine::denied;
 use model::Machine;
@@ -23,11 +23,12 @@ fn execute_word(m: &mut Machine, mem: &mut [u8]) -> Result<(), Stop>
     requires { (m.old.pc + 2 ≤ length mem.old) × (is_long (half_at mem.old m.old.pc) ≡ true → m.old.pc + 4 ≤ length mem.old) }
     ensures { stepped_with (answer_of result m.new) mem.new ≡ execute_word m.old mem.old (size_at mem.old m.old.pc) (word_at mem.old m.old.pc) }
 {
-    let next = m.pc.wrapping_add(size_at(mem, m.pc));
-    match word_at(mem, m.pc) {
-        Some(i) => execute(m, mem, next, i),
-        None => Err(Stop::IllegalWord),
-    }
+    let (size, word) = word_at(mem, m.pc);
+    let Some(i) = word else {
+        return Err(Stop::IllegalWord);
+    };
+    let next = m.pc.wrapping_add(size);
+    execute(m, mem, next, i)
 }
 
 // Questions 4 to 13: one step.

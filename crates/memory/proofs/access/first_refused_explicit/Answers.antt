@@ -3,12 +3,18 @@ use Rattle.words.specs.Word.{fits_signed}
 use Rattle.model.specs.Bytes.{byte_of}
 use Rattle.model.specs.Regions.{permission_bit, explicit_grants}
 use Rattle.model.specs.Access.{offset}
-use Rattle.memory.proofs.Loops.{explicit_asked}
+use Rattle.memory.proofs.Loops.{explicit_asked, explicit_whole}
 use Rattle.memory.proofs.access.first_refused_explicit.Goals as goal
 
 -- the code's FAR
 abbrev far : ℕ
 far = 2 ^ 62
+
+pub returns-then-n-r : goal.returns-then-n-r
+returns-then-n-r c =
+    let a = c.args in
+    explicit_whole far a.mode a.r (permission_bit a.wanted) a.operand a.imm a.n (lit≤ tt) (lit≤ tt) c.requires.0 c.requires.1
+    c.explicit_rule.ensures c.permits.ensures (search rules) c.if-ok.true c.if-sum-r.true c.if-n-r.true
 
 pub returns : goal.returns
 returns c =
