@@ -112,6 +112,7 @@ fn grants_whole(rs: &[Region; REGIONS], ns: &[u64], wanted: Permission, a: u64, 
 const FAR: u64 = 0x4000_0000_0000_0000;
 
 // The first byte that the explicit region does not grant, or `n`; `operand` is the value of rs1.
+#[inline(always)]
 fn first_refused_explicit(
     mode: u64,
     r: Region,
@@ -150,7 +151,8 @@ fn presence(len: u64, a: u64, n: u64) -> Result<(), Denied>
     Ok(())
 }
 
-// The verdict on an access, byte by byte.
+// The verdict on an access, byte by byte. Most accesses pass whole.
+#[cold]
 fn check_bytes(
     h: &HfiState,
     ns: &[u64],
@@ -215,6 +217,7 @@ pub fn explicit_address(r: Region, operand: u64, imm: u64) -> u64
 }
 
 // Questions 10 and 11 of an h-load or h-store, of which region `number` decides.
+#[inline(always)]
 pub fn check_explicit(
     h: &HfiState,
     number: u64,
