@@ -25,19 +25,12 @@ pub fn read_to_end<'a, R: Read>(source: &mut R, room: &'a mut [u8]) -> io::Resul
 }
 
 // The same with room for every sheet.
-pub fn read_sheet<'a, R: Read>(
-    source: &mut R,
-    room: &'a mut [u8; ROOM],
-) -> io::Result<&'a [u8]> {
+pub fn read_sheet<'a, R: Read>(source: &mut R, room: &'a mut [u8; ROOM]) -> io::Result<&'a [u8]> {
     read_to_end(source, room)
 }
 
 // The same of a file.
-pub fn read_stored<'a>(
-    rt: &impl Files,
-    path: &str,
-    room: &'a mut [u8],
-) -> io::Result<&'a [u8]> {
+pub fn read_stored<'a>(rt: &impl Files, path: &str, room: &'a mut [u8]) -> io::Result<&'a [u8]> {
     let mut file = fs::open(rt, path)?;
     read_to_end(&mut file, room)
 }

@@ -8,8 +8,8 @@ use lib.Dec.{eqb, leb}
 use lib.ListN.{length, get_or, drop, take, length-drop, drop_of_length-le}
 use lib.Seq.{take_all, drop-drop, get_or-drop, length-take-le}
 use borrow.Author.Tests.{eq-eqb, leb-true, leb-false}
-use Rattle.text.specs.Scan.{first_that, is, newline, comma}
-use Rattle.text.specs.Split.{push, split, lines, fields}
+use Rattle.text.specs.Scan.{first_that, is, newline}
+use Rattle.text.specs.Split.{push, split, lines}
 use Rattle.text.proofs.Scanning.{position, first_le, first_before}
 
 -- ---- one piece of a list: the first w bytes, and the pieces from w + 1 on
@@ -83,36 +83,6 @@ module _ (c : ℕ) (last : List (List ℕ)) (z : get_or last 0 [] ≡ []) (s p :
       ∙ ap (λ l. l ∷ split c last (drop (position c (drop at s) + 1) (drop at s))) (sym piece_is)
       ∙ ap (λ n. p ∷ split c last (drop (n + 1) (drop at s))) (sym piece_width)
       ∙ ap (λ l. p ∷ split c last l) (drop-drop (length p + 1) at s ∙ ap (λ n. drop n s) g)
-
--- ---- fields
-fields_none : split comma ([] ∷ []) [] ≡ [] ∷ []
-unfolding split
-fields_none = refl
-
-fields_last : (s : List ℕ) → length s ≤ position comma s → fields s ≡ s ∷ []
-fields_last [] h = fields_none
-fields_last (b ∷ bs) h = split_none comma ([] ∷ []) (b ∷ bs) refl (omega arith) h
-
--- the field f begins at position `at` of a line
-module _ (line f : List ℕ) (at : ℕ) (e : f ≡ get_or (fields (drop at line)) 0 []) where
-  field_is : f ≡ take (position comma (drop at line)) (drop at line)
-  field_is = piece_is comma ([] ∷ []) refl line f at e
-
-  field_width : length f ≡ position comma (drop at line)
-  field_width = piece_width comma ([] ∷ []) refl line f at e
-
-  pub field_fits : at ≤ length line → at + length f ≤ length line
-  field_fits h = omega (arith, field_width, first_le (is comma) (drop at line), length-drop at line)
-
-  pub field_more : at + length f < length line → fields (drop at line) ≡ f ∷ fields (drop (at + length f + 1) line)
-  field_more h =
-      let k : position comma (drop at line) < length (drop at line) = omega (arith, field_width, length-drop at line) in
-      piece_more comma ([] ∷ []) refl line f at e (split_more comma ([] ∷ []) (drop at line) k)
-
-  pub field_last : length line ≤ at + length f → fields (drop at line) ≡ f ∷ []
-  field_last h =
-      let k : length (drop at line) ≤ position comma (drop at line) = omega (arith, field_width, length-drop at line) in
-      fields_last (drop at line) k ∙ ap (λ s. s ∷ []) (sym (field_is ∙ take_all (position comma (drop at line)) (drop at line) k))
 
 -- ---- lines
 pub lines_none : lines [] ≡ []

@@ -41,10 +41,6 @@ wrote_none = record { stored = refl; after = omega arith }
 pub wrote_then : {a b c s t : List ℕ} {at middle end : ℕ} → Wrote a at s b middle → Wrote b middle t c end → Wrote a at (s ++ t) c end
 wrote_then {t = t} v w = record { stored = w.stored ∙ wrote_on v t; after = rw length-append (omega (arith, v.after, w.after)) }
 
--- the same text in other words
-pub wrote_as : {a b s t : List ℕ} {at end : ℕ} → s ≡ t → Wrote a at s b end → Wrote a at t b end
-wrote_as {a} {b} {at = at} {end = end} e w = subst (λ text. Wrote a at text b end) e w
-
 -- what a text leaves where it fits: what stood before it, the text, what stood after it
 pub wrote_parts : (old : List ℕ) (at : ℕ) (text new : List ℕ) (end : ℕ) → at + length text ≤ length old → Wrote old at text new end
     → new ≡ take at old ++ text ++ drop end old

@@ -2,7 +2,7 @@
 ghost use Rattle.std.specs.Prelude.{◌≡◌, ◌<◌, ◌≤◌};
 ghost use Rattle.text.specs.Number.{is_digit, digit_value, number as number_of};
 
-// Is it a digit, 0-9 or a-f?
+// Is it a digit, 0-9 or a-f? (std's own tests and `to_digit` let A-F pass too.)
 pub fn is_digit(b: u8) -> bool
     ensures { result ≡ is_digit b }
 {
