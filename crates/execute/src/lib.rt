@@ -70,8 +70,15 @@ pub fn execute(m: &mut Machine, mem: &mut [u8], next: u64, i: Instruction) -> Re
                 next
             };
         }
-        Instruction::Load(k, rd, rs1, imm) => load(m, mem, next, k, rd, rs1, imm)?,
-        Instruction::Store(k, rs1, rs2, imm) => store(m, mem, next, k, rs1, rs2, imm)?,
+        Instruction::Load(k, rd, rs1, imm) => {
+            let a = register(m, rs1).wrapping_add(imm);
+            load(m, mem, next, k, rd, a)?;
+        }
+        Instruction::Store(k, rs1, rs2, imm) => {
+            let a = register(m, rs1).wrapping_add(imm);
+            let value = register(m, rs2);
+            store(m, mem, next, k, value, a)?;
+        }
         Instruction::Immediate(k, rd, rs1, imm) => {
             let v = operate_immediate(k, register(m, rs1), imm);
             write_back(m, next, rd, v);
@@ -100,11 +107,14 @@ pub fn execute(m: &mut Machine, mem: &mut [u8], next: u64, i: Instruction) -> Re
         Instruction::System(k) => return system(m, k),
         Instruction::HLoad(k, region, rd, rs1, imm) => {
             h_word_rule(&m.hfi)?;
-            hload(m, mem, next, k, region, rd, rs1, imm)?;
+            let operand = register(m, rs1);
+            hload(m, mem, next, k, region, rd, operand, imm)?;
         }
         Instruction::HStore(k, region, rs1, rs2, imm) => {
             h_word_rule(&m.hfi)?;
-            hstore(m, mem, next, k, region, rs1, rs2, imm)?;
+            let operand = register(m, rs1);
+            let value = register(m, rs2);
+            hstore(m, mem, next, k, region, value, operand, imm)?;
         }
         Instruction::Hfi(k, rd, rs1, rs2) => hfi_word(m, next, k, rd, rs1, rs2)?,
     }

@@ -3,14 +3,14 @@
 
 ghost use Rattle.std.specs.Prelude.{◌≡◌, true, ◌+◌, ◌<◌, ◌≤◌, length};
 ghost use Rattle.words.specs.Word.{fits_signed};
-ghost use Rattle.instructions.specs.declared.instruction.Instruction.TheVariants.{Load, Store, HLoad, HStore};
-ghost use Rattle.model.specs.Access.{load_width, store_width, passed};
+ghost use Rattle.model.specs.Regions.{read as read_bit, write as write_bit};
+ghost use Rattle.model.specs.Access.{load_width, store_width, passed, data_access, explicit_access, offset};
 ghost use Rattle.model.specs.Outcome.{answer_of, stepped_with};
-ghost use Rattle.model.specs.Step.{perform};
+ghost use Rattle.model.specs.Step.{load as load_of, store as store_of};
 ghost use Rattle.load_store.specs.Finish.{finish_load, finish_store};
 
 use arithmetic::extended;
-use hart::machine::{denied, register, write_back};
+use hart::machine::{denied, write_back};
 use hart::regions::region_at;
 use instructions::kind::{LoadKind, StoreKind};
 use memory::access::{check_data, check_explicit, explicit_address};
@@ -41,24 +41,23 @@ fn finish_load(
     Ok(())
 }
 
+// An ordinary load at `a`.
 pub fn load(
     m: &mut Machine,
     mem: &[u8],
     next: u64,
     k: LoadKind,
     rd: u64,
-    rs1: u64,
-    imm: u64,
+    a: u64,
 ) -> Result<(), Stop>
-    requires { (rd < 32) × (rs1 < 32) }
-    ensures { stepped_with (answer_of result m.new) mem.now ≡ perform m.old mem.now next (Load k rd rs1 imm) }
+    requires { rd < 32 }
+    ensures { stepped_with (answer_of result m.new) mem.now ≡ load_of m.old mem.now next (data_access m.old.hfi.regions read_bit a (load_width k)) k rd }
 {
-    let a = register(m, rs1).wrapping_add(imm);
     let verdict = check_data(&m.hfi, Permission::Read, mem.len() as u64, a, load_width(k));
     finish_load(m, mem, next, verdict, k, rd, a)
 }
 
-// Of the explicit region `region`.
+// An h-load of the explicit region `region`; `operand` is the value of rs1.
 pub fn hload(
     m: &mut Machine,
     mem: &[u8],
@@ -66,13 +65,12 @@ pub fn hload(
     k: LoadKind,
     region: u64,
     rd: u64,
-    rs1: u64,
+    operand: u64,
     imm: u64,
 ) -> Result<(), Stop>
-    requires { (rd < 32) × (rs1 < 32) × (fits_signed 12 imm ≡ true) }
-    ensures { stepped_with (answer_of result m.new) mem.now ≡ perform m.old mem.now next (HLoad k region rd rs1 imm) }
+    requires { (rd < 32) × (fits_signed 12 imm ≡ true) }
+    ensures { stepped_with (answer_of result m.new) mem.now ≡ load_of m.old mem.now next (explicit_access m.old.hfi.regions region read_bit (offset operand imm) (load_width k)) k rd }
 {
-    let operand = register(m, rs1);
     let len = mem.len() as u64;
     let verdict = check_explicit(
         &m.hfi,
@@ -109,40 +107,41 @@ fn finish_store(
     Ok(())
 }
 
+// An ordinary store of `value` at `a`.
 pub fn store(
     m: &mut Machine,
     mem: &mut [u8],
     next: u64,
     k: StoreKind,
-    rs1: u64,
-    rs2: u64,
-    imm: u64,
+    value: u64,
+    a: u64,
 ) -> Result<(), Stop>
-    requires { (rs1 < 32) × (rs2 < 32) }
-    ensures { stepped_with (answer_of result m.new) mem.new ≡ perform m.old mem.old next (Store k rs1 rs2 imm) }
+    ensures { stepped_with (answer_of result m.new) mem.new ≡ store_of m.old mem.old next (data_access m.old.hfi.regions write_bit a (store_width k)) value }
 {
-    let a = register(m, rs1).wrapping_add(imm);
-    let value = register(m, rs2);
-    let verdict = check_data(&m.hfi, Permission::Write, mem.len() as u64, a, store_width(k));
+    let verdict = check_data(
+        &m.hfi,
+        Permission::Write,
+        mem.len() as u64,
+        a,
+        store_width(k),
+    );
     finish_store(m, mem, next, verdict, k, value, a)
 }
 
-// To the explicit region `region`.
+// An h-store of `value` to the explicit region `region`; `operand` is the value of rs1.
 pub fn hstore(
     m: &mut Machine,
     mem: &mut [u8],
     next: u64,
     k: StoreKind,
     region: u64,
-    rs1: u64,
-    rs2: u64,
+    value: u64,
+    operand: u64,
     imm: u64,
 ) -> Result<(), Stop>
-    requires { (rs1 < 32) × (rs2 < 32) × (fits_signed 12 imm ≡ true) }
-    ensures { stepped_with (answer_of result m.new) mem.new ≡ perform m.old mem.old next (HStore k region rs1 rs2 imm) }
+    requires { fits_signed 12 imm ≡ true }
+    ensures { stepped_with (answer_of result m.new) mem.new ≡ store_of m.old mem.old next (explicit_access m.old.hfi.regions region write_bit (offset operand imm) (store_width k)) value }
 {
-    let operand = register(m, rs1);
-    let value = register(m, rs2);
     let len = mem.len() as u64;
     let verdict = check_explicit(
         &m.hfi,

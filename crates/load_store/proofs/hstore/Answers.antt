@@ -1,6 +1,6 @@
 use Rattle.std.proofs.Common.{length, ◌∙◌, pos, ◌+ℤ◌, rules}
 use Rattle.model.specs.Machine.{region}
-use Rattle.model.specs.Step.{perform, store}
+use Rattle.model.specs.Step.{store}
 use Rattle.model.specs.Access.{explicit_access, offset, store_width}
 use Rattle.model.specs.Regions.{write}
 use Rattle.words.proofs.Residues.{word_lt}
@@ -13,15 +13,14 @@ pub finish_store-requires : goal.finish_store-requires
 finish_store-requires c =
     let a = c.args in
     let rs = a.m.now.hfi.regions in
-    let v = c.register-operand.result in
-    let access = explicit_access rs a.region write (offset v a.imm) (store_width a.k) in
+    let access = explicit_access rs a.region write (offset a.operand a.imm) (store_width a.k) in
     rw (c.explicit_address-first.ensures, c.region_at.ensures)
     (passed_fits a.m.now.hfi.mode (length a.mem.now) access (store_is_width a.k)
-    (word_lt 64 (pos (region rs a.region).base +ℤ offset v a.imm)) (search rules)
+    (word_lt 64 (pos (region rs a.region).base +ℤ offset a.operand a.imm)) (search rules)
     (c.check_explicit-verdict.ensures ∙ rw c.store_width.ensures))
 
 pub returns : goal.returns
-unfolding perform store
+unfolding store
 returns c =
     c.finish_store.ensures
-    ∙ rw (c.check_explicit-verdict.ensures, c.store_width.ensures, c.explicit_address-first.ensures, c.region_at.ensures, c.register-operand.ensures, c.register-value.ensures)
+    ∙ rw (c.check_explicit-verdict.ensures, c.store_width.ensures, c.explicit_address-first.ensures, c.region_at.ensures)

@@ -1,6 +1,5 @@
 use Rattle.std.proofs.Common.{length, ◌∙◌, rules}
-use Rattle.model.specs.Machine.{reg, sum}
-use Rattle.model.specs.Step.{perform, store}
+use Rattle.model.specs.Step.{store}
 use Rattle.model.specs.Access.{data_access, store_width}
 use Rattle.model.specs.Regions.{write}
 use Rattle.memory.proofs.Widths.{store_is_width}
@@ -11,10 +10,10 @@ use Rattle.load_store.proofs.store.Goals as goal
 pub finish_store-requires : goal.finish_store-requires
 finish_store-requires c =
     let a = c.args in
-    let access = data_access a.m.now.hfi.regions write (sum c.register.result a.imm) (store_width a.k) in
+    let access = data_access a.m.now.hfi.regions write a.a (store_width a.k) in
     passed_fits a.m.now.hfi.mode (length a.mem.now) access (store_is_width a.k) (search rules) (search rules)
     (c.check_data-verdict.ensures ∙ rw c.store_width.ensures)
 
 pub returns : goal.returns
-unfolding perform store
-returns c = c.finish_store.ensures ∙ rw (c.check_data-verdict.ensures, c.store_width.ensures, c.register.ensures, c.register-value.ensures)
+unfolding store
+returns c = c.finish_store.ensures ∙ rw (c.check_data-verdict.ensures, c.store_width.ensures)
