@@ -1,4 +1,5 @@
-// The immediate of each format of half-words.
+// The immediate of each format of half-words. As constant tables of pieces and one loop over them these were proved too, but
+// the loop of steps then took up to five instructions more a step.
 ghost use Rattle.std.specs.Prelude.{◌≡◌};
 ghost use Rattle.compressed.specs.Immediates.{zero_extended, sign_extended, addi4spn, word_offset, double_offset, six_bits, addi16sp, upper, jump_offset, branch_offset, word_from_stack, double_from_stack, word_to_stack, double_to_stack};
 

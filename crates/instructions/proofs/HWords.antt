@@ -23,7 +23,7 @@ Each P (k ∷ ks) = P k × Each P ks
 
 -- .. holds of a number that is among them
 pub among_ind : (P : ℕ → Type 0) (ks : List ℕ) (n : ℕ) → Each P ks → among n ks ≡ true → P n
-among_ind P [] n h e = let z : ◌≡◌ {A = ℕ} 0 1 = cc in absurd (omega arith)
+among_ind P [] n h e = cc
 among_ind P (k ∷ ks) n h e = go (eqb n k) refl e (among_ind P ks n h.1)
   where
     go : (b : Bool) → eqb n k ≡ b → cond b true (among n ks) ≡ true → (among n ks ≡ true → P n) → P n

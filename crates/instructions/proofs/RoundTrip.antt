@@ -1,11 +1,12 @@
 -- Decoding and encoding undo each other, and their numbers are document 01's.
 -- Assumes nothing.
-use mathlib.Core.Path.{◌≡◌, refl, ap, ◌∙◌}
+use mathlib.Core.Path.{◌≡◌, refl, sym, ap, ◌∙◌}
 use mathlib.Core.Bool.{Bool, true, false, cond}
 use mathlib.Core.Logic.{◌↔◌}
 use Prim.Native.Nat.{ℕ, ◌^◌, ◌<◌}
 use native.Mathlib.Omega.{arith}
 use Rattle.std.proofs.Common.{Option, Some, None}
+use Rattle.std.proofs.lemmas.Option.{cond_some}
 use Rattle.instructions.specs.Fields.{fields_of, word_of}
 use Rattle.instructions.specs.Decode.{decode_fields, decode_word}
 use Rattle.instructions.specs.Encode.{encode_fields, in_range, encode_word}
@@ -19,13 +20,7 @@ use Rattle.instructions.proofs.EncodeDecode.{Back, back}
 
 encoded : (i : Instruction) (w : ℕ) → encode_word i ≡ Some w → (in_range i ≡ true) × (w ≡ word_of (encode_fields i))
 unfolding encode_word
-encoded i w e = go (in_range i) e
-  where
-    go : (b : Bool) → cond b (Some (word_of (encode_fields i))) None ≡ Some w → (b ≡ true) × (w ≡ word_of (encode_fields i))
-    go true e = (refl, cc)
-    go false e =
-        let z : ◌≡◌ {A = ℕ} 0 1 = cc in
-        absurd (omega arith)
+encoded i w e = let p = cond_some (in_range i) (word_of (encode_fields i)) w e in (p.0, sym p.1)
 
 decoded : (w : ℕ) (i : Instruction) → decode_word w ≡ Some i → Back (fields_of w) (Some i)
 unfolding decode_word
@@ -83,8 +78,7 @@ illegal_exactly w h = (none, λ f. go f (decode_word w) refl)
     none : decode_word w ≡ None → (i : Instruction) → encode_word i ≡ Some w → ⊥
     none e i f =
         let g = decode_of_encode i w f in
-        let z : ◌≡◌ {A = ℕ} 0 1 = cc in
-        omega arith
+        cc
 
     go : ((i : Instruction) → encode_word i ≡ Some w → ⊥) → (d : Option Instruction) → decode_word w ≡ d → d ≡ None
     go f (Some i) e = absurd (f i (encode_of_decode w i h e))

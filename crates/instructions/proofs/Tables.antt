@@ -64,7 +64,7 @@ below code bound (k ∷ ks) = ltb (code k) bound && below code bound ks
 -- what is made of the kind that is found is y, where a test tells so and the kind that is found passes it
 pub code_told : {K X : Type 0} (code : K → ℕ) (test : K → Bool) (make : K → X) (none y : X) (ks : List K) (n : ℕ)
     → of_code code test false ks n ≡ true → ((k : K) → test k ≡ true → make k ≡ y) → of_code code make none ks n ≡ y
-code_told code test make none y [] n t h = let z : ◌≡◌ {A = ℕ} 0 1 = cc in absurd (omega arith)
+code_told code test make none y [] n t h = cc
 code_told code test make none y (k ∷ ks) n t h = go (eqb n (code k)) t (λ u. code_told code test make none y ks n u h)
   where
     go : (b : Bool) → cond b (test k) (of_code code test false ks n) ≡ true

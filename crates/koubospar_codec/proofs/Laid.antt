@@ -8,6 +8,7 @@ use native.Mathlib.Omega.{arith}
 use lib.Dec.{eqb}
 use borrow.Author.Tests.{eqb-true, eq-eqb}
 use Rattle.std.proofs.Common.{Option, Some, None}
+use Rattle.std.proofs.lemmas.Option.{cond_some}
 use Rattle.instructions.specs.Decode.{provided, decode_word}
 use Rattle.instructions.specs.Encode.{encode_word}
 use Rattle.instructions.specs.declared.kind.UpperKind.{UpperKind}
@@ -99,15 +100,11 @@ stands_flatten i = rw (unflatten_flatten i, same_refl (flatten i)) refl
 pub flatten_stands : (f : Flat) (i : Instruction) → stands_for f ≡ Some i → flatten i ≡ f
 flatten_stands f i e = read (unflatten f) e
   where
-    told : (b : Bool) (j : Instruction) → provided b (Some j) ≡ Some i → (b ≡ true) × (j ≡ i)
-    told true j e = (refl, cc)
-    told false j e = let z : ◌≡◌ {A = ℕ} 0 1 = cc in absurd (omega arith)
-
     read : (d : Option Instruction) → laid_out f d ≡ Some i → flatten i ≡ f
     read (Some j) e =
-        let t = told (same (flatten j) f) j e in
+        let t = cond_some (same (flatten j) f) j i e in
         ap flatten (sym t.1) ∙ same_equal (flatten j) f t.0
-    read None e = let z : ◌≡◌ {A = ℕ} 0 1 = cc in absurd (omega arith)
+    read None e = cc
 
 pub stands_exactly : (f : Flat) (i : Instruction) → (stands_for f ≡ Some i) ↔ (flatten i ≡ f)
 stands_exactly f i = (flatten_stands f i, λ e. ap stands_for (sym e) ∙ stands_flatten i)

@@ -28,7 +28,7 @@ pub struct Flat {
     pub region: u64,
 }
 
-// 0 and the instruction, or 13 and zeros.
+// 0 and the instruction, or 13 and zeros: C has no Option.
 #[repr(C)]
 #[derive(Clone, Copy)]
 pub struct FlatDecoded {
@@ -36,7 +36,7 @@ pub struct FlatDecoded {
     pub instruction: Flat,
 }
 
-// 0 and the word, or 5 and 0.
+// 0 and the word, or 5 and 0: C has no Option.
 #[repr(C)]
 #[derive(Clone, Copy)]
 pub struct FlatEncoded {
