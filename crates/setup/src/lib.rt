@@ -9,7 +9,7 @@ ghost use Rattle.model.specs.Machine.{last_region, no_region, regions_from};
 ghost use Rattle.setup.specs.Question.{question_of};
 ghost use Rattle.setup.specs.Setup.{regions_given, counted, permissions_in_range, budget_field, digits_in_range, values_in_range, setup_row, setup_of, read_setup, machine_of};
 
-use model::{Fault, HfiState, Machine, REGIONS, Region};
+use model::{HfiState, Machine, REGIONS, Region};
 use question::Question;
 use text::row::{Field, all_wide, read_row};
 
@@ -23,19 +23,6 @@ const LONG_FORM: usize = 4 + 3 * REGIONS;
 
 // What an empty budget means.
 const DEFAULT_BUDGET: u64 = 50000;
-
-const NO_REGION: Region = Region {
-    base: 0,
-    bound: 0,
-    permission: 0,
-};
-
-const NO_FAULT: Fault = Fault {
-    occurred: 0,
-    region: 0,
-    op: 0,
-    address: 0,
-};
 
 // The values of line 1.
 #[derive(Clone, Copy)]
@@ -72,7 +59,7 @@ pub fn regions_from(values: &[u64], first: usize, n: usize) -> [Region; REGIONS]
     requires { (n ≤ last_region) × (first + 3 * n ≤ length values.now) }
     ensures { result ≡ regions_from values.now first n ++ replicate (last_region - n) no_region }
 {
-    let mut regions = [NO_REGION; REGIONS];
+    let mut regions = [Region::default(); REGIONS];
     for i in 0..n {
         let k = first + 3 * i;
         regions[i] = Region {
@@ -162,17 +149,11 @@ pub fn machine_of(s: Setup) -> Machine
     let regions = s.regions;
     let hfi = HfiState {
         mode: 1,
-        reason: 0,
-        epc: 0,
         options: s.options,
         handler: s.handler,
-        selector: 0,
         regions,
-        fault: NO_FAULT,
+        ..HfiState::default()
     };
-    Machine {
-        x: [0; 32],
-        pc: s.pc,
-        hfi,
-    }
+    let x = [0; 32];
+    Machine { x, pc: s.pc, hfi }
 }
