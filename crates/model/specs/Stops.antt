@@ -1,6 +1,6 @@
 -- The documents' number and address of each stop of src/stop.rt: "When an answer is an enum, a definition gives this paper's number
 -- and values for each enum case. The promises use this definition." The questions and their numbers stand in Step.antt, Hfi.antt and Run.antt.
--- Op, Denied, Rule and Stop are declared in src/stop.rt. Assumes nothing.
+-- Op, Rule and Stop are declared in src/stop.rt. Assumes nothing.
 use Rattle.std.specs.Prelude.{ℕ, Result, Ok, Err, ⊤}
 use Rattle.model.specs.Machine.{load_op, store_op, fetch_op}
 use Rattle.model.specs.declared.stop.Op.{Op}

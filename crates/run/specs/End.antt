@@ -1,4 +1,5 @@
--- What ended a run of a machine in place, with the machine after it, as the model's answer. No promise rests on this file.
+-- What ended a run of a machine in place, with the machine after it, as the model's answer. No promise rests on this file: each is proved to be
+-- what model's run answers.
 -- End is declared in src/lib.rt, Machine in model/src/lib.rt. Assumes nothing.
 use Rattle.model.specs.Run.{RunAnswer}
 use Rattle.model.specs.Stops.{stop_number, stop_address}
