@@ -2,7 +2,7 @@
 // every other line of it, and each of its fields stands at a fixed position of the line, padded with spaces.
 #![tactic(auto)]
 
-ghost use Rattle.std.specs.Prelude.{◌≡◌, take, drop};
+ghost use Rattle.std.specs.Prelude.{◌≡◌, ◌≤◌, length, take, drop};
 ghost use Rattle.text.specs.Scan.{first_that, is};
 ghost use Rattle.text.specs.Number.{number as number_of};
 
@@ -50,7 +50,9 @@ pub fn print_hexadecimal(rt: &impl Print, n: u64, width: usize) -> io::Result<()
 
 // The bytes of a file, as many as there is room for; none where it cannot be read, which is told on standard error. Which bytes
 // they are and how many is left free: no contract can speak of what a file holds.
-pub fn read_file<'a>(rt: &(impl Files + Eprint), path: &str, room: &'a mut [u8]) -> &'a [u8] {
+pub fn read_file<'a>(rt: &(impl Files + Eprint), path: &str, room: &'a mut [u8]) -> &'a [u8]
+    ensures { length result.now ≤ length room.old }
+{
     match read_stored(rt, path, room) {
         Ok(bytes) => bytes,
         Err(e) => {
