@@ -41,6 +41,7 @@ fn finish_load(
     Ok(())
 }
 
+#[tactic(auto, unfolding(model::specs::Step::perform, model::specs::Step::load))]
 pub fn load(
     m: &mut Machine,
     mem: &[u8],
@@ -59,6 +60,7 @@ pub fn load(
 }
 
 // Of the explicit region `region`.
+#[tactic(auto, unfolding(model::specs::Step::perform, model::specs::Step::load))]
 pub fn hload(
     m: &mut Machine,
     mem: &[u8],
@@ -109,6 +111,7 @@ fn finish_store(
     Ok(())
 }
 
+#[tactic(auto, unfolding(model::specs::Step::perform, model::specs::Step::store))]
 pub fn store(
     m: &mut Machine,
     mem: &mut [u8],
@@ -123,11 +126,18 @@ pub fn store(
 {
     let a = register(m, rs1).wrapping_add(imm);
     let value = register(m, rs2);
-    let verdict = check_data(&m.hfi, Permission::Write, mem.len() as u64, a, store_width(k));
+    let verdict = check_data(
+        &m.hfi,
+        Permission::Write,
+        mem.len() as u64,
+        a,
+        store_width(k),
+    );
     finish_store(m, mem, next, verdict, k, value, a)
 }
 
 // To the explicit region `region`.
+#[tactic(auto, unfolding(model::specs::Step::perform, model::specs::Step::store))]
 pub fn hstore(
     m: &mut Machine,
     mem: &mut [u8],

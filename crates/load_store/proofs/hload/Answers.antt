@@ -1,6 +1,5 @@
 use Rattle.std.proofs.Common.{length, ◌∙◌, pos, ◌+ℤ◌, rules}
 use Rattle.model.specs.Machine.{region}
-use Rattle.model.specs.Step.{perform, load}
 use Rattle.model.specs.Access.{explicit_access, offset, load_width}
 use Rattle.model.specs.Regions.{read}
 use Rattle.words.proofs.Residues.{word_lt}
@@ -14,14 +13,10 @@ finish_load-requires c =
     let a = c.args in
     let rs = a.m.now.hfi.regions in
     let v = c.register-operand.result in
-    let access = explicit_access rs a.region read (offset v a.imm) (load_width a.k) in
-    (c.requires.0, rw (c.explicit_address-first.ensures, c.region_at.ensures)
-    (passed_fits a.m.now.hfi.mode (length a.mem.now) access (load_is_width a.k)
-    (word_lt 64 (pos (region rs a.region).base +ℤ offset v a.imm)) (search rules)
-    (c.check_explicit-verdict.ensures ∙ rw c.load_width.ensures)))
-
-pub returns : goal.returns
-unfolding perform load
-returns c =
-    c.finish_load.ensures
-    ∙ rw (c.check_explicit-verdict.ensures, c.load_width.ensures, c.explicit_address-first.ensures, c.region_at.ensures, c.register-operand.ensures)
+    let access = explicit_access rs a.region read (offset v a.imm) (load_width a.k) in (
+      c.requires.0,
+      rw (c.explicit_address-first.ensures, c.region_at.ensures)
+          (passed_fits a.m.now.hfi.mode (length a.mem.now) access (load_is_width a.k)
+          (word_lt 64 (pos (region rs a.region).base +ℤ offset v a.imm)) (search rules)
+          (c.check_explicit-verdict.ensures ∙ rw c.load_width.ensures)),
+    )

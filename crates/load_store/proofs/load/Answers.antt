@@ -1,6 +1,5 @@
 use Rattle.std.proofs.Common.{length, ◌∙◌, rules}
-use Rattle.model.specs.Machine.{reg, sum}
-use Rattle.model.specs.Step.{perform, load}
+use Rattle.model.specs.Machine.{sum}
 use Rattle.model.specs.Access.{data_access, load_width}
 use Rattle.model.specs.Regions.{read}
 use Rattle.memory.proofs.Widths.{load_is_width}
@@ -11,10 +10,8 @@ use Rattle.load_store.proofs.load.Goals as goal
 pub finish_load-requires : goal.finish_load-requires
 finish_load-requires c =
     let a = c.args in
-    let access = data_access a.m.now.hfi.regions read (sum c.register.result a.imm) (load_width a.k) in
-    (c.requires.0, passed_fits a.m.now.hfi.mode (length a.mem.now) access (load_is_width a.k) (search rules) (search rules)
-    (c.check_data-verdict.ensures ∙ rw c.load_width.ensures))
-
-pub returns : goal.returns
-unfolding perform load
-returns c = c.finish_load.ensures ∙ rw (c.check_data-verdict.ensures, c.load_width.ensures, c.register.ensures)
+    let access = data_access a.m.now.hfi.regions read (sum c.register.result a.imm) (load_width a.k) in (
+      c.requires.0,
+      passed_fits a.m.now.hfi.mode (length a.mem.now) access (load_is_width a.k) (search rules) (search rules)
+          (c.check_data-verdict.ensures ∙ rw c.load_width.ensures),
+    )

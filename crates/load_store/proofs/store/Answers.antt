@@ -1,6 +1,5 @@
 use Rattle.std.proofs.Common.{length, ◌∙◌, rules}
-use Rattle.model.specs.Machine.{reg, sum}
-use Rattle.model.specs.Step.{perform, store}
+use Rattle.model.specs.Machine.{sum}
 use Rattle.model.specs.Access.{data_access, store_width}
 use Rattle.model.specs.Regions.{write}
 use Rattle.memory.proofs.Widths.{store_is_width}
@@ -14,7 +13,3 @@ finish_store-requires c =
     let access = data_access a.m.now.hfi.regions write (sum c.register.result a.imm) (store_width a.k) in
     passed_fits a.m.now.hfi.mode (length a.mem.now) access (store_is_width a.k) (search rules) (search rules)
     (c.check_data-verdict.ensures ∙ rw c.store_width.ensures)
-
-pub returns : goal.returns
-unfolding perform store
-returns c = c.finish_store.ensures ∙ rw (c.check_data-verdict.ensures, c.store_width.ensures, c.register.ensures, c.register-value.ensures)
