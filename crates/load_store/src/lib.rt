@@ -42,6 +42,7 @@ fn finish_load(
 }
 
 // An ordinary load at `a`.
+#[tactic(auto, unfolding(model::specs::Step::load))]
 pub fn load(
     m: &mut Machine,
     mem: &[u8],
@@ -58,6 +59,7 @@ pub fn load(
 }
 
 // An h-load of the explicit region `region`; `operand` is the value of rs1.
+#[tactic(auto, unfolding(model::specs::Step::load))]
 pub fn hload(
     m: &mut Machine,
     mem: &[u8],
@@ -108,6 +110,7 @@ fn finish_store(
 }
 
 // An ordinary store of `value` at `a`.
+#[tactic(auto, unfolding(model::specs::Step::store))]
 pub fn store(
     m: &mut Machine,
     mem: &mut [u8],
@@ -129,6 +132,7 @@ pub fn store(
 }
 
 // An h-store of `value` to the explicit region `region`; `operand` is the value of rs1.
+#[tactic(auto, unfolding(model::specs::Step::store))]
 pub fn hstore(
     m: &mut Machine,
     mem: &mut [u8],

@@ -1,6 +1,6 @@
 -- The first absent byte of an access, without a search: memory is one piece from 0 on.
 -- Assumes nothing.
-use Rattle.std.proofs.Common.{◌≡◌, ℕ, zero, suc, ◌+◌, ◌-◌, ◌%◌, ◌^◌, ◌<◌, ◌≤◌, min, Bool, true, false, ltb, ap, sym, ◌∙◌, refl, arith, le-ltb, lt-ltb}
+use Rattle.std.proofs.Common.{◌≡◌, ℕ, zero, suc, ◌+◌, ◌-◌, ◌^◌, ◌<◌, ◌≤◌, min, Bool, true, false, ltb, ap, sym, ◌∙◌, arith, le-ltb, lt-ltb}
 use Rattle.model.specs.Bytes.{byte_of}
 use Rattle.model.specs.Access.{scan, first_absent}
 

@@ -5,7 +5,7 @@ use Rattle.std.proofs.lemmas.Nat.{pow-add}
 use native.Mathlib.Nat.{pow-succ', div-div-eq-div-mul}
 use Rattle.model.specs.Bytes.{byte_of, value, written}
 
-pub value_cut : (mem : List ℕ) (a n m i : ℕ) → value mem a i (n + m) ≡ value mem a (i + n) m * 256 ^ n + value mem a i n
+value_cut : (mem : List ℕ) (a n m i : ℕ) → value mem a i (n + m) ≡ value mem a (i + n) m * 256 ^ n + value mem a i n
 unfolding value
 value_cut mem a zero m i =
     let e : 0 + m ≡ m = omega arith in
@@ -19,7 +19,7 @@ value_cut mem a (suc n) m i =
     ap (λ p. w * p) (pow-succ' 256 n) ∙ sym (mul_assoc w 256 (256 ^ n)) ∙ ap (λ p. p * 256 ^ n) (mul_comm w 256) ∙ mul_assoc 256 w (256 ^ n) in
     rw (e, s) (omega (arith, q, value_cut mem a n m (suc i)))
 
-pub written_cut : (mem : List ℕ) (a n m i v : ℕ) → written mem a i (n + m) v ≡ written (written mem a i n v) a (i + n) m (v / 256 ^ n)
+written_cut : (mem : List ℕ) (a n m i v : ℕ) → written mem a i (n + m) v ≡ written (written mem a i n v) a (i + n) m (v / 256 ^ n)
 unfolding written
 written_cut mem a zero m i v =
     let e : 0 + m ≡ m = omega arith in
@@ -34,7 +34,7 @@ written_cut mem a (suc n) m i v =
     ∙ ap₂ (λ j x. written (written (set mem (byte_of a i) (v % 256)) a (suc i) n (v / 256)) a j m x) s q
 
 -- bytes as bits
-pub in_bits : (n : ℕ) → 256 ^ n ≡ 2 ^ (8 * n)
+in_bits : (n : ℕ) → 256 ^ n ≡ 2 ^ (8 * n)
 in_bits zero = refl
 in_bits (suc n) =
     let e : 8 * suc n ≡ 8 + 8 * n = omega arith in

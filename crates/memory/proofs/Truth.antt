@@ -18,8 +18,3 @@ explicit_once true rule permitted near here inside h = refl
 explicit_once false false permitted near here inside h = refl
 explicit_once false true true near here inside h = h refl
 explicit_once false true false near here inside h = refl
-
--- outside HFI mode nothing is asked
-pub mode_or : (m : Bool) {g h : Bool} → g ≡ h → (m || g) ≡ cond m true h
-mode_or true e = refl
-mode_or false e = e

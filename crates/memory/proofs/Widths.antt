@@ -1,20 +1,12 @@
 -- The widths of an access.
 -- Assumes nothing.
-use Rattle.std.proofs.Common.{◌≡◌, ℕ, ◌<◌, ◌≤◌, Bool, true, false, cond, eqb, refl, arith, ne_eqb, eqb-true}
+use Rattle.std.proofs.Common.{◌≡◌, ℕ, ◌<◌, ◌≤◌, Bool, true, false, cond, eqb, refl, arith, eqb-true}
 use Rattle.instructions.specs.declared.kind.LoadKind.{LoadKind}
 use Rattle.instructions.specs.declared.kind.LoadKind.TheVariants.{Lb, Lh, Lw, Ld, Lbu, Lhu, Lwu}
 use Rattle.instructions.specs.declared.kind.StoreKind.{StoreKind}
 use Rattle.instructions.specs.declared.kind.StoreKind.TheVariants.{Sb, Sh, Sw, Sd}
 use Rattle.model.specs.Access.{load_width, store_width}
 use Rattle.memory.specs.Width.{IsWidth}
-
--- a width that is not 1, 2 or 4 is 8
-pub only_eight : (n : ℕ) → IsWidth n → (n ≡ 1 → ⊥) → (n ≡ 2 → ⊥) → (n ≡ 4 → ⊥) → n ≡ 8
-only_eight n h p q r = eqb-true n 8 (yes (eqb n 8) (rw (ne_eqb n 1 p, ne_eqb n 2 q, ne_eqb n 4 r) at h))
-  where
-    yes : (b : Bool) → cond b true false ≡ true → b ≡ true
-    yes true e = e
-    yes false e = e
 
 -- every load and store has one of the widths
 pub load_is_width : (k : LoadKind) → IsWidth (load_width k)

@@ -14,6 +14,7 @@ use model::stop::Denied;
 use model::{CODE_REGIONS, DATA_REGIONS, HfiState, REGIONS, Region};
 
 // The lowest-numbered implicit region that matches the byte at `a`, or 0: the fault record's own number for none.
+#[tactic(auto, using(crate::proofs::Whole::match_here, crate::proofs::Whole::match_next, crate::proofs::Whole::match_end))]
 pub fn first_match(rs: &[Region; REGIONS], ns: &[u64], a: u64) -> u64
     ensures { result ≡ first_match rs.now ns.now a }
 {
@@ -35,6 +36,7 @@ pub fn grants(rs: &[Region; REGIONS], ns: &[u64], wanted: Permission, a: u64) ->
 }
 
 // The first of the `n` bytes of an access that does not pass, or `n`.
+#[tactic(auto, using(model::proofs::Scan::scan_next, model::proofs::Scan::scan_here, model::proofs::Scan::scan_end))]
 fn first_failing<F: Fn(u64) -> bool>(n: u64, passes: F) -> u64
     requires { (i : ℕ) → i < n → F.pre passes i }
     ensures { (ok : ℕ → Bool) → ((i : ℕ) (t : Bool) → i < n → F.post passes i t → t ≡ ok i) → result ≡ scan ok 0 n }
@@ -52,16 +54,13 @@ fn first_failing<F: Fn(u64) -> bool>(n: u64, passes: F) -> u64
 }
 
 // The first byte that is not granted, or `n`.
-fn first_refused_implicit(
-    h: &HfiState,
-    ns: &[u64],
-    wanted: Permission,
-    a: u64,
-    n: u64,
-) -> u64
+fn first_refused_implicit(h: &HfiState, ns: &[u64], wanted: Permission, a: u64, n: u64) -> u64
     ensures { result ≡ first_refused h.now.mode (implicit_access h.now.regions ns.now (permission_bit wanted) a n) }
 {
-    first_failing(n, move |i| h.mode == 0 || grants(&h.regions, ns, wanted, a.wrapping_add(i)))
+    first_failing(
+        n,
+        move |i| h.mode == 0 || grants(&h.regions, ns, wanted, a.wrapping_add(i)),
+    )
 }
 
 // Does the implicit region keep its rule and have the bytes at `a` and `last`, with the permission? Then it has those between.
@@ -90,6 +89,7 @@ fn touches(r: Region, last: u64, n: u64) -> bool
 
 // Does the first region that has a byte of the access have all of them, with the permission? Then it decides each of them. A rule is
 // asked where the addresses do not tell, and not for each byte.
+#[tactic(auto, using(crate::proofs::Whole::whole_here, crate::proofs::Whole::whole_touched, crate::proofs::Whole::whole_next, crate::proofs::Whole::whole_end))]
 fn grants_whole(rs: &[Region; REGIONS], ns: &[u64], wanted: Permission, a: u64, n: u64) -> bool
     requires { 0 < n }
     ensures { result ≡ grants_whole rs.now ns.now (permission_bit wanted) a n }
@@ -130,10 +130,14 @@ fn first_refused_explicit(
     if ok && sum < r.bound && n <= r.bound - sum {
         return n;
     }
-    first_failing(n, move |i| (mode == 0) | (ok & (sum.wrapping_add(i) < r.bound)))
+    first_failing(
+        n,
+        move |i| (mode == 0) | (ok & (sum.wrapping_add(i) < r.bound)),
+    )
 }
 
 // The first byte that is not in a memory of `len` bytes, or `n`: memory is one piece from 0 on, so it is byte 0 or the one at the end.
+#[tactic(auto, using(crate::proofs::Absent::absent_past, crate::proofs::Absent::absent_first))]
 fn first_absent(len: u64, a: u64, n: u64) -> u64
     ensures { result ≡ first_absent len a n }
 {
@@ -153,6 +157,7 @@ fn presence(len: u64, a: u64, n: u64) -> Result<(), Denied>
 
 // The verdict on an access, byte by byte. Most accesses pass whole.
 #[cold]
+#[tactic(auto, using(crate::proofs::Loops::refused_verdict, crate::proofs::Loops::granted_verdict))]
 fn check_bytes(
     h: &HfiState,
     ns: &[u64],
@@ -198,6 +203,7 @@ pub fn check_fetch(h: &HfiState, len: u64, a: u64) -> Result<(), Denied>
 }
 
 // Questions 10 and 11 of an ordinary load or store.
+#[tactic(auto, using(crate::proofs::Whole::whole_passes, crate::proofs::Loops::granted_verdict))]
 pub fn check_data(h: &HfiState, wanted: Permission, len: u64, a: u64, n: u64) -> Result<(), Denied>
     requires { (0 < n) × (n ≤ 8) }
     ensures { result ≡ verdict h.now.mode len (data_access h.now.regions (permission_bit wanted) a n) }
@@ -218,6 +224,7 @@ pub fn explicit_address(r: Region, operand: u64, imm: u64) -> u64
 
 // Questions 10 and 11 of an h-load or h-store, of which region `number` decides.
 #[inline(always)]
+#[tactic(auto, using(crate::proofs::Loops::refused_verdict), unfolding(model::specs::Access::first_refused))]
 pub fn check_explicit(
     h: &HfiState,
     number: u64,

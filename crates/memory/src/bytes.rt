@@ -5,6 +5,7 @@ ghost use Rattle.memory.specs.Width.{IsWidth};
 
 use words::put;
 
+#[tactic(auto, unfolding(model::specs::Bytes::value))]
 fn read_bytes<const N: usize>(mem: &[u8], a: usize) -> u64
     requires { (a + N ≤ length mem.now) × (a + N ≤ 2 ^ 64) × (N ≤ 8) }
     ensures { (result ≡ value mem.now a 0 N) × (result < 2 ^ (8 * N)) }
@@ -30,6 +31,7 @@ pub fn read(mem: &[u8], a: u64, n: u64) -> u64
     }
 }
 
+#[tactic(auto, using(crate::proofs::ByBytes::written_next), unfolding(model::specs::Bytes::written))]
 fn write_bytes<const N: usize>(mem: &mut [u8], a: usize, v: u64)
     requires { (a + N ≤ length mem.old) × (a + N ≤ 2 ^ 64) × (N ≤ 8) }
     ensures { mem.new ≡ written mem.old a 0 N v }

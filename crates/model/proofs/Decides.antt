@@ -7,11 +7,11 @@ use mathlib.Core.List.{List, [], ◌∷◌, ◌++◌}
 use mathlib.Core.Logic.{◌⊎◌, inl, inr}
 use Prim.Native.Nat.{ℕ}
 use lib.Dec.{eqb}
-use borrow.Author.Tests.{eqb-true, eqb-false, ne_eqb, not-true}
+use borrow.Author.Tests.{eqb-false, ne_eqb, not-true}
 use Rattle.instructions.proofs.Tests.{and_both}
 use Rattle.instructions.proofs.HWords.{Each}
 use Rattle.model.specs.Machine.{region}
-use Rattle.model.specs.Regions.{permits, matches, first_match, granting, implicit_grants}
+use Rattle.model.specs.Regions.{permits, matches, first_match, implicit_grants}
 use Rattle.model.specs.declared.Region.{Region}
 
 -- none of the regions numbered ns matches the byte at a

@@ -19,7 +19,7 @@ use Rattle.model.specs.Access.{scan, first_refused, first_absent, verdict}
 use Rattle.model.specs.Step.{load, store, perform, execute_instruction, execute_word, fetching, execute_fetched, step, step_call}
 use Rattle.model.specs.Run.{run_by, run_call}
 use Rattle.model.proofs.Alike.{held}
-use Rattle.model.proofs.Rows.{Row, found, stated, x, pc, mode, reason, epc, base, bound, occurred, fault_region, op, faulting, with}
+use Rattle.model.proofs.Rows.{Row, found, stated, x, pc, mode, reason, epc, bound, occurred, fault_region, op, faulting, with}
 use Rattle.model.proofs.Rows.Question.{decoding, stepping, running}
 use Rattle.model.proofs.Rows.Answer.{decoded, gave}
 use Rattle.model.proofs.Clauses.{outside, inside, steps_over}

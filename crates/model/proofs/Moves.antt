@@ -35,7 +35,7 @@ use Rattle.model.specs.Regions.{data_regions, code_regions, permission_fits, mat
 use Rattle.model.specs.WellFormed.{well_formed}
 use Rattle.model.specs.WritableCode.{exposes_code}
 use Rattle.model.specs.Bytes.{value, written}
-use Rattle.model.specs.Access.{Access, verdict, fetch_access, load_access, store_access, hload_access, hstore_access}
+use Rattle.model.specs.Access.{Access, verdict, load_access, store_access, hload_access, hstore_access}
 use Rattle.model.specs.Reach.{Passes, Readable, Writable}
 use Rattle.model.specs.Outcome.{Outcome, outcome, stopped, allowed, aligned, faulted, settle}
 use Rattle.model.specs.Hfi.{word_rules, hfi_stop, changed, hfi_perform}

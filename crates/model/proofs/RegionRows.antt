@@ -25,7 +25,7 @@ use Rattle.model.specs.Step.{load, store, perform, execute_instruction, execute_
 use Rattle.compressed.specs.Expand.{expand_half}
 use Rattle.model.specs.Run.{run_by, run_call}
 use Rattle.model.proofs.Alike.{held}
-use Rattle.model.proofs.Rows.{Row, found, stated, x, pc, mode, reason, epc, options, handler, selector, base, bound, permission, occurred, fault_region, op, faulting, puts, with, bytes}
+use Rattle.model.proofs.Rows.{Row, found, stated, x, pc, mode, options, handler, selector, base, bound, permission, occurred, fault_region, op, faulting, puts, with, bytes}
 use Rattle.model.proofs.Rows.Question.{decoding, exposing, judging, running}
 use Rattle.model.proofs.Rows.Answer.{decoded, told, gave}
 use Rattle.model.proofs.Clauses.{enter, enter_jump, select, set_base, get_base, set_bound, get_bound, set_permission, get_permission, reset, seven, ld, sd, steps_over, steps, goes, forbidden, writes, runs}

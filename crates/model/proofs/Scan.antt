@@ -24,16 +24,6 @@ module _ (ok : ℕ → Bool) (i n : ℕ) where
   unfolding scan
   scan_end p = let e : n - i ≡ 0 = omega arith in rw e refl
 
-pub scan_start : (ok : ℕ → Bool) (n : ℕ) → scan ok 0 (n - 0) ≡ scan ok 0 n
-scan_start ok n = let e : n - 0 ≡ n = omega arith in rw e refl
-
--- tests that agree at each index find the same
-pub scan_same : (ok ok' : ℕ → Bool) (k i : ℕ) → ((j : ℕ) → i ≤ j → j < i + k → ok j ≡ ok' j) → scan ok i k ≡ scan ok' i k
-unfolding scan
-scan_same ok ok' zero i h = refl
-scan_same ok ok' (suc k) i h =
-    cc (h i (omega arith) (omega arith), scan_same ok ok' k (suc i) (λ j p q. h j (omega arith) (omega arith)))
-
 -- a search that ends past its indices passed the test at each
 pub scan_passed : (ok : ℕ → Bool) (k i : ℕ) → i + k ≤ scan ok i k → (j : ℕ) → i ≤ j → j < i + k → ok j ≡ true
 unfolding scan

@@ -10,7 +10,7 @@ use Rattle.compressed.proofs.InRange.{expanded_range}
 use Rattle.model.specs.Machine.{sum, fetch_op}
 use Rattle.model.specs.Bytes.{value}
 use Rattle.model.specs.Access.{fetch_access, verdict}
-use Rattle.model.specs.Outcome.{outcome, stopped, faulted, settle}
+use Rattle.model.specs.Outcome.{settle}
 use Rattle.model.specs.Step.{execute_word, fetching, execute_fetched, step}
 use Rattle.model.specs.declared.Machine.{Machine}
 use Rattle.model.specs.declared.Region.{Region}

@@ -25,6 +25,7 @@ fn check_halves(h: &HfiState, mem: &[u8], pc: u64) -> Result<(), Denied>
 }
 
 // Questions 5 and 6 of the word at `pc`. Where its four bytes pass whole, so does either half of them.
+#[tactic(auto, using(crate::proofs::Verdicts::whole_verdict))]
 pub fn check_word(h: &HfiState, mem: &[u8], pc: u64) -> Result<(), Denied>
     ensures { result ≡ fetch_verdict h.now.mode h.now.regions mem.now pc }
 {

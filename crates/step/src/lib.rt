@@ -18,7 +18,7 @@ pub mod call;
 pub mod fetch;
 
 // Question 7, and the rest of the step.
-#[tactic(auto, unfolding(model::specs::Step::execute_word))]
+#[tactic(auto, using(crate::proofs::Verdicts::word_range), unfolding(model::specs::Step::execute_word))]
 fn execute_word(m: &mut Machine, mem: &mut [u8]) -> Result<(), Stop>
     requires { (m.old.pc + 2 ≤ length mem.old) × (is_long (half_at mem.old m.old.pc) ≡ true → m.old.pc + 4 ≤ length mem.old) }
     ensures { stepped_with (answer_of result m.new) mem.new ≡ execute_word m.old mem.old (size_at mem.old m.old.pc) (word_at mem.old m.old.pc) }
@@ -32,6 +32,7 @@ fn execute_word(m: &mut Machine, mem: &mut [u8]) -> Result<(), Stop>
 }
 
 // Questions 4 to 13: one step.
+#[tactic(auto, using(crate::proofs::Verdicts::half_fits, crate::proofs::Verdicts::long_fits, crate::proofs::Verdicts::passed_step), unfolding(model::specs::Step::step))]
 pub fn step(m: &mut Machine, mem: &mut [u8]) -> Result<(), Stop>
     ensures { stepped_with (answer_of result m.new) mem.new ≡ step m.old mem.old }
 {

@@ -15,6 +15,7 @@ use model::permission::Permission;
 use model::{CODE_REGIONS, DATA_REGIONS, EXPLICIT_REGIONS, HfiState, LAST_REGION, REGIONS, Region};
 
 // Does the explicit region have the byte at `a`, with the permission `wanted`?
+#[tactic(auto, using(model::proofs::Intervals::explicit_ends))]
 fn covers(wanted: Permission, a: u64, r: Region) -> bool
     ensures { result ≡ is_covered (permission_bit wanted) a r }
 {
@@ -26,6 +27,7 @@ fn covers(wanted: Permission, a: u64, r: Region) -> bool
 }
 
 // Does one of the explicit regions `ns`?
+#[tactic(auto, using(crate::proofs::Explicit::covers_here, crate::proofs::Explicit::covers_past, crate::proofs::Explicit::covers_end))]
 fn explicit_covers(rs: &[Region; REGIONS], ns: &[u64], wanted: Permission, a: u64) -> bool
     ensures { result ≡ explicit_covers rs.now ns.now (permission_bit wanted) a }
 {
@@ -76,6 +78,7 @@ fn keeps_rule(n: u64, r: Region) -> bool
 }
 
 // Where a region that keeps its rule ends.
+#[tactic(auto, using(crate::proofs::ByNumber::explicit_keeps, model::proofs::Intervals::explicit_ends))]
 fn region_end(n: u64, r: Region) -> u64
     requires { keeps_rule (region_kind n) r ≡ true }
     ensures { result ≡ region_end (region_kind n) r }
@@ -99,6 +102,7 @@ fn edge_is_both(rs: &[Region; REGIONS], n: u64, r: Region) -> bool
 }
 
 // Is some byte both?
+#[tactic(auto, using(crate::proofs::Edges::edges_here, crate::proofs::Edges::edges_past), unfolding(model::specs::WritableCode::writable_code))]
 pub fn writable_code(rs: &[Region; REGIONS]) -> bool
     ensures { result ≡ writable_code rs.now }
 {

@@ -1,6 +1,5 @@
 use Rattle.std.proofs.Common.{length, ◌∙◌, pos, ◌+ℤ◌, rules}
 use Rattle.model.specs.Machine.{region}
-use Rattle.model.specs.Step.{load}
 use Rattle.model.specs.Access.{explicit_access, offset, load_width}
 use Rattle.model.specs.Regions.{read}
 use Rattle.words.proofs.Residues.{word_lt}
@@ -20,9 +19,3 @@ finish_load-requires c =
           (word_lt 64 (pos (region rs a.region).base +ℤ offset a.operand a.imm)) (search rules)
           (c.check_explicit-verdict.ensures ∙ rw c.load_width.ensures)),
     )
-
-pub returns : goal.returns
-unfolding load
-returns c =
-    c.finish_load.ensures
-    ∙ rw (c.check_explicit-verdict.ensures, c.load_width.ensures, c.explicit_address-first.ensures, c.region_at.ensures)

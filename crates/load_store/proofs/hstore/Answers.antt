@@ -1,6 +1,5 @@
 use Rattle.std.proofs.Common.{length, ◌∙◌, pos, ◌+ℤ◌, rules}
 use Rattle.model.specs.Machine.{region}
-use Rattle.model.specs.Step.{store}
 use Rattle.model.specs.Access.{explicit_access, offset, store_width}
 use Rattle.model.specs.Regions.{write}
 use Rattle.words.proofs.Residues.{word_lt}
@@ -18,9 +17,3 @@ finish_store-requires c =
     (passed_fits a.m.now.hfi.mode (length a.mem.now) access (store_is_width a.k)
     (word_lt 64 (pos (region rs a.region).base +ℤ offset a.operand a.imm)) (search rules)
     (c.check_explicit-verdict.ensures ∙ rw c.store_width.ensures))
-
-pub returns : goal.returns
-unfolding store
-returns c =
-    c.finish_store.ensures
-    ∙ rw (c.check_explicit-verdict.ensures, c.store_width.ensures, c.explicit_address-first.ensures, c.region_at.ensures)

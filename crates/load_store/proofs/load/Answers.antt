@@ -1,5 +1,4 @@
 use Rattle.std.proofs.Common.{length, ◌∙◌, rules}
-use Rattle.model.specs.Step.{load}
 use Rattle.model.specs.Access.{data_access, load_width}
 use Rattle.model.specs.Regions.{read}
 use Rattle.memory.proofs.Widths.{load_is_width}
@@ -15,7 +14,3 @@ finish_load-requires c =
       passed_fits a.m.now.hfi.mode (length a.mem.now) access (load_is_width a.k) (search rules) (search rules)
           (c.check_data-verdict.ensures ∙ rw c.load_width.ensures),
     )
-
-pub returns : goal.returns
-unfolding load
-returns c = c.finish_load.ensures ∙ rw (c.check_data-verdict.ensures, c.load_width.ensures)

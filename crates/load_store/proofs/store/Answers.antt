@@ -1,5 +1,4 @@
 use Rattle.std.proofs.Common.{length, ◌∙◌, rules}
-use Rattle.model.specs.Step.{store}
 use Rattle.model.specs.Access.{data_access, store_width}
 use Rattle.model.specs.Regions.{write}
 use Rattle.memory.proofs.Widths.{store_is_width}
@@ -13,7 +12,3 @@ finish_store-requires c =
     let access = data_access a.m.now.hfi.regions write a.a (store_width a.k) in
     passed_fits a.m.now.hfi.mode (length a.mem.now) access (store_is_width a.k) (search rules) (search rules)
     (c.check_data-verdict.ensures ∙ rw c.store_width.ensures)
-
-pub returns : goal.returns
-unfolding store
-returns c = c.finish_store.ensures ∙ rw (c.check_data-verdict.ensures, c.store_width.ensures)

@@ -1,22 +1,9 @@
-use Rattle.std.proofs.Common.{refl, ap, ◌∙◌}
+use Rattle.std.proofs.Common.{ap, ◌∙◌}
 use Rattle.model.specs.Regions.{permission_bit}
 use Rattle.model.specs.Access.{explicit_access, offset, first_refused}
-use Rattle.model.specs.Bytes.{byte_of}
 use Rattle.memory.specs.Loops.{explicit_refused, explicit_first, presence_of}
-use Rattle.memory.proofs.Loops.{refused_verdict, granted_verdict}
+use Rattle.memory.proofs.Loops.{granted_verdict}
 use Rattle.memory.proofs.access.check_explicit.Goals as goal
-
-pub returns-then-i-n : goal.returns-then-i-n
-unfolding first_refused
-returns-then-i-n c =
-    let a = c.args in
-    let e = c.region_at-r.ensures in
-    let refused = c.first_refused_explicit-i in
-    let wanted = permission_bit a.wanted in
-    refused_verdict a.h.now.mode a.len (explicit_access a.h.now.regions a.number wanted (offset a.operand a.imm) a.n)
-    (refused.ensures ∙ ap (λ r. explicit_refused a.h.now.mode r wanted (offset a.operand a.imm) a.n) e) c.if-i-n.true
-    (ap (λ f. byte_of f refused.result) (c.explicit_address-a.ensures ∙ ap (λ r. explicit_first r (offset a.operand a.imm)) e))
-    refl
 
 pub returns : goal.returns
 unfolding first_refused

@@ -1,5 +1,4 @@
-use Rattle.std.proofs.Common.{◌≡◌, ℕ, ◌+◌, ◌%◌, ◌^◌, ◌<◌, true, cond, ◌&&◌, ◌||◌, eqb, ltb, refl, ◌∙◌, lit≤, arith, rules}
-use Rattle.words.specs.Word.{fits_signed}
+use Rattle.std.proofs.Common.{◌≡◌, ℕ, ◌+◌, ◌%◌, ◌^◌, true, cond, ◌&&◌, ◌||◌, eqb, ltb, refl, ◌∙◌, lit≤, arith, rules}
 use Rattle.model.specs.Bytes.{byte_of}
 use Rattle.model.specs.Regions.{permission_bit, explicit_grants}
 use Rattle.model.specs.Access.{offset}

@@ -1,11 +1,6 @@
-use Rattle.std.proofs.Common.{◌<◌, ◌≤◌, ◌*◌, ◌+◌, ◌^◌, ◌∙◌, ap, sym, refl, arith, slice_index_or, pow_mono}
-use Rattle.model.specs.Bytes.{value}
+use Rattle.std.proofs.Common.{◌<◌, ◌≤◌, ◌*◌, ◌+◌, ◌^◌, ◌∙◌, ap, sym, arith, slice_index_or, pow_mono}
 use Rattle.memory.proofs.ByBytes.{value_next, room}
 use Rattle.memory.proofs.bytes.read_bytes.Goals as goal
-
-pub loop-i-init : goal.loop-i-init
-unfolding value
-loop-i-init g c = (refl, omega arith)
 
 pub put-v-requires : goal.put-v-requires
 put-v-requires g c =
@@ -22,6 +17,6 @@ loop-i-preserved g c =
     let byte = slice_index_or c.args.mem.now (c.args.a + i) 0 in
     let low : byte < 256 = omega (arith, c.type_inv.mem (c.args.a + i)) in (
       c.put-v.ensures ∙ ap (λ v. byte * 2 ^ (8 * i) + v) c.loop-i.invariant.0
-      ∙ sym (value_next _ c.args.a i (omega (arith, c.requires, c.loop-i-test.true))),
+          ∙ sym (value_next _ c.args.a i (omega (arith, c.requires, c.loop-i-test.true))),
       rw c.put-v.ensures (room byte c.loop-i.v i low c.loop-i.invariant.1),
     )
