@@ -2,8 +2,8 @@
 // says. Printed are the stop, the count of steps, the address given with the stop and pc, then each register and each
 // doubleword of memory that is not 0.
 use crate::setting::{machine, place_words};
-use columns::{column, hexadecimal_at, read_file, unpadded};
-use memory::bytes::{read, write};
+use columns::{column, each_doubleword, hexadecimal_at, read_file, unpadded};
+use memory::bytes::write;
 use run::run_call;
 use std::io;
 use std::rt::Files;
@@ -32,16 +32,6 @@ fn print_registers(rt: &impl Print, x: &[u64; 32]) -> io::Result<()> {
     Ok(())
 }
 
-fn print_memory(rt: &impl Print, mem: &[u8]) -> io::Result<()> {
-    for (i, bytes) in mem.chunks_exact(8).enumerate() {
-        let v = read(bytes, 0, 8);
-        if v != 0 {
-            print!(rt; " {:x}={v:x}", 8 * i)?;
-        }
-    }
-    Ok(())
-}
-
 fn print_case(rt: &impl Print, r: &[u8]) -> io::Result<()> {
     let mut mem = [0u8; 65536];
     fill(r, &mut mem);
@@ -51,7 +41,7 @@ fn print_case(rt: &impl Print, r: &[u8]) -> io::Result<()> {
     let stop = o.stop;
     print!(rt; " {} {:x} {:x} {:x}", stop.number(), o.count, stop.address(), o.machine.pc)?;
     print_registers(rt, &o.machine.x)?;
-    print_memory(rt, &mem)?;
+    each_doubleword(&mem, |a, v| print!(rt; " {a:x}={v:x}"))?;
     println!(rt)
 }
 
