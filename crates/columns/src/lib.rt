@@ -33,21 +33,6 @@ pub fn unpadded(s: &[u8]) -> &[u8]
     front(s, position(s, b' '))
 }
 
-// The three below write to standard output. What reaches it is left free: no contract can speak of it, and each program is
-// held to its stored output.
-pub fn print(rt: &impl Print, text: &[u8]) -> io::Result<()> {
-    rt.write_all(text)
-}
-
-pub fn print_decimal(rt: &impl Print, n: u64) -> io::Result<()> {
-    print!(rt; "{n}")
-}
-
-// At least `width` digits.
-pub fn print_hexadecimal(rt: &impl Print, n: u64, width: usize) -> io::Result<()> {
-    print!(rt; "{n:0width$x}")
-}
-
 // The bytes of a file, as many as there is room for; none where it cannot be read, which is told on standard error. Which bytes
 // they are and how many is left free: no contract can speak of what a file holds.
 pub fn read_file<'a>(rt: &(impl Files + Eprint), path: &str, room: &'a mut [u8]) -> &'a [u8]
@@ -60,4 +45,19 @@ pub fn read_file<'a>(rt: &(impl Files + Eprint), path: &str, room: &'a mut [u8])
             &[]
         }
     }
+}
+
+// Hands on the address and the value of each doubleword of a memory that is not 0, in the order of addresses, until that answers an
+// error. What is printed of them is left free: no contract can speak of it, and each program is held to its stored output.
+pub fn each_doubleword<F: Fn(usize, u64) -> io::Result<()>>(mem: &[u8], show: F) -> io::Result<()>
+    requires { F.IsAlwaysCallable show }
+{
+    let (doublewords, _) = mem.as_chunks::<8>();
+    for (i, &bytes) in doublewords.iter().enumerate() {
+        let v = u64::from_le_bytes(bytes);
+        if v != 0 {
+            show(8 * i, v)?;
+        }
+    }
+    Ok(())
 }

@@ -5,7 +5,7 @@
 ghost use Rattle.std.specs.Prelude.{◌≡◌, ◌<◌};
 ghost use Rattle.instructions.specs.Answers.{decode_number};
 
-use columns::{column, hexadecimal_at, print, read_file};
+use columns::{column, hexadecimal_at, read_file};
 use decode::decode;
 use encode::answer::Encoding;
 use encode::encode;
@@ -44,7 +44,7 @@ fn print_records(
     let mut room = [0u8; 131072];
     for r in read_file(rt, path, &mut room).chunks_exact(record_size) {
         let w = (hexadecimal_at(r, 0, 8) % 4294967296) as u32;
-        print(rt, column(r, 9, 24))?;
+        rt.write_all(column(r, 9, 24))?;
         print_word(rt, w)?;
     }
     Ok(())

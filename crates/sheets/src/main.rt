@@ -2,7 +2,7 @@
 // answer, and is told on standard error.
 #![tactic(auto)]
 
-use columns::{column, print, unpadded};
+use columns::{column, read_file, unpadded};
 use input::{fail, read_stored};
 use std::rt::Files;
 use std::{io, str};
@@ -10,9 +10,8 @@ use std::{io, str};
 fn print_answer(rt: &impl Print, name: &str, sheet: &[u8]) -> io::Result<()> {
     let mut answer = [0u8; respond::MOST];
     let r = respond::respond(sheet, &mut answer);
-    print(rt, name.as_bytes())?;
-    print(rt, b"\n")?;
-    print(rt, &answer[..r])
+    println!(rt; "{name}")?;
+    rt.write_all(&answer[..r])
 }
 
 // The answer to one stored sheet, under its name.
@@ -39,22 +38,12 @@ fn show_row(rt: &(impl Files + Print + Eprint), row: &[u8]) -> io::Result<()> {
 }
 
 // Each row of an index is a name of at most 31 bytes, padded with spaces, and the line's end.
-fn show_all(rt: &(impl Files + Print + Eprint), index: &[u8]) -> io::Result<()> {
-    for row in index.chunks_exact(32) {
+fn show_index(rt: &(impl Files + Print + Eprint), name: &str) -> io::Result<()> {
+    let mut room = [0u8; input::ROOM];
+    for row in read_file(rt, name, &mut room).chunks_exact(32) {
         show_row(rt, row)?;
     }
     Ok(())
-}
-
-fn show_index(rt: &(impl Files + Print + Eprint), name: &str) -> io::Result<()> {
-    let mut room = [0u8; input::ROOM];
-    match read_stored(rt, name, &mut room) {
-        Ok(index) => show_all(rt, index),
-        Err(e) => {
-            fail(rt, name, e);
-            Ok(())
-        }
-    }
 }
 
 // The second index names what cannot be read, so that no answer stands in the stored output.

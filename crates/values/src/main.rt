@@ -7,20 +7,19 @@ mod setting;
 mod table;
 mod value;
 
-use columns::print;
 use std::io;
 
 fn main(rt: HostRuntime) -> io::Result<()> {
-    print(&rt, b"values\n")?;
-    value::cases_of(&rt, "values.columns")?;
-    print(&rt, b"dart-rv64i\n")?;
-    dart::cases_of(&rt, "dart-rv64i.columns")?;
-    print(&rt, b"dart-rv64m\n")?;
-    dart::cases_of(&rt, "dart-rv64m.columns")?;
-    print(&rt, b"dart-rv64c\n")?;
-    dart::cases_of(&rt, "dart-rv64c.columns")?;
-    print(&rt, b"dart-beyond\n")?;
-    dart::cases_of(&rt, "dart-beyond.columns")?;
-    print(&rt, b"rv64m\n")?;
-    table::table_of(&rt, "rv64m.columns", "operands.columns")
+    println!(rt; "values")?;
+    value::print_cases(&rt, "values.columns")?;
+    println!(rt; "dart-rv64i")?;
+    dart::print_cases(&rt, "dart-rv64i.columns")?;
+    println!(rt; "dart-rv64m")?;
+    dart::print_cases(&rt, "dart-rv64m.columns")?;
+    println!(rt; "dart-rv64c")?;
+    dart::print_cases(&rt, "dart-rv64c.columns")?;
+    println!(rt; "dart-beyond")?;
+    dart::print_cases(&rt, "dart-beyond.columns")?;
+    println!(rt; "rv64m")?;
+    table::print_table(&rt, "rv64m.columns", "operands.columns")
 }

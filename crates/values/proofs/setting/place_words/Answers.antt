@@ -8,4 +8,4 @@ loop-i-init c = search rules
 
 pub loop-i-preserved : goal.loop-i-preserved
 unfolding placed
-loop-i-preserved c = (search rules, search rules, rw (add-one c.loop-i.i) cc)
+loop-i-preserved c = (search rules, rw (add-one c.loop-i.i) cc)

@@ -1,10 +1,7 @@
 -- After i turns the first i words stand in memory.
-use Rattle.std.proofs.Common.{◌-◌, ◌≡◌, ◌≤◌, length}
+use Rattle.std.proofs.Common.{◌≡◌, length}
 use Rattle.values.specs.Setting.{placed}
 use Rattle.values.proofs.setting.place_words.Given as goal
 
 abbrev pub invariant-loop-i : goal.invariant-loop-i
-invariant-loop-i l = (l.i ≤ l.n) × (length l.mem ≡ length l.initial.mem) × (l.mem ≡ placed l.r l.from l.initial.mem l.a l.i)
-
-abbrev pub decreases-loop-i : goal.decreases-loop-i
-decreases-loop-i l = l.n - l.i
+invariant-loop-i l = (length l.mem ≡ length l.initial.mem) × (l.mem ≡ placed l.r l.from l.initial.mem l.a l.i)
