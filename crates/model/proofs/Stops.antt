@@ -2,14 +2,14 @@
 -- Assumes nothing.
 use Rattle.std.proofs.Common.{◌≡◌, false, eqb, refl}
 use borrow.Author.Tests.{eqb-false}
-use Rattle.model.specs.Stops.{rule_number, stop_number}
+use Rattle.model.specs.Stops.{number_of_rule, stop_number}
 use Rattle.model.specs.declared.stop.Op.TheVariants.{Load, Store, Fetch}
 use Rattle.model.specs.declared.stop.Rule.{Rule}
 use Rattle.model.specs.declared.stop.Rule.TheVariants.{Operand, WritableCode as EntersWritableCode, AlreadyInside, NotInside, Locked}
 use Rattle.model.specs.declared.stop.Stop.{Stop}
 use Rattle.model.specs.declared.stop.Stop.TheVariants.{MemoryTooLong, BudgetTooLarge, NotWellFormed, WritableCode, OddPc, AccessRefused, AccessAbsent, IllegalWord, Broken, OddTarget, SystemCall, Breakpoint, LeftSandbox, OutOfBudget}
 
-pub rule_stops : (r : Rule) → eqb (rule_number r) 0 ≡ false
+pub rule_stops : (r : Rule) → eqb (number_of_rule r) 0 ≡ false
 rule_stops Operand = refl
 rule_stops EntersWritableCode = refl
 rule_stops AlreadyInside = refl
@@ -36,5 +36,5 @@ stops Breakpoint = refl
 stops LeftSandbox = refl
 stops OutOfBudget = refl
 
-pub never_zero : (s : Stop) → stop_number s ≡ 0 → ⊥
-never_zero s = eqb-false (stop_number s) 0 (stops s)
+pub stop_never_zero : (s : Stop) → stop_number s ≡ 0 → ⊥
+stop_never_zero s = eqb-false (stop_number s) 0 (stops s)

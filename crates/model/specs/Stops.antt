@@ -29,12 +29,12 @@ absent_number Store = 17
 absent_number Fetch = 12
 
 -- question 8: 14, and what document 02 made of some of its rules
-abbrev pub rule_number : Rule → ℕ
-rule_number Operand = 14
-rule_number EntersWritableCode = 22
-rule_number AlreadyInside = 23
-rule_number NotInside = 24
-rule_number Locked = 25
+abbrev pub number_of_rule : Rule → ℕ
+number_of_rule Operand = 14
+number_of_rule EntersWritableCode = 22
+number_of_rule AlreadyInside = 23
+number_of_rule NotInside = 24
+number_of_rule Locked = 25
 
 abbrev pub stop_number : Stop → ℕ
 stop_number MemoryTooLong = 1
@@ -45,7 +45,7 @@ stop_number OddPc = 10
 stop_number (AccessRefused op) = refused_number op
 stop_number (AccessAbsent op at) = absent_number op
 stop_number IllegalWord = 13
-stop_number (Broken rule) = rule_number rule
+stop_number (Broken rule) = number_of_rule rule
 stop_number OddTarget = 15
 stop_number SystemCall = 18
 stop_number Breakpoint = 19
@@ -81,4 +81,4 @@ address_of (Err stop) = stop_address stop
 -- of question 8: 0 where no rule is broken
 abbrev pub broken_number : Result ⊤ Rule → ℕ
 broken_number (Ok done) = 0
-broken_number (Err rule) = rule_number rule
+broken_number (Err rule) = number_of_rule rule

@@ -1,6 +1,6 @@
 // Why a step or a call ended, by name. specs/Stops.antt gives each the documents' number and address.
 ghost use Rattle.std.specs.Prelude.{◌≡◌};
-ghost use Rattle.model.specs.Stops.{op_number, refused_number, absent_number, rule_number, stop_number, stop_address};
+ghost use Rattle.model.specs.Stops.{op_number, refused_number, absent_number, number_of_rule, stop_number, stop_address};
 ghost use Rattle.model.specs.declared.stop.Stop.TheVariants.{Broken};
 
 // The fault record's ops but for 0, which is none.
@@ -82,7 +82,7 @@ impl Op {
 
 impl Rule {
     fn number(self) -> u64
-        ensures { result ≡ rule_number self }
+        ensures { result ≡ number_of_rule self }
     {
         match self {
             Rule::Operand => 14,

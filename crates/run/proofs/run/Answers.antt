@@ -1,13 +1,13 @@
 use Rattle.std.proofs.Common.{ap, sym, refl, ◌∙◌, ◌&&◌, not, ◌-◌, ◌+◌, ◌≡◌, arith}
 use Rattle.model.specs.Run.{run, ended}
 use Rattle.model.proofs.Runs.{run_out, run_stops, run_leaves, run_goes_on}
-use Rattle.model.proofs.Stops.{never_zero}
+use Rattle.model.proofs.Stops.{stop_never_zero}
 use Rattle.run.proofs.run.Goals as goal
 
 pub returns-in-Err : goal.returns-in-Err
 returns-in-Err c =
     let l = c.loop-count in
-    sym (run_stops c.inside-began.result (c.args.budget - l.count) l.count l.m l.mem _ (omega (arith, c.loop-count-test.true)) c.in-Err.ensures (never_zero c.in-Err.stop))
+    sym (run_stops c.inside-began.result (c.args.budget - l.count) l.count l.m l.mem _ (omega (arith, c.loop-count-test.true)) c.in-Err.ensures (stop_never_zero c.in-Err.stop))
     ∙ l.invariant
 
 pub returns-then-began-inside : goal.returns-then-began-inside
