@@ -79,7 +79,8 @@ const STATE_FIELDS: usize = FIRST_REGION + 3 * REGIONS + 4;
 pub fn machine(c: &Lines) -> Machine {
     let (_, fields) = read_row::<STATE_FIELDS>(c.state);
     let v = fields.map(|f| f.value);
-    let [_, pc, mode, reason, epc, options, handler, selector, .., occurred, region, op, address] = v;
+    let [_, pc, mode, reason, epc, options, handler, selector, ..] = v;
+    let [.., occurred, region, op, address] = v;
     let hfi = HfiState {
         mode,
         reason,
