@@ -49,7 +49,10 @@ fn print_state(rt: &impl Print, pc: u64, h: &HfiState) -> io::Result<()> {
         print!(rt; ",{:x},{:x},{:x}", r.base, r.bound, r.permission)?;
     }
     let f = h.fault;
-    print!(rt; ",{:x},{:x},{:x},{:x}", f.occurred, f.region, f.op, f.address)
+    print!(rt;
+        ",{:x},{:x},{:x},{:x}",
+        f.occurred, f.region, f.op, f.address
+    )
 }
 
 // The registers that are not 0.

@@ -19,15 +19,22 @@ pub struct Lines<'a> {
     pub memory: &'a [u8],
 }
 
-// The first call of a text, and what follows it; none where a line is missing.
+// The first line, and what follows it; both are empty of an empty text.
+fn first_line(s: &[u8]) -> (&[u8], &[u8])
+    ensures { length result.1.now ≤ length s.now }
+{
+    split_line(s).unwrap_or((&[], &[]))
+}
+
+// The first call of a text, and what follows it. A line that is missing is empty.
 pub fn split_call(s: &[u8]) -> Option<(Lines<'_>, &[u8])>
     ensures { IfSome result (λ parts. length parts.1.now < length s.now) }
 {
     let (name, left) = split_line(s)?;
-    let (call, left) = split_line(left)?;
-    let (state, left) = split_line(left)?;
-    let (x, left) = split_line(left)?;
-    let (memory, left) = split_line(left)?;
+    let (call, left) = first_line(left);
+    let (state, left) = first_line(left);
+    let (x, left) = first_line(left);
+    let (memory, left) = first_line(left);
     let lines = Lines {
         name,
         call,
@@ -79,7 +86,8 @@ const STATE_FIELDS: usize = FIRST_REGION + 3 * REGIONS + 4;
 pub fn machine(c: &Lines) -> Machine {
     let (_, fields) = read_row::<STATE_FIELDS>(c.state);
     let v = fields.map(|f| f.value);
-    let [_, pc, mode, reason, epc, options, handler, selector, .., occurred, region, op, address] = v;
+    let [_, pc, mode, reason, epc, options, handler, selector, ..] = v;
+    let [.., occurred, region, op, address] = v;
     let hfi = HfiState {
         mode,
         reason,

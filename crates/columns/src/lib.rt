@@ -2,9 +2,10 @@
 // every other line of it, and each of its fields stands at a fixed position of the line, padded with spaces.
 #![tactic(auto)]
 
-ghost use Rattle.std.specs.Prelude.{◌≡◌, ◌≤◌, length, take, drop};
+ghost use Rattle.std.specs.Prelude.{◌≡◌, ℕ, ◌*◌, ◌/◌, ◌<◌, ◌≤◌, length, take, drop, Ok, OnOk};
 ghost use Rattle.text.specs.Scan.{first_that, is};
 ghost use Rattle.text.specs.Number.{number as number_of};
+ghost use Rattle.columns.specs.Doublewords.{doubleword};
 
 use input::{fail, read_stored};
 use std::io;
@@ -51,6 +52,7 @@ pub fn read_file<'a>(rt: &(impl Files + Eprint), path: &str, room: &'a mut [u8])
 // error. What is printed of them is left free: no contract can speak of it, and each program is held to its stored output.
 pub fn each_doubleword<F: Fn(usize, u64) -> io::Result<()>>(mem: &[u8], show: F) -> io::Result<()>
     requires { F.IsAlwaysCallable show }
+    ensures { OnOk result ((i : ℕ) → i < length mem.now / 8 → 0 < doubleword mem.now i → F.post show (8 * i) (doubleword mem.now i) (Ok tt)) }
 {
     let (doublewords, _) = mem.as_chunks::<8>();
     for (i, &bytes) in doublewords.iter().enumerate() {

@@ -19,8 +19,9 @@ impl Display for Answer {
     fn fmt<W: fmt::Write>(&self, f: &mut fmt::Formatter<W>) -> fmt::Result {
         match self.0 {
             Ok(Some(t)) => {
-                let stop = t.stop;
-                write!(f, "{},{},{:x},{:x}", t.slot, stop.number(), t.count, stop.address())
+                let stop = t.stop.number();
+                let address = t.stop.address();
+                write!(f, "{},{stop},{:x},{address:x}", t.slot, t.count)
             }
             Ok(None) => write!(f, "0,0,0,0"),
             Err(refusal) => write!(f, "0,{},0,0", refusal.number()),

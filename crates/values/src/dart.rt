@@ -9,6 +9,7 @@ use run::run_call;
 use std::io;
 use std::rt::Files;
 
+// One function for the three modules, from pairs of number and value, would be no plainer than these lines.
 fn registers(r: &[u8]) -> [u64; 32] {
     let mut x = [0u64; 32];
     x[1] = 0x180000;
@@ -35,8 +36,9 @@ fn print_end(rt: &impl Print, o: Ran) -> io::Result<()> {
 fn print_case(rt: &impl Print, r: &[u8]) -> io::Result<()> {
     let mut mem = [0u8; 2097152];
     fill(r, &mut mem);
+    let o = run_call(machine(registers(r), 0x100000), &mut mem, 1000);
     rt.write_all(unpadded(column(r, 0, 64)))?;
-    print_end(rt, run_call(machine(registers(r), 0x100000), &mut mem, 1000))
+    print_end(rt, o)
 }
 
 // A line for each case of a file, which is 257 bytes. What is printed is left free: no contract can speak of it, and the stored

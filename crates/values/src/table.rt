@@ -26,8 +26,10 @@ fn result_of(word: u64, a: u64, b: u64) -> u64 {
 fn print_row(rt: &impl Print, r: &[u8], a: u64, values: &[u8]) -> io::Result<()> {
     rt.write_all(unpadded(column(r, 9, 7)))?;
     print!(rt; " {a:x}")?;
+    let word = hexadecimal_at(r, 0, 8);
     for v in values.chunks_exact(17) {
-        print!(rt; " {:x}", result_of(hexadecimal_at(r, 0, 8), a, hexadecimal_at(v, 0, 16)))?;
+        let b = hexadecimal_at(v, 0, 16);
+        print!(rt; " {:x}", result_of(word, a, b))?;
     }
     println!(rt)
 }

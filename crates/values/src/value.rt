@@ -38,8 +38,9 @@ fn print_case(rt: &impl Print, r: &[u8]) -> io::Result<()> {
     let steps = hexadecimal_at(r, 112, 8);
     let o = run_call(machine(registers(r), 0x1000), &mut mem, steps);
     rt.write_all(unpadded(column(r, 0, 32)))?;
-    let stop = o.stop;
-    print!(rt; " {} {:x} {:x} {:x}", stop.number(), o.count, stop.address(), o.machine.pc)?;
+    let stop = o.stop.number();
+    let address = o.stop.address();
+    print!(rt; " {stop} {:x} {address:x} {:x}", o.count, o.machine.pc)?;
     print_registers(rt, &o.machine.x)?;
     each_doubleword(&mem, |a, v| print!(rt; " {a:x}={v:x}"))?;
     println!(rt)
