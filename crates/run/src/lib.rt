@@ -21,6 +21,7 @@ struct End {
 }
 
 // The steps.
+#[tactic(auto, using(model::proofs::Runs::run_out, model::proofs::Runs::run_stops, model::proofs::Runs::run_leaves, model::proofs::Runs::run_goes_on, model::proofs::Stops::stop_never_zero))]
 fn run(m: &mut Machine, mem: &mut [u8], budget: u64) -> End
     ensures { ran_with (end_with result m.new) mem.new ≡ run (is_inside m.old.hfi) budget 0 m.old mem.old }
 {
