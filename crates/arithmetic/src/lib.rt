@@ -106,7 +106,7 @@ pub fn add_word(a: u64, imm: u64) -> u64
     sign_extend(bits(a.wrapping_add(imm), 0, 32), 32)
 }
 
-// The operation that each shift of words is a form of.
+// The operation that each shift of words is a form of. (No From: both kinds are of `instructions`, and which operation it is, is a definition of `model`.)
 pub fn of_shift_word(k: ShiftWordKind) -> RegisterWordKind
     ensures { of_register_word result ≡ of_shift_word k }
 {

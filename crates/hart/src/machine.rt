@@ -7,7 +7,8 @@ ghost use Rattle.model.specs.Outcome.{Outcome, answer_of, stepped_with, assigned
 use model::stop::{Denied, Op, Stop};
 use model::{Fault, Machine};
 
-// Register `i`.
+// Register `i`. A register's number is 64 bits wide in an instruction, so that a caller can hand in any wrong value; who knows it to be below 32
+// says so.
 pub fn register(m: &Machine, i: u64) -> u64
     requires { i < 32 }
     ensures { result ≡ reg m.now.x i }

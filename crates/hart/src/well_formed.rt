@@ -13,7 +13,7 @@ pub fn clear_handler(v: u64) -> u64
     v & 0x3fff_ffff_ffff_fffc
 }
 
-// The permission bits that region `n` has.
+// The permission bits that region `n` has. A region's number is the documents' own, and any number may be asked.
 fn permission_bits(n: u64) -> u64
     ensures { result ≡ permission_bits (region_kind n) }
 {

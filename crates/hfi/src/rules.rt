@@ -12,7 +12,7 @@ use model::{HfiState, LARGEST_OPTIONS, LAST_REGION};
 use words::bits;
 use writable_code::writable_code;
 
-// One rule.
+// One rule. (`setup::question` has the same two lines for its own enum: neither crate is built on the other.)
 fn keep(kept: bool, rule: Rule) -> Result<(), Rule>
     ensures { result ≡ (if kept then Ok tt else Err rule) }
 {

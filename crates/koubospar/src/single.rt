@@ -8,7 +8,7 @@ ghost use Rattle.koubospar.specs.Single.{as_step};
 
 use model::{Machine, Ran, Stepped};
 
-// The answer of a run of one step as the step's own: a run that has counted its step answers 20 or 21, the step that it completed.
+// The answer of a run of one step as the step's own, which is no conversion of every `Ran`: a run that has counted its step answers 20 or 21, the step that it completed.
 fn as_step(r: Ran) -> Stepped
     ensures { step_answer result ≡ as_step (run_answer r) }
 {

@@ -44,7 +44,7 @@ pub struct FlatEncoded {
     pub word: u32,
 }
 
-// What most groups have.
+// What most groups have. The numbers of group and kind are C's.
 fn lay_out(group: u64, kind: u64, rd: u64, rs1: u64, rs2: u64, imm: u64) -> Flat
     ensures { result ≡ layout group kind rd rs1 rs2 imm }
 {

@@ -1,4 +1,5 @@
-// Loads and stores, ordinary and h-prefixed: questions 10 and 11, and what they do.
+// Loads and stores, ordinary and h-prefixed: questions 10 and 11, and what they do. A load and a store stay two functions: they ask for another
+// permission, take another kind, and one is lent the memory to write.
 #![tactic(auto)]
 
 ghost use Rattle.std.specs.Prelude.{◌≡◌, true, ◌+◌, ◌<◌, ◌≤◌, length};

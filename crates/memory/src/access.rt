@@ -1,5 +1,6 @@
 // The questions that every byte of an access is asked before any is touched. `ns` are the numbers of the implicit regions that decide, in their
-// order; `len` is the memory's length, and the access is of the `n` bytes from `a` on.
+// order; `len` is the memory's length, and the access is of the `n` bytes from `a` on. These stay parameters: of a struct of them each function
+// below would take another part, one byte of it or its last, a constant for it, or all but the regions.
 ghost use Rattle.std.specs.Prelude.{◌≡◌, ℕ, Bool, ◌<◌, ◌≤◌, true, length};
 ghost use Rattle.words.specs.Word.{fits_signed};
 ghost use Rattle.model.specs.Machine.{region};

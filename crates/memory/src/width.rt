@@ -1,4 +1,4 @@
-// How many bytes each load and store moves.
+// How many bytes each load and store moves: two tables, of two kinds. A width stays a number, since the bytes of an access are counted with it.
 ghost use Rattle.std.specs.Prelude.{◌≡◌};
 ghost use Rattle.model.specs.Access.{load_width, store_width};
 

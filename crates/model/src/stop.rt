@@ -66,7 +66,7 @@ impl Op {
         }
     }
 
-    // Of a refused byte, and of an absent one.
+    // The numbers of a refused byte and of an absent one: two columns of one table.
     fn refused(self) -> u64
         ensures { result ≡ refused_number self }
     {
