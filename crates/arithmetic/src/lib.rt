@@ -99,7 +99,7 @@ pub fn operate_word(k: RegisterWordKind, a: u64, b: u64) -> u64
     sign_extend(operate_32(k, bits(a, 0, 32), bits(b, 0, 32)), 32)
 }
 
-// ADDIW: the word form of ADD with an immediate.
+// ADDIW: the word form of ADD with an immediate. Apart from `operate_word`, which is no part of the run's loop, as this is.
 pub fn add_word(a: u64, imm: u64) -> u64
     ensures { result ≡ operate_word Add a imm }
 {

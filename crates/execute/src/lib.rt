@@ -1,5 +1,4 @@
-// The instructions by their groups: a dispatcher that only calls. An instruction that only computes is a value of `arithmetic`,
-// written back.
+// The instructions by their groups, an arm each: a value of `arithmetic` written back, a pc, or a call.
 #![tactic(auto)]
 
 ghost use Rattle.std.specs.Prelude.{◌≡◌, List, ℕ, true};
@@ -20,7 +19,7 @@ use instructions::instruction::Instruction;
 use instructions::kind::{SystemKind, UpperKind};
 use load_store::{hload, hstore, load, store};
 use model::Machine;
-use model::stop::Stop;
+use model::stop::{Reason, Stop};
 
 // ECALL, which HFI may redirect to the handler, and EBREAK.
 #[tactic(auto, unfolding(model::specs::Step::perform))]
@@ -34,7 +33,7 @@ fn system(m: &mut Machine, k: SystemKind) -> Result<(), Stop>
             }
             let pc = m.pc;
             m.pc = m.hfi.handler;
-            exit(&mut m.hfi, 2, pc);
+            exit(&mut m.hfi, Reason::SystemCall, pc);
             Ok(())
         }
         SystemKind::Ebreak => Err(Stop::Breakpoint),

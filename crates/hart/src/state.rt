@@ -1,8 +1,11 @@
 // Reading and changing the parts of the HFI state.
-ghost use Rattle.std.specs.Prelude.{◌≡◌, false, cond, ◌<◌};
-ghost use Rattle.model.specs.Machine.{inside as is_inside, bit, locked as is_locked, redirects_calls, redirects_exits, entered, exited};
+ghost use Rattle.std.specs.Prelude.{◌≡◌};
+ghost use Rattle.model.specs.Stops.{reason_number};
+ghost use Rattle.model.specs.Machine.{inside as is_inside, bit, option_bit, locked as is_locked, redirects_calls, redirects_exits, entered, exited};
 
 use model::HfiState;
+use model::permission::Choice;
+use model::stop::Reason;
 use words::bits;
 
 // In HFI mode?
@@ -12,33 +15,32 @@ pub fn inside(h: &HfiState) -> bool
     h.mode == 1
 }
 
-// In HFI mode with option bit `n` set?
-fn inside_with(h: &HfiState, n: u64) -> bool
-    requires { n < 64 }
-    ensures { result ≡ cond (is_inside h.now) (bit n h.now.options) false }
+// Is the option chosen?
+fn chosen(h: &HfiState, c: Choice) -> bool
+    ensures { result ≡ bit (option_bit c) h.now.options }
 {
-    inside(h) && bits(h.options, n, 1) == 1
+    bits(h.options, c.bit(), 1) == 1
 }
 
 // Are the regions locked?
 pub fn locked(h: &HfiState) -> bool
     ensures { result ≡ is_locked h.now }
 {
-    inside_with(h, 0)
+    inside(h) && chosen(h, Choice::LockRegions)
 }
 
 // Are system calls redirected?
 pub fn redirects_calls(h: &HfiState) -> bool
     ensures { result ≡ redirects_calls h.now }
 {
-    inside_with(h, 1)
+    inside(h) && chosen(h, Choice::RedirectCalls)
 }
 
 // Are exits redirected?
 pub fn redirects_exits(h: &HfiState) -> bool
     ensures { result ≡ redirects_exits h.now }
 {
-    bits(h.options, 2, 1) == 1
+    chosen(h, Choice::RedirectExits)
 }
 
 // Into HFI mode with new options; the fault record keeps all but `occurred`.
@@ -51,10 +53,10 @@ pub fn enter(h: &mut HfiState, options: u64)
 }
 
 // Out of HFI mode, for a reason, from this pc.
-pub fn exit(h: &mut HfiState, reason: u64, pc: u64)
-    ensures { h.new ≡ exited h.old reason pc }
+pub fn exit(h: &mut HfiState, reason: Reason, pc: u64)
+    ensures { h.new ≡ exited h.old (reason_number reason) pc }
 {
     h.mode = 0;
-    h.reason = reason;
+    h.reason = reason.number();
     h.epc = pc;
 }

@@ -18,14 +18,8 @@ fn permission_bits(n: u64) -> u64
     ensures { result ≡ permission_bits (region_kind n) }
 {
     match n {
-        1 => 0b1011,
-        2 => 0b0011,
-        4 => 0b1011,
-        5 => 0b1011,
-        6 => 0b1011,
-        7 => 0b0011,
-        8 => 0b0011,
-        9 => 0b0011,
+        1 | 4 | 5 | 6 => 0b1011,
+        2 | 7 | 8 | 9 => 0b0011,
         _ => 0b0100,
     }
 }

@@ -7,6 +7,7 @@ ghost use Rattle.model.specs.Hfi.{first_broken, h_word_rules, word_rules};
 use hart::state::{inside, locked};
 use hart::well_formed::permission_fits;
 use instructions::kind::HfiKind;
+use model::permission::Choice;
 use model::stop::Rule;
 use model::{HfiState, LARGEST_OPTIONS, LAST_REGION};
 use words::bits;
@@ -33,7 +34,7 @@ fn enter_rules(h: &HfiState, options: u64) -> Result<(), Rule>
 {
     keep(!inside(h), Rule::AlreadyInside)?;
     keep(options <= LARGEST_OPTIONS, Rule::Operand)?;
-    let locks = bits(options, 0, 1) == 1;
+    let locks = bits(options, Choice::LockRegions.bit(), 1) == 1;
     keep(!(locks && writable_code(&h.regions)), Rule::WritableCode)
 }
 

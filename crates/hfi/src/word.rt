@@ -12,7 +12,7 @@ use hart::regions::{put_region, region_at};
 use hart::state::{enter, exit, redirects_exits};
 use hart::well_formed::clear_handler;
 use instructions::kind::HfiKind;
-use model::stop::Stop;
+use model::stop::{Reason, Stop};
 use model::{HfiState, Machine, REGIONS, Region};
 
 // The selected region.
@@ -41,7 +41,7 @@ fn leave(m: &mut Machine, next: u64)
     } else {
         next
     };
-    exit(&mut m.hfi, 1, pc);
+    exit(&mut m.hfi, Reason::Exit, pc);
 }
 
 // What a word that nothing forbids does; the target of an enter with jump is to be a multiple of 2.

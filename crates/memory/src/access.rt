@@ -36,7 +36,8 @@ pub fn grants(rs: &[Region; REGIONS], ns: &[u64], wanted: Permission, a: u64) ->
     (n != 0) & permits(wanted, region_at(rs, n))
 }
 
-// The first of the `n` bytes of an access that does not pass, or `n`.
+// The first of the `n` bytes of an access that does not pass, or `n`, the place past the last, as the definition answers it. Document 01 asks for
+// this loop over the bytes, left by break with the refused place.
 #[tactic(auto, using(model::proofs::Scan::scan_next, model::proofs::Scan::scan_here, model::proofs::Scan::scan_end))]
 fn first_failing<F: Fn(u64) -> bool>(n: u64, passes: F) -> u64
     requires { (i : ℕ) → i < n → F.pre passes i }

@@ -1,4 +1,5 @@
-// Little-endian reads and writes of 1, 2, 4 and 8 bytes. The width is a constant of each loop, so that the compiler makes one move of it.
+// Little-endian reads and writes of 1, 2, 4 and 8 bytes. The width is a constant of each loop, so that the compiler makes one move of it. (std has a
+// from_le_bytes for each type: four functions where this is one.)
 ghost use Rattle.std.specs.Prelude.{◌≡◌, ◌+◌, ◌*◌, ◌^◌, ◌<◌, ◌≤◌, length};
 ghost use Rattle.model.specs.Bytes.{value, written};
 ghost use Rattle.memory.specs.Width.{IsWidth};

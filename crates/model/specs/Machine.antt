@@ -1,11 +1,13 @@
 -- Reading and changing the parts of the machine.
--- Region, Fault, HfiState and Machine are declared in src/lib.rt. Assumes nothing.
+-- Region, Fault, HfiState and Machine are declared in src/lib.rt, Choice in src/permission.rt. Assumes nothing.
 use Rattle.std.specs.Prelude.{Bool, false, cond, List, [], ◌∷◌, ℕ, zero, suc, ◌+◌, ◌-◌, ◌%◌, ◌^◌, eqb, get_or, set, replicate}
 use Rattle.words.specs.Word.{field}
 use Rattle.model.specs.declared.Region.{Region}
 use Rattle.model.specs.declared.Fault.{Fault}
 use Rattle.model.specs.declared.HfiState.{HfiState}
 use Rattle.model.specs.declared.Machine.{Machine}
+use Rattle.model.specs.declared.permission.Choice.{Choice}
+use Rattle.model.specs.declared.permission.Choice.TheVariants.{LockRegions, RedirectCalls, RedirectExits}
 
 -- "Sums of addresses and registers are taken modulo 2^64."
 abbrev pub sum : ℕ → ℕ → ℕ
@@ -47,6 +49,12 @@ inside h = eqb h.mode 1
 -- "Options: bit 0 lock regions, bit 1 redirect system calls, bit 2 redirect exits, bit 3 serialize. Bit 3 is kept and has no
 -- effect on single steps." Locking and the redirection of calls are asked only in HFI mode, so the mode is part of both; an
 -- exit is in HFI mode anyway.
+
+-- the bits that code asks
+abbrev pub option_bit : Choice → ℕ
+option_bit LockRegions = 0
+option_bit RedirectCalls = 1
+option_bit RedirectExits = 2
 
 -- "Lock follows 000 chapter 3 (1 forbids)"; ".. in HFI mode when locked"
 abbrev pub locked : HfiState → Bool

@@ -5,6 +5,8 @@ use Rattle.std.specs.Prelude.{ℕ, Result, Ok, Err, ⊤}
 use Rattle.model.specs.Machine.{load_op, store_op, fetch_op}
 use Rattle.model.specs.declared.stop.Op.{Op}
 use Rattle.model.specs.declared.stop.Op.TheVariants.{Load, Store, Fetch}
+use Rattle.model.specs.declared.stop.Reason.{Reason}
+use Rattle.model.specs.declared.stop.Reason.TheVariants.{Exit, SystemCall as SystemCallReason}
 use Rattle.model.specs.declared.stop.Rule.{Rule}
 use Rattle.model.specs.declared.stop.Rule.TheVariants.{Operand, WritableCode as EntersWritableCode, AlreadyInside, NotInside, Locked}
 use Rattle.model.specs.declared.stop.Stop.{Stop}
@@ -15,6 +17,11 @@ abbrev pub op_number : Op → ℕ
 op_number Load = load_op
 op_number Store = store_op
 op_number Fetch = fetch_op
+
+-- "exit reason (0 none, 1 hfiexit, 2 system call)"
+abbrev pub reason_number : Reason → ℕ
+reason_number Exit = 1
+reason_number SystemCallReason = 2
 
 -- "5. .. executable? No: 11." "10. Is every data byte granted? No: 16."
 abbrev pub refused_number : Op → ℕ

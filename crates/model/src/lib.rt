@@ -7,6 +7,9 @@
 pub mod permission;
 pub mod stop;
 
+// The explicit regions: an h-word chooses among them.
+pub use instructions::instruction::EXPLICIT_REGIONS;
+
 use stop::Stop;
 
 // The longest memory and the largest budget that a call takes.
@@ -17,15 +20,12 @@ pub const LARGEST_BUDGET: u64 = 1_000_000;
 // How many regions the record keeps, and the highest number of one: they count from 1.
 pub const REGIONS: usize = 10;
 
-pub const LAST_REGION: u64 = 10;
+pub const LAST_REGION: u64 = REGIONS as u64;
 
 // The implicit regions by kind, in the order in which they are asked.
 pub const DATA_REGIONS: [u64; 4] = [2, 7, 8, 9];
 
 pub const CODE_REGIONS: [u64; 2] = [3, 10];
-
-// And the explicit ones.
-pub const EXPLICIT_REGIONS: [u64; 4] = [1, 4, 5, 6];
 
 // The largest options: 4 bits.
 pub const LARGEST_OPTIONS: u64 = 15;

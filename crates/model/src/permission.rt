@@ -1,5 +1,6 @@
-// The permissions of a region, which are bits of its number of permissions.
+// The permissions of a region and the options of HFI mode, each by its bit: a case's place in its list is the bit's number.
 ghost use Rattle.std.specs.Prelude.{◌≡◌};
+ghost use Rattle.model.specs.Machine.{option_bit};
 ghost use Rattle.model.specs.Regions.{permission_bit};
 
 #[derive(Clone, Copy, PartialEq, Eq)]
@@ -15,11 +16,23 @@ impl Permission {
     pub fn bit(self) -> u64
         ensures { result ≡ permission_bit self }
     {
-        match self {
-            Permission::Read => 0,
-            Permission::Write => 1,
-            Permission::Execute => 2,
-            Permission::Large => 3,
-        }
+        self as u64
+    }
+}
+
+// "Options: bit 0 lock regions, bit 1 redirect system calls, bit 2 redirect exits"; no code asks bit 3.
+#[derive(Clone, Copy, PartialEq, Eq)]
+pub enum Choice {
+    LockRegions,
+    RedirectCalls,
+    RedirectExits,
+}
+
+impl Choice {
+    // Its bit number.
+    pub fn bit(self) -> u64
+        ensures { result ≡ option_bit self }
+    {
+        self as u64
     }
 }

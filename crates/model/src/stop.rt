@@ -1,14 +1,14 @@
 // Why a step or a call ended, by name. specs/Stops.antt gives each the documents' number and address.
 ghost use Rattle.std.specs.Prelude.{◌≡◌};
-ghost use Rattle.model.specs.Stops.{op_number, refused_number, absent_number, number_of_rule, stop_number, stop_address};
+ghost use Rattle.model.specs.Stops.{op_number, reason_number, refused_number, absent_number, number_of_rule, stop_number, stop_address};
 ghost use Rattle.model.specs.declared.stop.Stop.TheVariants.{Broken};
 
 // The fault record's ops but for 0, which is none.
 #[derive(Clone, Copy, PartialEq, Eq)]
 pub enum Op {
-    Load,
-    Store,
-    Fetch,
+    Load = 1,
+    Store = 2,
+    Fetch = 3,
 }
 
 // Why an access does not pass: its first refused byte, by address and fault region; or, where all are granted, its first absent byte.
@@ -21,11 +21,18 @@ pub enum Denied {
 // The rules of question 8.
 #[derive(Clone, Copy, PartialEq, Eq)]
 pub enum Rule {
-    Operand, // an operand's value, a missing selection, or an h-word outside HFI mode
-    WritableCode, // an enter that would lock regions in which some byte is writable and executable
-    AlreadyInside, // enter in HFI mode
-    NotInside, // exit outside it
-    Locked, // a region or handler instruction that HFI mode forbids
+    Operand = 14, // an operand's value, a missing selection, or an h-word outside HFI mode
+    WritableCode = 22, // an enter that would lock regions in which some byte is writable and executable
+    AlreadyInside = 23, // enter in HFI mode
+    NotInside = 24, // exit outside it
+    Locked = 25, // a region or handler instruction that HFI mode forbids
+}
+
+// "exit reason (0 none, 1 hfiexit, 2 system call)".
+#[derive(Clone, Copy, PartialEq, Eq)]
+pub enum Reason {
+    Exit = 1,
+    SystemCall = 2,
 }
 
 // What ends a step, a run or the call itself.
@@ -59,11 +66,7 @@ impl Op {
     pub fn number(self) -> u64
         ensures { result ≡ op_number self }
     {
-        match self {
-            Op::Load => 1,
-            Op::Store => 2,
-            Op::Fetch => 3,
-        }
+        self as u64
     }
 
     // The numbers of a refused byte and of an absent one: two columns of one table.
@@ -80,17 +83,19 @@ impl Op {
     }
 }
 
+impl Reason {
+    pub fn number(self) -> u64
+        ensures { result ≡ reason_number self }
+    {
+        self as u64
+    }
+}
+
 impl Rule {
     fn number(self) -> u64
         ensures { result ≡ number_of_rule self }
     {
-        match self {
-            Rule::Operand => 14,
-            Rule::WritableCode => 22,
-            Rule::AlreadyInside => 23,
-            Rule::NotInside => 24,
-            Rule::Locked => 25,
-        }
+        self as u64
     }
 }
 

@@ -43,14 +43,14 @@ fn run(m: &mut Machine, mem: &mut [u8], budget: u64) -> End
     }
 }
 
-// A run that is refused.
+// A run that is refused. (An `End`, since a run answers its count with every stop.)
 fn refused(stop: Stop) -> End
     ensures { result ≡ record { stop = stop; count = 0 } }
 {
     End { stop, count: 0 }
 }
 
-// Questions 1 to 4, and the run. Question 4 is asked once: no step brings it about (`run_is_step_calls` in model/proofs/Runs.antt).
+// What a run is refused for, 1 to 4 in this order, and the run. That some byte is writable code is asked once: no step brings it about (`run_is_step_calls` in model/proofs/Runs.antt).
 #[tactic(auto, unfolding(model::specs::Run::run_call))]
 fn checked_run(m: &mut Machine, mem: &mut [u8], budget: u64) -> End
     ensures { ran_with (end_with result m.new) mem.new ≡ run_call m.old mem.old budget }

@@ -9,7 +9,7 @@ use model::stop::Stop;
 use model::{LONGEST, Machine, Stepped};
 use writable_code::exposes_code;
 
-// Questions 1, 3 and 4 of a step, and the step.
+// What a step is refused for, 1, 3 and 4 in this order, and the step.
 #[tactic(auto, unfolding(model::specs::Step::step_call))]
 fn checked_step(m: &mut Machine, mem: &mut [u8]) -> Result<(), Stop>
     ensures { stepped_with (answer_of result m.new) mem.new ≡ step_call m.old mem.old }

@@ -90,7 +90,7 @@ fn region_end(n: u64, r: Region) -> u64
     }
 }
 
-// Is a byte at an edge of region `n` both?
+// Is a byte at an edge of region `n` both? (`r` is that region, read once.)
 fn edge_is_both(rs: &[Region; REGIONS], n: u64, r: Region) -> bool
     ensures { result ≡ some (both_at rs.now) (edges_of (region_kind n) r) }
 {
