@@ -35,7 +35,8 @@ pub fn write_back(m: &mut Machine, next: u64, rd: u64, v: u64)
     m.pc = next;
 }
 
-// The stop of an access that does not pass. A refused byte is put in the fault record.
+// The stop of an access that does not pass. A refused byte is put in the fault record. (Called in an `if let`: tried under map_err, but what a closure
+// changes is not known after it, and the proof did not close.)
 #[tactic(auto, unfolding(model::specs::Outcome::settle))]
 pub fn denied(m: &mut Machine, op: Op, d: Denied) -> Stop
     ensures { (mem : List ℕ) (rest : Outcome) → stepped_with (answer_of (Err result) m.new) mem ≡ settle m.old mem (op_number op) (refused_number op) (absent_number op) (Err d) rest }
