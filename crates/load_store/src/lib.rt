@@ -1,5 +1,5 @@
 // Loads and stores, ordinary and h-prefixed: questions 10 and 11, and what they do. A load and a store stay two functions: they ask for another
-// permission, take another kind, and one is lent the memory to write.
+// permission, take another kind, and one is lent the memory to write. Machine and memory stay two parameters, as C lends them.
 #![tactic(auto)]
 
 ghost use Rattle.std.specs.Prelude.{◌≡◌, true, ◌+◌, ◌<◌, ◌≤◌, length};
