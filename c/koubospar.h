@@ -98,12 +98,12 @@ struct koubospar_machine {
  * kind of word, and rounded up. `c/try` measures them again and fails where a call takes more. Measured were 4,424 for a
  * step, 3,880 for a run, 576 for a resumption, 11,144 for a turn, 7,248 for putting a machine into a slot, 70,648 for a
  * sheet, 336 and 416 for decoding and encoding, 304 for expanding, 608 for the probe and 944 for a place. No call's stack grows with the memory, the budget or the sheet. */
-#define KOUBOSPAR_STACK_STEP 4608
-#define KOUBOSPAR_STACK_RUN 4096
+#define KOUBOSPAR_STACK_STEP 3072
+#define KOUBOSPAR_STACK_RUN 2560
 #define KOUBOSPAR_STACK_RESUME 768
-#define KOUBOSPAR_STACK_TURN 11776
-#define KOUBOSPAR_STACK_PUT 7680
-#define KOUBOSPAR_STACK_RESPOND 71168
+#define KOUBOSPAR_STACK_TURN 3072
+#define KOUBOSPAR_STACK_PUT 256
+#define KOUBOSPAR_STACK_RESPOND 71936
 #define KOUBOSPAR_STACK_DECODE 512
 #define KOUBOSPAR_STACK_ENCODE 512
 #define KOUBOSPAR_STACK_EXPAND 512
