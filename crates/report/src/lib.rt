@@ -70,8 +70,8 @@ fn put_registers(w: &mut Writer, x: [u64; 32])
     ensures put { Put w.old (join_lines (register_lines 0 x)) w.new }
     ensures upper_bound { w.new.at ≤ w.old.at + 1216 }
 {
-    for i in 0..32 {
-        put_register(w, i as u64, x[i]);
+    for (i, &v) in x.iter().enumerate() {
+        put_register(w, i as u64, v);
     }
 }
 

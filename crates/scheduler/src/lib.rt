@@ -13,11 +13,12 @@ use model::stop::Stop;
 // "Take 1 to 4 machines and a step allowance of 1 to 10,000."
 pub const SLOTS: usize = 4;
 
-pub const MOST_SLOTS: u64 = 4;
+pub const MOST_SLOTS: u64 = SLOTS as u64;
 
 pub const LARGEST_ALLOWANCE: u64 = 10_000;
 
-// A machine, and the stop of its last turn: 0 if it has had none since it was put there.
+// A machine, and the stop of its last turn: 0 if it has had none since it was put there. A number, since it
+// crosses to C and a caller can hand in any.
 #[repr(C)]
 #[derive(Clone, Copy, Default)]
 pub struct Slot {
@@ -25,7 +26,8 @@ pub struct Slot {
     pub stop: u64,
 }
 
-// What the main loop keeps and lends to each turn. Slot n stands at n - 1; the first `count` of them take turns.
+// What the main loop keeps and lends to each turn. Slot n stands at n - 1; the first `count` of them take turns. A count beside
+// an array of all, since memory is fixed and C declares this record too.
 #[repr(C)]
 #[derive(Clone, Copy, Default)]
 pub struct Scheduler {
@@ -43,28 +45,22 @@ pub struct Turned {
     pub count: u64,
 }
 
-// Why a turn is refused; specs/Turn.antt gives each the documents' number.
+// Why a turn is refused; specs/Turn.antt gives each the documents' number. Three names stand in Stop too: a turn
+// is refused by these alone, and a Stop in their place would bring the stops that none is refused by.
 #[derive(Clone, Copy, PartialEq, Eq)]
 pub enum Refusal {
-    MemoryTooLong,
-    SlotCount,
-    Allowance,
-    NotWellFormed,
-    WritableCode,
-    Unlocked,
+    MemoryTooLong = 1,
+    SlotCount = 50,
+    Allowance = 51,
+    NotWellFormed = 3,
+    WritableCode = 4,
+    Unlocked = 52,
 }
 
 impl Refusal {
     pub fn number(self) -> u64
         ensures { result ≡ refusal_number self }
     {
-        match self {
-            Refusal::MemoryTooLong => 1,
-            Refusal::SlotCount => 50,
-            Refusal::Allowance => 51,
-            Refusal::NotWellFormed => 3,
-            Refusal::WritableCode => 4,
-            Refusal::Unlocked => 52,
-        }
+        self as u64
     }
 }

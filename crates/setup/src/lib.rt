@@ -54,7 +54,8 @@ fn budget_field(n: usize) -> usize
     3 + 3 * n
 }
 
-// The regions, of which the first n are in the values from place `first` on; the others are zero.
+// The regions, of which the first n are in the values from place `first` on; the others are zero. By index:
+// `chunks_exact(3)` beside the slots would name a region's three values by index all the same.
 pub fn regions_from(values: &[u64], first: usize, n: usize) -> [Region; REGIONS]
     requires { (n ≤ last_region) × (first + 3 * n ≤ length values.now) }
     ensures { result ≡ regions_from values.now first n ++ replicate (last_region - n) no_region }
@@ -113,7 +114,7 @@ fn counted(count: usize) -> bool
 }
 
 // Has each field before the budget 1 to 16 digits, and the budget at most 16?
-fn digits_in_range(fields: &[Field; LONG_FORM], n: usize) -> bool
+fn digits_in_range(n: usize, fields: &[Field; LONG_FORM]) -> bool
     requires { n ≤ last_region }
     ensures { (count : ℕ) → result ≡ digits_in_range n (row_as count fields.now) }
 {
@@ -137,7 +138,7 @@ pub fn read_setup(line: &[u8]) -> Result<Setup, Question>
     let n = regions_given(count);
     let setup = setup_of(n, &fields);
     Question::FieldCount.ask(counted(count))?;
-    Question::FieldWidth.ask(digits_in_range(&fields, n))?;
+    Question::FieldWidth.ask(digits_in_range(n, &fields))?;
     Question::Range.ask(values_in_range(&setup))?;
     Ok(setup)
 }
@@ -146,6 +147,7 @@ pub fn read_setup(line: &[u8]) -> Result<Setup, Question>
 pub fn machine_of(s: Setup) -> Machine
     ensures { result ≡ machine_of s }
 {
+    // A variable: the borrow checker covers no array that goes from field to field straight.
     let regions = s.regions;
     let hfi = HfiState {
         mode: 1,
@@ -154,6 +156,9 @@ pub fn machine_of(s: Setup) -> Machine
         regions,
         ..HfiState::default()
     };
-    let x = [0; 32];
-    Machine { x, pc: s.pc, hfi }
+    Machine {
+        x: [0; 32],
+        pc: s.pc,
+        hfi,
+    }
 }

@@ -21,7 +21,8 @@ use text::writer::Writer;
 // The fields of a word line: address and word.
 const WORD_FIELDS: usize = 2;
 
-// The question that a sheet fails first, and the number of the line that it is asked of.
+// The question that a sheet fails first, and the number of the line that it is asked of: 0 where it is asked of the whole file, which
+// the document prints, so no Option.
 #[derive(Clone, Copy)]
 pub struct Refusal {
     pub question: Question,
@@ -64,7 +65,8 @@ fn foreign(b: u8) -> bool
     !(is_digit(b) || b == b',' || b == b'\n')
 }
 
-// The line of the first byte that no sheet has. The line number runs along.
+// The line of the first byte that no sheet has. The line number runs along, counted by hand, so that each byte is
+// looked at once.
 fn foreign_line(s: &[u8]) -> Option<u64>
     ensures { result ≡ foreign_found s.now }
 {
@@ -123,14 +125,16 @@ fn read_word(line: &[u8], least: u64) -> Result<WordLine, Question>
     Ok(w)
 }
 
-// The word lines, from line 2 on, which begins at a position, and their words placed in memory. The line number runs along. Where a
-// line is refused, memory is left free: no refused sheet is run.
+// The word lines, from line 2 on, which begins at a position, and their words placed in memory. Where a line is refused, memory
+// is left free: no refused sheet is run. A position, and not the rest that `split_line` gives, since `words_refusal` names a line by
+// its position in the whole text.
 fn read_words(s: &[u8], start: usize, mem: &mut [u8]) -> Result<(), Refusal>
     requires { (length mem.old ≡ 65536) × (start ≤ length s.now) × (length s.now ≤ 65536) × (get_or s.now (length s.now - 1) 0 ≡ newline) × LineStart s.now start 2 }
     ensures refusal { refusal_of result ≡ words_refusal s.now start 0 (lines (drop start s.now)) }
     ensures mem_after { OnOk result (mem.new ≡ memory_of mem.old (words_of (lines (drop start s.now)))) }
 {
     let mut left = rest(s, start);
+    // Counted by hand: a loop of `split_line` is no iterator to enumerate.
     let mut lineno = 2;
     let mut least = 0;
     while let Some((line, after)) = split_line(left) {

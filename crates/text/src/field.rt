@@ -1,5 +1,4 @@
-// The lines of a text, and the fields of a line. `line_at` and `field_at` are two since they promise two things: an empty text has no
-// line, and one field.
+// The lines of a text, and the fields of a line: an empty text has no line, and one field.
 ghost use Rattle.std.specs.Prelude.{◌≡◌, [], get_or, drop, take, MatchOption};
 ghost use Rattle.text.specs.Scan.{first_that, is};
 ghost use Rattle.text.specs.Split.{FirstLine, lines, fields};
@@ -21,7 +20,8 @@ pub fn line_at(s: &[u8], at: usize) -> &[u8]
     piece_at(s, at, b'\n')
 }
 
-// The field that begins at a position of a line, without its comma; an empty one past the line.
+// The field that begins at a position of a line, without its comma; an empty one past the line. It has no caller now, and stays for its
+// promise.
 pub fn field_at(line: &[u8], at: usize) -> &[u8]
     ensures { result.now ≡ get_or (fields (drop at line.now)) 0 [] }
 {

@@ -6,21 +6,21 @@ ghost use Rattle.text.specs.Number.{is_digit, digit_value, number as number_of};
 pub fn is_digit(b: u8) -> bool
     ensures { result ≡ is_digit b }
 {
-    ((48 <= b) & (b <= 57)) | ((97 <= b) & (b <= 102))
+    matches!(b, b'0'..=b'9' | b'a'..=b'f')
 }
 
-// The value of a digit, 0 of any other byte.
+// The value of a digit. 0 of any other byte, and no Option: what is no digit is asked apart, by `is_digit`.
 pub fn digit_value(b: u8) -> u64
     ensures { (result ≡ digit_value b) × (result < 16) }
 {
     match b {
-        48..=57 => (b - 48) as u64,
-        97..=102 => (b - 87) as u64,
+        b'0'..=b'9' => (b - b'0') as u64,
+        b'a'..=b'f' => (b - b'a' + 10) as u64,
         _ => 0,
     }
 }
 
-// The number that at most 16 digits of a base spell, 0 of more digits.
+// The number that at most 16 digits of a base spell. 0 of more digits, and no Option: the width is asked apart, by `all_wide`.
 pub fn number(s: &[u8], base: u64) -> u64
     requires { base ≤ 16 }
     ensures { result ≡ number_of base s.now }

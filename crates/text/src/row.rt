@@ -4,14 +4,15 @@ ghost use Rattle.text.specs.Split.{row_as, row_of, row_over, all_wide, values_of
 
 use crate::number::number;
 
-// A field as read: its number, and how many digits it has. All zero, it is a field that a line lacks.
+// A field as read: its number, and how many digits it has. A field that a line lacks is as an empty one, all zero: the count of the
+// fields tells them apart.
 #[derive(Clone, Copy)]
 pub struct Field {
     pub value: u64,
     pub width: u64,
 }
 
-// A field in slot k, where there is such a slot.
+// A field in slot k, where there is such a slot. Tried by `get_mut`: the proof did not close.
 fn fill(slots: &mut [Field], k: usize, f: Field)
     ensures { slots.new ≡ set slots.old k f }
 {
@@ -20,7 +21,8 @@ fn fill(slots: &mut [Field], k: usize, f: Field)
     }
 }
 
-// A line's fields, in as many slots as are lent, and how many fields there are.
+// A line's fields, in as many slots as are lent, and how many fields there are. Counted by hand, since the count
+// is answered too, and `enumerate` drops it at the loop's end.
 fn read_into(line: &[u8], slots: &mut [Field]) -> usize
     ensures { row_as result slots.new ≡ row_over (values_of slots.old) (widths_of slots.old) line.now }
 {

@@ -2,7 +2,7 @@
 ghost use Rattle.std.specs.Prelude.{◌≡◌, ◌-◌, ◌≤◌, length, take, drop};
 ghost use Rattle.text.specs.Scan.{first_that, is};
 
-// The position of the first c, or the length.
+// The position of the first c. The length where there is none, and no Option, since `front` and `rest` then take the whole and nothing.
 pub fn position(s: &[u8], c: u8) -> usize
     ensures { (result ≡ first_that (is c) s.now) × (result ≤ length s.now) }
 {

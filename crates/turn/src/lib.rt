@@ -50,7 +50,8 @@ pub fn turn_call(
     Ok(Some(took_turn(s, n, r)))
 }
 
-// A machine put into slot n; a number that no slot has changes nothing.
+// A machine put into slot n; a number that no slot has changes nothing. A bool and no Result: there is one way
+// to fail, to which the documents give no number.
 #[tactic(auto, unfolding(scheduler::specs::Turn::put_call))]
 pub fn put_call(s: &mut Scheduler, n: u64, m: Machine) -> bool
     ensures { put_answer result s.new ≡ put_call s.old n m }

@@ -2,6 +2,7 @@
 ghost use Rattle.std.specs.Prelude.{◌≡◌, ◌≤◌, unwrap_or, IfSome};
 ghost use Rattle.scheduler.specs.Turn.{most_slots, within as is_within, slot, stopped as is_stopped, place_in, following as following_of, next_slot};
 
+use model::stop::Stop;
 use scheduler::{SLOTS, Scheduler, Slot};
 
 // From 1 to `most`?
@@ -19,11 +20,11 @@ pub fn slot_at(slots: &[Slot; SLOTS], n: u64) -> Slot
     slots[(n - 1) as usize]
 }
 
-// Is it passed over?
+// Is it passed over? Not before its first turn, of which 0 stands there.
 pub fn stopped(d: &Slot) -> bool
     ensures { result ≡ is_stopped d.now }
 {
-    !((d.stop == 0) | (d.stop == 21))
+    !((d.stop == 0) | (d.stop == Stop::OutOfBudget.number()))
 }
 
 // Where a turn starts to look.
@@ -46,6 +47,7 @@ pub fn next_slot(s: &Scheduler) -> Option<u64>
     ensures value { unwrap_or result 0 ≡ next_slot s.now }
     ensures numbered { IfSome result (λ n. (1 ≤ n) × (n ≤ most_slots)) }
 {
+    // Carried by hand, since it goes round from the place.
     let mut n = place_in(s.count, s.place);
     for _ in 0..s.count {
         if !stopped(&slot_at(&s.slots, n)) {

@@ -6,4 +6,4 @@ use Rattle.report.specs.Report.{register_lines}
 use Rattle.report.proofs.put_registers.Given as goal
 
 abbrev pub invariant-loop-i : goal.invariant-loop-i
-invariant-loop-i l = (l.w.at ≤ l.fn.w.at + 38 * l.i) × Put l.fn.w (join_lines (register_lines 0 (take l.i l.x))) l.w
+invariant-loop-i l = (l.w.at ≤ l.fn.w.at + 38 * l.i) × Put l.fn.w (join_lines (register_lines 0 (take l.i l.fn.x))) l.w
