@@ -2,7 +2,7 @@
 // every other line of it, and each of its fields stands at a fixed position of the line, padded with spaces.
 #![tactic(auto)]
 
-ghost use Rattle.std.specs.Prelude.{◌≡◌, ℕ, ◌*◌, ◌/◌, ◌<◌, ◌≤◌, length, take, drop, Ok, OnOk};
+ghost use Rattle.std.specs.Prelude.{◌≡◌, ℕ, ◌*◌, ◌/◌, ◌<◌, ◌≤◌, length, get_or, take, drop, Ok, OnOk};
 ghost use Rattle.text.specs.Scan.{first_that, is};
 ghost use Rattle.text.specs.Number.{number as number_of};
 ghost use Rattle.columns.specs.Doublewords.{doubleword};
@@ -59,6 +59,20 @@ pub fn each_doubleword<F: Fn(usize, u64) -> io::Result<()>>(mem: &[u8], show: F)
         let v = u64::from_le_bytes(bytes);
         if v != 0 {
             show(8 * i, v)?;
+        }
+    }
+    Ok(())
+}
+
+// Hands on the number and the value of each register that is not 0, in the order of numbers, until that answers an error. What is
+// printed of them is left free, as of doublewords.
+pub fn each_register<F: Fn(usize, u64) -> io::Result<()>>(x: &[u64; 32], show: F) -> io::Result<()>
+    requires { F.IsAlwaysCallable show }
+    ensures { OnOk result ((i : ℕ) → i < 32 → 0 < get_or x.now i 0 → F.post show i (get_or x.now i 0) (Ok tt)) }
+{
+    for (i, &value) in x.iter().enumerate() {
+        if value != 0 {
+            show(i, value)?;
         }
     }
     Ok(())

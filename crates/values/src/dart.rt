@@ -9,7 +9,8 @@ use run::run_call;
 use std::io;
 use std::rt::Files;
 
-// One function for the three modules, from pairs of number and value, would be no plainer than these lines.
+// The three modules have a function each: from pairs of number and value, one for all would still be handed a pair for each of these
+// lines, and which registers a case sets is what its file says.
 fn registers(r: &[u8]) -> [u64; 32] {
     let mut x = [0u64; 32];
     x[1] = 0x180000;

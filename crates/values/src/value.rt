@@ -2,7 +2,7 @@
 // says. Printed are the stop, the count of steps, the address given with the stop and pc, then each register and each
 // doubleword of memory that is not 0.
 use crate::setting::{machine, place_words};
-use columns::{column, each_doubleword, hexadecimal_at, read_file, unpadded};
+use columns::{column, each_doubleword, each_register, hexadecimal_at, read_file, unpadded};
 use memory::bytes::write;
 use run::run_call;
 use std::io;
@@ -23,15 +23,6 @@ fn fill(r: &[u8], mem: &mut [u8; 65536]) {
     write(mem, 0x2000, 8, hexadecimal_at(r, 96, 16));
 }
 
-fn print_registers(rt: &impl Print, x: &[u64; 32]) -> io::Result<()> {
-    for (i, &v) in x.iter().enumerate() {
-        if v != 0 {
-            print!(rt; " x{i}={v:x}")?;
-        }
-    }
-    Ok(())
-}
-
 fn print_case(rt: &impl Print, r: &[u8]) -> io::Result<()> {
     let mut mem = [0u8; 65536];
     fill(r, &mut mem);
@@ -41,7 +32,7 @@ fn print_case(rt: &impl Print, r: &[u8]) -> io::Result<()> {
     let stop = o.stop.number();
     let address = o.stop.address();
     print!(rt; " {stop} {:x} {address:x} {:x}", o.count, o.machine.pc)?;
-    print_registers(rt, &o.machine.x)?;
+    each_register(&o.machine.x, |i, v| print!(rt; " x{i}={v:x}"))?;
     each_doubleword(&mem, |a, v| print!(rt; " {a:x}={v:x}"))?;
     println!(rt)
 }
