@@ -95,9 +95,9 @@ struct koubospar_machine {
 /* ---- stack and cost -------------------------------------------------------------------------------------------- */
 
 /* The bytes of stack that a call takes, what it is called with included: measured by painting, over every stop and every
- * kind of word, and rounded up. `c/try` measures them again and fails where a call takes more. Measured were 4,424 for a
- * step, 3,880 for a run, 576 for a resumption, 11,144 for a turn, 7,248 for putting a machine into a slot, 70,648 for a
- * sheet, 336 and 416 for decoding and encoding, 304 for expanding, 608 for the probe and 944 for a place. No call's stack grows with the memory, the budget or the sheet. */
+ * kind of word, and rounded up. `c/try` measures them again and fails where a call takes more. Measured were 2,864 for a
+ * step, 2,320 for a run, 576 for a resumption, 2,928 for a turn, 32 for putting a machine into a slot, 71,416 for a
+ * sheet, 304 and 384 for decoding and encoding, 352 for expanding, 608 for the probe and 944 for a place. No call's stack grows with the memory, the budget or the sheet. */
 #define KOUBOSPAR_STACK_STEP 3072
 #define KOUBOSPAR_STACK_RUN 2560
 #define KOUBOSPAR_STACK_RESUME 768
