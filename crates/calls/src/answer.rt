@@ -1,4 +1,5 @@
 // What a call answered, and how it is printed.
+use columns::each_register;
 use model::stop::Stop;
 use model::{HfiState, Machine, Ran, Stepped};
 use std::io;
@@ -33,7 +34,7 @@ impl From<Ran> for Answer {
 
 impl Answer {
     // The stop's number and address; both are 0 of a completed step.
-    fn stop(&self) -> (u64, u64) {
+    fn stop_numbers(&self) -> (u64, u64) {
         match self.stop {
             Ok(()) => (0, 0),
             Err(stop) => (stop.number(), stop.address()),
@@ -55,21 +56,11 @@ fn print_state(rt: &impl Print, pc: u64, h: &HfiState) -> io::Result<()> {
     )
 }
 
-// The registers that are not 0.
-fn print_registers(rt: &impl Print, x: &[u64; 32]) -> io::Result<()> {
-    print!(rt; "\nx")?;
-    for (i, &v) in x.iter().enumerate() {
-        if v != 0 {
-            print!(rt; ",{i},{v:x}")?;
-        }
-    }
-    Ok(())
-}
-
-// The stop in decimal, count and address, and the machine afterwards.
+// The stop in decimal, count and address, and the machine afterwards, of its registers those that are not 0.
 pub fn print_answer(rt: &impl Print, a: &Answer) -> io::Result<()> {
-    let (stop, address) = a.stop();
+    let (stop, address) = a.stop_numbers();
     print!(rt; "\nstop,{stop},{:x},{address:x}", a.count)?;
     print_state(rt, a.machine.pc, &a.machine.hfi)?;
-    print_registers(rt, &a.machine.x)
+    print!(rt; "\nx")?;
+    each_register(&a.machine.x, |i, v| print!(rt; ",{i},{v:x}"))
 }

@@ -46,8 +46,8 @@ impl Call {
 fn show(rt: &impl Print, c: &Lines) -> io::Result<()> {
     let mut mem = [0u8; 65536];
     fill(c.memory, &mut mem);
-    let (_, [_, n, argument, lent]) = read_row::<4>(c.call);
-    let lent = mem.len().min(lent.value as usize);
+    let (_, [_, n, argument, length]) = read_row::<4>(c.call);
+    let lent = mem.len().min(length.value as usize);
     let call = Call::numbered(n.value, argument.value);
     let answer = call.make(machine(c), &mut mem[..lent]);
     rt.write_all(c.name)?;
@@ -57,7 +57,7 @@ fn show(rt: &impl Print, c: &Lines) -> io::Result<()> {
     println!(rt)
 }
 
-// Makes each call of a text.
+// Makes each call of a text. `iter::from_fn` would be no plainer: its closure would carry what is left, whose length ends this loop.
 fn show_all(rt: &impl Print, s: &[u8]) -> io::Result<()> {
     let mut left = s;
     while let Some((call, after)) = split_call(left) {

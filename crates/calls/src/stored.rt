@@ -45,7 +45,8 @@ pub fn split_call(s: &[u8]) -> Option<(Lines<'_>, &[u8])>
     Some((lines, left))
 }
 
-// The first field of a line, and what follows its comma; both are empty of an empty line.
+// The first field of a line, and what follows its comma; both are empty of an empty line. It is not `split_line` with another
+// separator: that answers None of an empty text, and an empty line still has a field.
 fn split_field(line: &[u8]) -> (&[u8], &[u8])
     ensures { length result.1.now ≤ length line.now - 1 }
 {
@@ -53,7 +54,8 @@ fn split_field(line: &[u8]) -> (&[u8], &[u8])
     (front(line, end), rest(line, end + 1))
 }
 
-// Hands on the pairs of fields that follow a line's first field.
+// Hands on the pairs of fields that follow a line's first field. `line.split` would be no plainer: it hands out one field at a time, and
+// the loop would keep the first of each pair.
 fn each_pair<F: FnMut(&[u8], &[u8])>(line: &[u8], mut take: F)
     requires { F.IsAlwaysCallable take }
 {

@@ -13,7 +13,7 @@ use instructions::instruction::Instruction;
 use std::io;
 use std::rt::Files;
 
-// Document 01's number.
+// Document 01's number. There are these two, and an enum for them would have this same match.
 fn number_of(d: Option<Instruction>) -> u64
     ensures { result ≡ decode_number d }
 {
@@ -43,7 +43,7 @@ fn print_records(
 {
     let mut room = [0u8; 131072];
     for r in read_file(rt, path, &mut room).chunks_exact(record_size) {
-        let w = (hexadecimal_at(r, 0, 8) % 4294967296) as u32;
+        let w = (hexadecimal_at(r, 0, 8) % (1 << 32)) as u32;
         rt.write_all(column(r, 9, 24))?;
         print_word(rt, w)?;
     }

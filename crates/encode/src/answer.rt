@@ -1,7 +1,7 @@
 // The answer of encoding as text.
 use std::fmt;
 
-// Eight hexadecimal digits, or that a field is out of range.
+// Eight hexadecimal digits, or that a field is out of range. What is written is left free: the stored output of decode_words has it.
 #[derive(Clone, Copy)]
 pub struct Encoding(pub Option<u32>);
 

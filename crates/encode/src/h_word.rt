@@ -13,7 +13,8 @@ use instructions::kind::{LoadKind, StoreKind};
 use instructions::opcode::{H_LOAD, H_STORE};
 use words::{bits, fits_signed, put};
 
-// The choice that means an explicit region; for any other it is their count, which two bits cannot hold.
+// The choice that means an explicit region; for any other it is their count, which two bits cannot hold. No Option: the definitions
+// of both register fields have the count there, so each caller would put it back.
 fn choice_of(region: u64) -> u64
     ensures { result ≡ place_in explicit_regions region }
 {
@@ -27,6 +28,8 @@ pub fn h_word_in_range(region: u64, a: u64, b: u64, imm: u64) -> bool
     choice_of(region) < 4 && a < 16 && b < 16 && fits_signed(imm, 12)
 }
 
+// Of the choice this field has bit 1 and `other_field` bit 0. One function with the bit as a parameter would be no plainer: each call
+// would give the bit in place of the field's name, and each is held to its own definition.
 fn rs1_field(region: u64, register: u64) -> u64
     requires { register < 2 ^ 4 }
     ensures { result ≡ rs1_field region register }
@@ -42,6 +45,7 @@ fn other_field(region: u64, register: u64) -> u64
     put(register, bits(choice_of(region), 0, 1), 4)
 }
 
+// Loads and stores stay two: they are of two formats, and their register fields stand in two orders.
 pub fn h_load_fields(k: LoadKind, region: u64, rd: u64, rs1: u64, imm: u64) -> Fields
     requires { (rd < 2 ^ 4) × (rs1 < 2 ^ 4) }
     ensures { result ≡ encode_fields (HLoad k region rd rs1 imm) }

@@ -20,6 +20,9 @@ use instructions::kind::{
 };
 use words::{bits, put};
 
+// That h is a half-word, and the fields that the caller looked at, stand in the contracts of the quadrants and their parts: each is one
+// more case of the same analysis, and a struct would carry only the first of these facts.
+
 // The register, of x8 to x15, that three bits name.
 fn short(h: u64, at: u64) -> u64
     requires { at < 64 }

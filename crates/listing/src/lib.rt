@@ -1,4 +1,5 @@
-// The listing of each group: the instruction that stands under a code.
+// The listing of each group: the instruction that stands under a code. Thirteen functions stay: a generic one would be
+// `of_code(..).map(..)` itself, and each is held to the definition of its own group.
 #![tactic(auto)]
 
 ghost use Rattle.std.specs.Prelude.{◌≡◌, true, false};

@@ -7,6 +7,7 @@ use input::{fail, read_stored};
 use std::rt::Files;
 use std::{io, str};
 
+// run_sheet has these lines too. They stay: here the name stands between them, and there a failed print is told, not answered.
 fn print_answer(rt: &impl Print, name: &str, sheet: &[u8]) -> io::Result<()> {
     let mut answer = [0u8; respond::MOST];
     let r = respond::respond(sheet, &mut answer);

@@ -8,10 +8,11 @@ use scheduler::{Refusal, Scheduler, Turned};
 use std::fmt::{self, Display};
 use std::io;
 use std::rt::Files;
-use stored::{RECORD, ROOM, Record, fill, read_record};
+use stored::{MEMORY, RECORD, Record, fill, read_record};
 use turn::{put_call, turn_call};
 
-// What a turn answered: slot, stop, count and address, of which slot and stop are decimal.
+// What a turn answered: slot, stop, count and address, of which slot and stop are decimal. What is written is left free: the stored
+// output has it.
 #[derive(Drop)]
 struct Answer(Result<Option<Turned>, Refusal>);
 
@@ -32,8 +33,11 @@ impl Display for Answer {
 // Place and total, and of each slot its stop, pc and x5.
 fn print_state(rt: &impl Print, s: &Scheduler) -> io::Result<()> {
     print!(rt; ",{:x},{:x}", s.place, s.total)?;
-    for d in &s.slots {
-        print!(rt; ",{},{:x},{:x}", d.stop, d.machine.pc, d.machine.x[5])?;
+    for slot in &s.slots {
+        print!(rt;
+            ",{},{:x},{:x}",
+            slot.stop, slot.machine.pc, slot.machine.x[5]
+        )?;
     }
     println!(rt)
 }
@@ -44,7 +48,7 @@ fn take_turn(
     r: &Record,
     allowance: u64,
     s: &mut Scheduler,
-    mem: &mut [u8; ROOM],
+    mem: &mut [u8; MEMORY],
 ) -> io::Result<()> {
     let lent = mem.len().min(r.length as usize);
     let answer = Answer(turn_call(s, &mut mem[..lent], allowance));
@@ -63,7 +67,7 @@ fn put(rt: &impl Print, r: &Record, s: &mut Scheduler) -> io::Result<()> {
 // The turns of a record, its put after one of them, and the memory that they left, all there is room for: a turn that reached past
 // its memory would show here.
 fn show(rt: &impl Print, r: &Record) -> io::Result<()> {
-    let mut mem = [0u8; ROOM];
+    let mut mem = [0u8; MEMORY];
     fill(&r.doublewords, &mut mem);
     let mut s = r.scheduler;
     for (n, &allowance) in (1..=r.turns).zip(&r.allowances) {

@@ -16,7 +16,7 @@ const NUMBERS: usize = 82;
 pub const RECORD: usize = NAME + DIGITS * NUMBERS + 1;
 
 // The bytes of memory, of which a turn is lent the first ones.
-pub const ROOM: usize = 256;
+pub const MEMORY: usize = 256;
 
 // What a record says, in its order.
 #[derive(Clone, Copy)]
@@ -25,6 +25,7 @@ pub struct Record<'a> {
     pub scheduler: Scheduler,
     pub doublewords: [u64; 8],
     pub length: u64,
+    // Each record has six columns of allowances, of which so many are turns to make: their number is a column too.
     pub turns: u64,
     pub allowances: [u64; 6],
     pub put_after: u64,
@@ -48,24 +49,24 @@ struct Numbers<'a> {
 }
 
 impl<'a> Numbers<'a> {
-    fn next(&mut self) -> u64 {
+    fn next_number(&mut self) -> u64 {
         let n = number(front(self.left, DIGITS), 16);
         self.left = rest(self.left, DIGITS);
         n
     }
 
-    fn take<const N: usize>(&mut self) -> [u64; N] {
+    fn next_numbers<const N: usize>(&mut self) -> [u64; N] {
         let mut taken = [0; N];
         for n in &mut taken {
-            *n = self.next();
+            *n = self.next_number();
         }
         taken
     }
 
     // A slot of three regions, whose machine has two registers; what a record does not say is 0.
-    fn slot(&mut self) -> Slot {
-        let [stop, pc, x5, x6, options, mode] = self.take::<6>();
-        let regions = regions_from(&self.take::<9>(), 0, 3);
+    fn next_slot(&mut self) -> Slot {
+        let [stop, pc, x5, x6, options, mode] = self.next_numbers::<6>();
+        let regions = regions_from(&self.next_numbers::<9>(), 0, 3);
         let mut x = [0u64; 32];
         x[5] = x5;
         x[6] = x6;
@@ -81,11 +82,11 @@ impl<'a> Numbers<'a> {
         }
     }
 
-    fn scheduler(&mut self) -> Scheduler {
-        let [count, place, total] = self.take::<3>();
+    fn next_scheduler(&mut self) -> Scheduler {
+        let [count, place, total] = self.next_numbers::<3>();
         let mut slots = [Slot::default(); SLOTS];
         for slot in &mut slots {
-            *slot = self.slot();
+            *slot = self.next_slot();
         }
         Scheduler {
             slots,
@@ -100,11 +101,11 @@ pub fn read_record(r: &[u8]) -> Record<'_> {
     let mut numbers = Numbers {
         left: rest(r, NAME),
     };
-    let scheduler = numbers.scheduler();
-    let doublewords = numbers.take();
-    let [length, turns] = numbers.take::<2>();
-    let allowances = numbers.take();
-    let [put_after, put_from, put_into] = numbers.take::<3>();
+    let scheduler = numbers.next_scheduler();
+    let doublewords = numbers.next_numbers();
+    let [length, turns] = numbers.next_numbers::<2>();
+    let allowances = numbers.next_numbers();
+    let [put_after, put_from, put_into] = numbers.next_numbers::<3>();
     Record {
         name: unpadded(column(r, 0, NAME)),
         scheduler,
@@ -119,7 +120,7 @@ pub fn read_record(r: &[u8]) -> Record<'_> {
 }
 
 // The doublewords put into memory from 0 on.
-pub fn fill(doublewords: &[u64; 8], mem: &mut [u8; ROOM]) {
+pub fn fill(doublewords: &[u64; 8], mem: &mut [u8; MEMORY]) {
     for (i, &v) in doublewords.iter().enumerate() {
         write(mem, 8 * i as u64, 8, v);
     }

@@ -1,5 +1,5 @@
 // Bits of 64-bit words. The codec takes words apart and puts them together by these functions. A number and its width stay two
-// parameters: the width is a constant at each call, so a struct of both would be made there only to be taken apart here.
+// parameters: the number is a plain u64 before and after, so a struct of both would be made at each call only to be taken apart here.
 #![tactic(auto)]
 
 ghost use Rattle.std.specs.Prelude.{◌≡◌, ◌+◌, ◌-◌, ◌*◌, ◌^◌, ◌<◌, ◌≤◌, not, int_lt};
