@@ -1,14 +1,14 @@
 // "The oven's main loop keeps one machine record and lends it to each call, which updates it there."
 ghost use Rattle.std.specs.Prelude.{◌≡◌};
-ghost use Rattle.model.specs.Stops.{number_of, address_of};
+ghost use Rattle.model.specs.Stops.{number_of, address_of, stop_number, stop_address};
 ghost use Rattle.model.specs.Outcome.{stepped_with};
 ghost use Rattle.model.specs.Step.{step_call, resume_call};
 ghost use Rattle.model.specs.Run.{ran_with, run_call};
 ghost use Rattle.koubospar.specs.Lent.{stop_with, run_stop_with};
 
 use crate::single::single_step;
-use model::Machine;
 use model::stop::Stop;
+use model::{Machine, Ran};
 use step::call::resume_call;
 
 // What a step or a resumption of a lent machine answers: the documents' number, and the absent address of 12 and 17. The answers here are
@@ -46,6 +46,20 @@ pub struct RunStop {
     pub address: u64,
 }
 
+impl From<Ran> for RunStop {
+    ghost from_gives = { λ r s. s ≡ record { stop = stop_number r.stop; count = r.count; address = stop_address r.stop } };
+
+    fn from(r: Ran) -> RunStop {
+        RunStop {
+            stop: r.stop.number(),
+            count: r.count,
+            address: r.stop.address(),
+        }
+    }
+}
+
+// The machine is copied out and back: document 01 asks for thin functions over the by-value step and run.
+
 // One step.
 pub fn koubospar_step(m: &mut Machine, mem: &mut [u8]) -> StepStop
     ensures { stepped_with (stop_with result m.new) mem.new ≡ step_call m.old mem.old }
@@ -61,11 +75,7 @@ pub fn koubospar_run(m: &mut Machine, mem: &mut [u8], budget: u64) -> RunStop
 {
     let r = run::run_call(*m, mem, budget);
     *m = r.machine;
-    RunStop {
-        stop: r.stop.number(),
-        count: r.count,
-        address: r.stop.address(),
-    }
+    RunStop::from(r)
 }
 
 // `v` in x10, and pc past the word that it stands at: meant for stop 18.

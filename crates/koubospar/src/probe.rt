@@ -64,11 +64,12 @@ pub fn koubospar_probe() -> Machine
     Machine { x, pc: 1032, hfi }
 }
 
-// What stands in place i of the registers, pc and the HFI state before its regions.
-fn in_hart(m: Machine, i: u64) -> u64
-    ensures { result ≡ lookup 0 (in_hart m) i }
+// What stands in place i of the registers, pc and the HFI state before its regions. Here and below 0 for no such place: C has
+// no Option.
+fn in_hart(m: &Machine, i: u64) -> u64
+    ensures { result ≡ lookup 0 (in_hart m.now) i }
 {
-    let hfi = m.hfi;
+    let hfi = &m.hfi;
     match i {
         0 => m.x[0],
         31 => m.x[31],
@@ -110,15 +111,13 @@ fn in_fault(f: Fault, i: u64) -> u64
 pub fn koubospar_place(m: Machine, i: u64) -> u64
     ensures { result ≡ at_place m i }
 {
-    let hfi = m.hfi;
-    let regions = hfi.regions;
-    let fault = hfi.fault;
+    let hfi = &m.hfi;
     if i < FIRST_REGION {
-        return in_hart(m, i);
+        return in_hart(&m, i);
     }
     if i < FIRST_FAULT {
         let k = i - FIRST_REGION;
-        return in_region(regions[(k / 3) as usize], k % 3);
+        return in_region(hfi.regions[(k / 3) as usize], k % 3);
     }
-    in_fault(fault, i - FIRST_FAULT)
+    in_fault(hfi.fault, i - FIRST_FAULT)
 }

@@ -1,12 +1,14 @@
 // Several machines in turn: the main loop keeps the slots and lends them to each turn, which updates them there.
 ghost use Rattle.std.specs.Prelude.{◌≡◌};
+ghost use Rattle.model.specs.Stops.{stop_number, stop_address};
 ghost use Rattle.scheduler.specs.Turn.{turned_with, turn_call, put_call};
 ghost use Rattle.koubospar.specs.Lent.{turn_stop_with, put_with};
 
 use model::Machine;
-use scheduler::Scheduler;
+use scheduler::{Scheduler, Turned};
 
-// What a turn of lent slots answers: the slot whose turn it was, and its run's stop, count and address.
+// What a turn of lent slots answers: the slot whose turn it was, and its run's stop, count and address. Numbers, since an enum cannot
+// cross to C; slot 0 is none.
 #[repr(C)]
 #[derive(Clone, Copy, Default)]
 pub struct TurnStop {
@@ -16,17 +18,25 @@ pub struct TurnStop {
     pub address: u64,
 }
 
+impl From<Turned> for TurnStop {
+    ghost from_gives = { λ t s. s ≡ record { slot = t.slot; stop = stop_number t.stop; count = t.count; address = stop_address t.stop } };
+
+    fn from(t: Turned) -> TurnStop {
+        TurnStop {
+            slot: t.slot,
+            stop: t.stop.number(),
+            count: t.count,
+            address: t.stop.address(),
+        }
+    }
+}
+
 // One turn.
 pub fn koubospar_turn(s: &mut Scheduler, mem: &mut [u8], allowance: u64) -> TurnStop
     ensures { turned_with (turn_stop_with result s.new) mem.new ≡ turn_call s.old mem.old allowance }
 {
     match turn::turn_call(s, mem, allowance) {
-        Ok(Some(t)) => TurnStop {
-            slot: t.slot,
-            stop: t.stop.number(),
-            count: t.count,
-            address: t.stop.address(),
-        },
+        Ok(Some(t)) => TurnStop::from(t),
         Ok(None) => TurnStop::default(),
         Err(refusal) => TurnStop {
             stop: refusal.number(),

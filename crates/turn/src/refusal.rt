@@ -2,7 +2,7 @@
 ghost use Rattle.std.specs.Prelude.{◌≡◌, ◌≤◌};
 ghost use Rattle.scheduler.specs.Turn.{most_slots, slot_refusal, slots_refusal, refusal as refusal_of, refused_number};
 
-use crate::order::{slot_at, stopped, within};
+use crate::order::{stopped, within};
 use hart::state::locked;
 use hart::well_formed::well_formed;
 use model::LONGEST;
@@ -34,8 +34,8 @@ fn slots_refusal(slots: &[Slot; SLOTS], count: u64) -> Result<(), Refusal>
     requires { count ≤ most_slots }
     ensures { refused_number result ≡ slots_refusal slots.now count 1 }
 {
-    for i in 0..count {
-        slot_refusal(&slot_at(slots, i + 1))?;
+    for d in &slots[..count as usize] {
+        slot_refusal(d)?;
     }
     Ok(())
 }
