@@ -16,6 +16,7 @@ use words::integer::{
 };
 use words::{bits, shift_right_signed, sign_extend, signed_less};
 
+// What a comparison puts into rd. Named as the definition is, and no plainer written out each time.
 fn flag(t: bool) -> u64
     ensures { result ≡ flag_of t }
 {

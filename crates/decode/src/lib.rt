@@ -83,6 +83,7 @@ fn chosen_region(rs1: u64, other: u64) -> u64
     }
 }
 
+// A load and a store stay two: they are of two formats, and choose their region by two other fields.
 fn decode_h_load(w: Word) -> Option<Instruction>
     ensures { result ≡ decode_h_load w.fields }
 {

@@ -40,7 +40,7 @@ fn system(m: &mut Machine, k: SystemKind) -> Result<(), Stop>
     }
 }
 
-// One instruction, question 8 first; `next` is the pc after it.
+// One instruction, question 8 first; `next` is the pc after it. An arm for each group, so longer than other functions.
 #[tactic(auto, using(crate::proofs::Ranges::below, model::proofs::Stops::rule_stops), unfolding(model::specs::Step::perform, model::specs::Step::execute_instruction, model::specs::Outcome::allowed, model::specs::Hfi::hfi_stop))]
 pub fn execute(m: &mut Machine, mem: &mut [u8], next: u64, i: Instruction) -> Result<(), Stop>
     requires { in_range i ≡ true }

@@ -22,7 +22,7 @@ fn chosen(h: &HfiState, c: Choice) -> bool
     bits(h.options, c.bit(), 1) == 1
 }
 
-// Are the regions locked?
+// Are the regions locked? One function for each question of the documents, over the one that reads a bit.
 pub fn locked(h: &HfiState) -> bool
     ensures { result ≡ is_locked h.now }
 {

@@ -44,7 +44,7 @@ fn leave(m: &mut Machine, next: u64)
     exit(&mut m.hfi, Reason::Exit, pc);
 }
 
-// What a word that nothing forbids does; the target of an enter with jump is to be a multiple of 2.
+// What a word that nothing forbids does; the target of an enter with jump is to be a multiple of 2. An arm for each word.
 #[tactic(auto, unfolding(model::specs::Hfi::hfi_perform, model::specs::Outcome::aligned))]
 fn perform(m: &mut Machine, next: u64, k: HfiKind, rd: u64, rs1: u64, rs2: u64) -> Result<(), Stop>
     requires { (rd < 32) × (rs1 < 32) × (rs2 < 32) }

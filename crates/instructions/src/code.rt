@@ -1,5 +1,5 @@
 // Kinds and their codes, both ways: the numbers of their function fields, of their opcode, or document 01's funct7. Each stands
-// twice, and is proved the same. As discriminants of the kinds they cost the loop of steps up to five instructions more a step.
+// twice, and is proved the same. As discriminants of the kinds they cost the loop of steps up to five instructions more a step. A table each, since no two kinds have the same codes.
 ghost use Rattle.std.specs.Prelude.{◌≡◌, List, ℕ, Some, None};
 ghost use Rattle.instructions.specs.Table.{of_code, Found};
 ghost use Rattle.instructions.specs.Kinds.{upper_code, upper_kinds, branch_code, branch_kinds, load_code, load_kinds, store_code, store_kinds, immediate_code, immediate_kinds, shift_code, shift_kinds, shift_word_code, shift_word_kinds, register_code, register_kinds, register_word_code, register_word_kinds, system_code, system_kinds, hfi_code, hfi_kinds};

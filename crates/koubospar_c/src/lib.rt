@@ -1,5 +1,5 @@
 // What C calls of koubospar. The exports stand apart from it, since a static library can be no crate's base: each is one call of
-// the library's function of that name, with its clauses. None has a condition that a caller must meet beyond C's own:
+// the library's function of that name, with its clauses: C names each, so there is one function for each name. None has a condition that a caller must meet beyond C's own:
 // valid pointers, no overlap.
 #![tactic(auto)]
 

@@ -1,5 +1,6 @@
 // Loads and stores, ordinary and h-prefixed: questions 10 and 11, and what they do. A load and a store stay two functions: they ask for another
 // permission, take another kind, and one is lent the memory to write. Machine and memory stay two parameters, as C lends them.
+// That an immediate has 12 bits stays a `requires` here and below: it is a field of an enum that anyone can make, so no type carries it.
 #![tactic(auto)]
 
 ghost use Rattle.std.specs.Prelude.{◌≡◌, true, ◌+◌, ◌<◌, ◌≤◌, length};

@@ -18,7 +18,7 @@ fn read_bytes<const N: usize>(mem: &[u8], a: usize) -> u64
     v
 }
 
-// The number that `n` bytes from `a` on make. Each arm gives the loop its width as a constant.
+// The number that `n` bytes from `a` on make. Each arm gives the loop its width as a constant. (A width is a number: `width` says why.)
 pub fn read(mem: &[u8], a: u64, n: u64) -> u64
     requires { IsWidth n × (a + n ≤ length mem.now) }
     ensures { (result ≡ value mem.now a 0 n) × (result < 2 ^ (8 * n)) }

@@ -9,7 +9,6 @@ pub mod stop;
 
 // The explicit regions: an h-word chooses among them.
 pub use instructions::instruction::EXPLICIT_REGIONS;
-
 use stop::Stop;
 
 // The longest memory and the largest budget that a call takes.
@@ -39,7 +38,8 @@ pub struct Region {
     pub permission: u64,
 }
 
-// "Fault record: occurred (0 or 1), region, op (0 none, 1 load, 2 store, 3 fetch), and the address".
+// "Fault record: occurred (0 or 1), region, op (0 none, 1 load, 2 store, 3 fetch), and the address". A number for the op, since
+// C declares this record and a caller can hand in any.
 #[repr(C)]
 #[derive(Clone, Copy, Default)]
 pub struct Fault {

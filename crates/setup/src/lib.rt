@@ -46,7 +46,8 @@ fn regions_given(count: usize) -> usize
     }
 }
 
-// The budget's place in a line that gives n regions.
+// The budget's place in a line that gives n regions. (That n is no more than the record keeps stays a `requires`: n is 3 or all of them, and a
+// type for it would be taken apart at each use.)
 fn budget_field(n: usize) -> usize
     requires { n ≤ last_region }
     ensures { result ≡ budget_field n }
