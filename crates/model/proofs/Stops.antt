@@ -1,13 +1,20 @@
--- No stop and no broken rule has the number 0, which a completed step answers.
+-- No stop, no refusal of a call and no broken rule has the number 0, which a completed step answers.
 -- Assumes nothing.
 use Rattle.std.proofs.Common.{◌≡◌, false, eqb, refl}
 use borrow.Author.Tests.{eqb-false}
-use Rattle.model.specs.Stops.{number_of_rule, stop_number}
+use Rattle.model.specs.Stops.{call_refusal_number, number_of_rule, stop_number}
 use Rattle.model.specs.declared.stop.Op.TheVariants.{Load, Store, Fetch}
+use Rattle.model.specs.declared.stop.CallRefusal.{CallRefusal}
+use Rattle.model.specs.declared.stop.CallRefusal.TheVariants.{MemoryTooLong, NotWellFormed, WritableCode}
 use Rattle.model.specs.declared.stop.Rule.{Rule}
 use Rattle.model.specs.declared.stop.Rule.TheVariants.{Operand, WritableCode as EntersWritableCode, AlreadyInside, NotInside, Locked}
 use Rattle.model.specs.declared.stop.Stop.{Stop}
-use Rattle.model.specs.declared.stop.Stop.TheVariants.{MemoryTooLong, BudgetTooLarge, NotWellFormed, WritableCode, OddPc, AccessRefused, AccessAbsent, IllegalWord, Broken, OddTarget, SystemCall, Breakpoint, LeftSandbox, OutOfBudget}
+use Rattle.model.specs.declared.stop.Stop.TheVariants.{CallRefused, BudgetTooLarge, OddPc, AccessRefused, AccessAbsent, IllegalWord, Broken, OddTarget, SystemCall, Breakpoint, LeftSandbox, OutOfBudget}
+
+pub call_refusal_stops : (r : CallRefusal) → eqb (call_refusal_number r) 0 ≡ false
+call_refusal_stops MemoryTooLong = refl
+call_refusal_stops NotWellFormed = refl
+call_refusal_stops WritableCode = refl
 
 pub rule_stops : (r : Rule) → eqb (number_of_rule r) 0 ≡ false
 rule_stops Operand = refl
@@ -17,10 +24,8 @@ rule_stops NotInside = refl
 rule_stops Locked = refl
 
 pub stops : (s : Stop) → eqb (stop_number s) 0 ≡ false
-stops MemoryTooLong = refl
+stops (CallRefused refusal) = call_refusal_stops refusal
 stops BudgetTooLarge = refl
-stops NotWellFormed = refl
-stops WritableCode = refl
 stops OddPc = refl
 stops (AccessRefused Load) = refl
 stops (AccessRefused Store) = refl

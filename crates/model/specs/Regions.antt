@@ -1,6 +1,6 @@
 -- Document 01, "Regions": each kind's rule, which bytes a region matches, and which region decides.
 -- Region is declared in src/lib.rt, Permission in src/permission.rt. Assumes nothing.
-use Rattle.std.specs.Prelude.{Bool, true, cond, not, ◌&&◌, List, [], ◌∷◌, ℕ, ◌+◌, ◌-◌, ◌/◌, ◌%◌, ◌^◌, eqb, leb, ℤ, pos, ◌+ℤ◌}
+use Rattle.std.specs.Prelude.{Bool, cond, not, ◌&&◌, List, [], ◌∷◌, ℕ, ◌+◌, ◌-◌, ◌/◌, ◌%◌, ◌^◌, eqb, leb, ℤ, pos, ◌+ℤ◌}
 use Rattle.std.specs.Int.Bits.{bit_and}
 use Rattle.std.specs.Int.Count.{count_trailing_zeros}
 use Rattle.std.specs.Int.Signed.{le_z, lt_z}

@@ -1,16 +1,18 @@
 -- The documents' number and address of each stop of src/stop.rt: "When an answer is an enum, a definition gives this paper's number
 -- and values for each enum case. The promises use this definition." The questions and their numbers stand in Step.antt, Hfi.antt and Run.antt.
--- Op, Rule and Stop are declared in src/stop.rt. Assumes nothing.
+-- Op, CallRefusal, Rule and Stop are declared in src/stop.rt. Assumes nothing.
 use Rattle.std.specs.Prelude.{ℕ, Result, Ok, Err, ⊤}
 use Rattle.model.specs.Machine.{load_op, store_op, fetch_op}
 use Rattle.model.specs.declared.stop.Op.{Op}
 use Rattle.model.specs.declared.stop.Op.TheVariants.{Load, Store, Fetch}
 use Rattle.model.specs.declared.stop.Reason.{Reason}
 use Rattle.model.specs.declared.stop.Reason.TheVariants.{Exit, SystemCall as SystemCallReason}
+use Rattle.model.specs.declared.stop.CallRefusal.{CallRefusal}
+use Rattle.model.specs.declared.stop.CallRefusal.TheVariants.{MemoryTooLong, NotWellFormed, WritableCode}
 use Rattle.model.specs.declared.stop.Rule.{Rule}
 use Rattle.model.specs.declared.stop.Rule.TheVariants.{Operand, WritableCode as EntersWritableCode, AlreadyInside, NotInside, Locked}
 use Rattle.model.specs.declared.stop.Stop.{Stop}
-use Rattle.model.specs.declared.stop.Stop.TheVariants.{MemoryTooLong, BudgetTooLarge, NotWellFormed, WritableCode, OddPc, AccessRefused, AccessAbsent, IllegalWord, Broken, OddTarget, SystemCall, Breakpoint, LeftSandbox, OutOfBudget}
+use Rattle.model.specs.declared.stop.Stop.TheVariants.{CallRefused, BudgetTooLarge, OddPc, AccessRefused, AccessAbsent, IllegalWord, Broken, OddTarget, SystemCall, Breakpoint, LeftSandbox, OutOfBudget}
 
 -- "0 none, 1 load, 2 store, 3 fetch"
 abbrev pub op_number : Op → ℕ
@@ -35,6 +37,12 @@ absent_number Load = 17
 absent_number Store = 17
 absent_number Fetch = 12
 
+-- questions 1, 3 and 4
+abbrev pub call_refusal_number : CallRefusal → ℕ
+call_refusal_number MemoryTooLong = 1
+call_refusal_number NotWellFormed = 3
+call_refusal_number WritableCode = 4
+
 -- question 8: 14, and what document 02 made of some of its rules
 abbrev pub number_of_rule : Rule → ℕ
 number_of_rule Operand = 14
@@ -44,10 +52,8 @@ number_of_rule NotInside = 24
 number_of_rule Locked = 25
 
 abbrev pub stop_number : Stop → ℕ
-stop_number MemoryTooLong = 1
+stop_number (CallRefused refusal) = call_refusal_number refusal
 stop_number BudgetTooLarge = 2
-stop_number NotWellFormed = 3
-stop_number WritableCode = 4
 stop_number OddPc = 10
 stop_number (AccessRefused op) = refused_number op
 stop_number (AccessAbsent op at) = absent_number op
@@ -61,10 +67,8 @@ stop_number OutOfBudget = 21
 
 -- "12 and 17 also give the first absent address .. all others give 0 there"
 abbrev pub stop_address : Stop → ℕ
-stop_address MemoryTooLong = 0
+stop_address (CallRefused refusal) = 0
 stop_address BudgetTooLarge = 0
-stop_address NotWellFormed = 0
-stop_address WritableCode = 0
 stop_address OddPc = 0
 stop_address (AccessRefused op) = 0
 stop_address (AccessAbsent op at) = at

@@ -1,7 +1,7 @@
 // Why a step or a call ended, by name. specs/Stops.antt gives each the documents' number and address.
-ghost use Rattle.std.specs.Prelude.{◌≡◌};
-ghost use Rattle.model.specs.Stops.{op_number, reason_number, refused_number, absent_number, number_of_rule, stop_number, stop_address};
-ghost use Rattle.model.specs.declared.stop.Stop.TheVariants.{Broken};
+ghost use Rattle.std.specs.Prelude.{◌≡◌, cond, Ok, Err};
+ghost use Rattle.model.specs.Stops.{op_number, reason_number, refused_number, absent_number, call_refusal_number, number_of_rule, stop_number, stop_address};
+ghost use Rattle.model.specs.declared.stop.Stop.TheVariants.{CallRefused, Broken};
 
 // The fault record's ops but for 0, which is none.
 #[derive(Clone, Copy, PartialEq, Eq)]
@@ -16,6 +16,14 @@ pub enum Op {
 pub enum Denied {
     Refused(u64, u64),
     Absent(u64),
+}
+
+// What refuses a step, a run or a turn before it begins: questions 1, 3 and 4.
+#[derive(Clone, Copy, PartialEq, Eq)]
+pub enum CallRefusal {
+    MemoryTooLong = 1,
+    NotWellFormed = 3,
+    WritableCode = 4,
 }
 
 // The rules of question 8.
@@ -38,10 +46,8 @@ pub enum Reason {
 // What ends a step, a run or the call itself.
 #[derive(Clone, Copy, PartialEq, Eq)]
 pub enum Stop {
-    MemoryTooLong,
+    CallRefused(CallRefusal),
     BudgetTooLarge,
-    NotWellFormed,
-    WritableCode,
     OddPc,
     AccessRefused(Op),
     AccessAbsent(Op, u64), // with the first absent address
@@ -54,12 +60,27 @@ pub enum Stop {
     OutOfBudget,
 }
 
+impl From<CallRefusal> for Stop {
+    ghost from_gives = { λ refusal stop. stop ≡ CallRefused refusal };
+
+    fn from(refusal: CallRefusal) -> Stop {
+        Stop::CallRefused(refusal)
+    }
+}
+
 impl From<Rule> for Stop {
     ghost from_gives = { λ rule stop. stop ≡ Broken rule };
 
     fn from(rule: Rule) -> Stop {
         Stop::Broken(rule)
     }
+}
+
+// One question: refused with `or` where its answer is no.
+pub fn keep<E: Copy>(kept: bool, or: E) -> Result<(), E>
+    ensures { result ≡ cond kept (Ok tt) (Err or) }
+{
+    if kept { Ok(()) } else { Err(or) }
 }
 
 impl Op {
@@ -91,6 +112,14 @@ impl Reason {
     }
 }
 
+impl CallRefusal {
+    pub fn number(self) -> u64
+        ensures { result ≡ call_refusal_number self }
+    {
+        self as u64
+    }
+}
+
 impl Rule {
     fn number(self) -> u64
         ensures { result ≡ number_of_rule self }
@@ -104,10 +133,8 @@ impl Stop {
         ensures { result ≡ stop_number self }
     {
         match self {
-            Stop::MemoryTooLong => 1,
+            Stop::CallRefused(refusal) => refusal.number(),
             Stop::BudgetTooLarge => 2,
-            Stop::NotWellFormed => 3,
-            Stop::WritableCode => 4,
             Stop::OddPc => 10,
             Stop::AccessRefused(op) => op.refused(),
             Stop::AccessAbsent(op, _) => op.absent(),

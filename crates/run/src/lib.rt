@@ -7,11 +7,10 @@ ghost use Rattle.model.specs.Run.{run, run_answer, ran_with, run_call};
 ghost use Rattle.run.specs.End.{end_with};
 
 use hart::state::inside;
-use hart::well_formed::well_formed;
-use model::stop::Stop;
-use model::{LARGEST_BUDGET, LONGEST, Machine, Ran};
+use model::stop::{Stop, keep};
+use model::{LARGEST_BUDGET, Machine, Ran};
+use step::call::{ask_machine, ask_memory};
 use step::step;
-use writable_code::exposes_code;
 
 // What ended a run, and the count of completed steps.
 #[derive(Clone, Copy)]
@@ -43,31 +42,25 @@ fn run(m: &mut Machine, mem: &mut [u8], budget: u64) -> End
     }
 }
 
-// A run that is refused. (An `End`, since a run answers its count with every stop.)
-fn refused(stop: Stop) -> End
-    ensures { result ≡ record { stop = stop; count = 0 } }
+// What a run is refused for, 1 to 4 in this order.
+fn ask(m: &Machine, size: usize, budget: u64) -> Result<(), Stop>
+    ensures { number_of result ≡ cond (ltb longest size) 1 (cond (ltb largest_budget budget) 2 (cond (is_well_formed m.now) (cond (is_exposed m.now.hfi) 4 0) 3)) }
 {
-    End { stop, count: 0 }
+    ask_memory(size)?;
+    keep(budget <= LARGEST_BUDGET, Stop::BudgetTooLarge)?;
+    ask_machine(m)?;
+    Ok(())
 }
 
-// What a run is refused for, 1 to 4 in this order, and the run. That some byte is writable code is asked once: no step brings it about (`run_is_step_calls` in model/proofs/Runs.antt).
+// What a run is refused for, and the run. That some byte is writable code is asked once: no step brings it about (`run_is_step_calls` in model/proofs/Runs.antt).
 #[tactic(auto, unfolding(model::specs::Run::run_call))]
 fn checked_run(m: &mut Machine, mem: &mut [u8], budget: u64) -> End
     ensures { ran_with (end_with result m.new) mem.new ≡ run_call m.old mem.old budget }
 {
-    if LONGEST < mem.len() {
-        return refused(Stop::MemoryTooLong);
+    match ask(m, mem.len(), budget) {
+        Ok(()) => run(m, mem, budget),
+        Err(stop) => End { stop, count: 0 },
     }
-    if LARGEST_BUDGET < budget {
-        return refused(Stop::BudgetTooLarge);
-    }
-    if !well_formed(m) {
-        return refused(Stop::NotWellFormed);
-    }
-    if exposes_code(&m.hfi) {
-        return refused(Stop::WritableCode);
-    }
-    run(m, mem, budget)
 }
 
 // A run of any machine over any memory, with any budget.

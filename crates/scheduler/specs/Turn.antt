@@ -10,10 +10,10 @@ use Rattle.model.specs.Run.{RunAnswer, run_call}
 use Rattle.model.specs.declared.Machine.{Machine}
 use Rattle.scheduler.specs.declared.Slot.{Slot}
 use Rattle.scheduler.specs.declared.Scheduler.{Scheduler}
-use Rattle.model.specs.Stops.{stop_number, stop_address}
+use Rattle.model.specs.Stops.{call_refusal_number, stop_number, stop_address}
 use Rattle.scheduler.specs.declared.Turned.{Turned}
 use Rattle.scheduler.specs.declared.Refusal.{Refusal}
-use Rattle.scheduler.specs.declared.Refusal.TheVariants.{MemoryTooLong, SlotCount, Allowance, NotWellFormed, WritableCode, Unlocked}
+use Rattle.scheduler.specs.declared.Refusal.TheVariants.{CallRefused, SlotCount, Allowance, Unlocked}
 
 -- "Take 1 to 4 machines and a step allowance of 1 to 10,000."
 abbrev pub most_slots : ℕ
@@ -80,11 +80,9 @@ next_slot s = first_unstopped s.slots s.count s.count (place_in s.count s.place)
 
 -- of the code's refusals: "Refused: 50, the deck count; 51, the allowance; 52, a machine that isn't in locked HFI mode", and 1, 3 and 4
 abbrev pub refusal_number : Refusal → ℕ
-refusal_number MemoryTooLong = 1
+refusal_number (CallRefused refusal) = call_refusal_number refusal
 refusal_number SlotCount = 50
 refusal_number Allowance = 51
-refusal_number NotWellFormed = 3
-refusal_number WritableCode = 4
 refusal_number Unlocked = 52
 
 -- 0 where there is none

@@ -6,9 +6,10 @@
 
 ghost use Rattle.std.specs.Prelude.{◌≡◌};
 ghost use Rattle.scheduler.specs.Turn.{refusal_number};
+ghost use Rattle.scheduler.specs.declared.Refusal.TheVariants.{CallRefused};
 
 use model::Machine;
-use model::stop::Stop;
+use model::stop::{CallRefusal, Stop};
 
 // "Take 1 to 4 machines and a step allowance of 1 to 10,000."
 pub const SLOTS: usize = 4;
@@ -45,22 +46,32 @@ pub struct Turned {
     pub count: u64,
 }
 
-// Why a turn is refused; specs/Turn.antt gives each the documents' number. Three names stand in Stop too: a turn
-// is refused by these alone, and a Stop in their place would bring the stops that none is refused by.
+// Why a turn is refused; specs/Turn.antt gives each the documents' number.
 #[derive(Clone, Copy, PartialEq, Eq)]
 pub enum Refusal {
-    MemoryTooLong = 1,
-    SlotCount = 50,
-    Allowance = 51,
-    NotWellFormed = 3,
-    WritableCode = 4,
-    Unlocked = 52,
+    CallRefused(CallRefusal),
+    SlotCount,
+    Allowance,
+    Unlocked,
+}
+
+impl From<CallRefusal> for Refusal {
+    ghost from_gives = { λ call refusal. refusal ≡ CallRefused call };
+
+    fn from(call: CallRefusal) -> Refusal {
+        Refusal::CallRefused(call)
+    }
 }
 
 impl Refusal {
     pub fn number(self) -> u64
         ensures { result ≡ refusal_number self }
     {
-        self as u64
+        match self {
+            Refusal::CallRefused(refusal) => refusal.number(),
+            Refusal::SlotCount => 50,
+            Refusal::Allowance => 51,
+            Refusal::Unlocked => 52,
+        }
     }
 }

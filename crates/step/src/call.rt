@@ -1,28 +1,39 @@
-// The calls by value: a step, and resuming after a system call.
-ghost use Rattle.std.specs.Prelude.{◌≡◌};
-ghost use Rattle.model.specs.Step.{step_call, resume_call};
+// The calls by value: a step, and resuming after a system call. What refuses a step is asked of a run and of a turn too.
+ghost use Rattle.std.specs.Prelude.{◌≡◌, cond, ltb, Ok, Err};
+ghost use Rattle.model.specs.WellFormed.{well_formed as is_well_formed};
+ghost use Rattle.model.specs.WritableCode.{exposes_code as is_exposed};
+ghost use Rattle.model.specs.declared.stop.CallRefusal.TheVariants.{MemoryTooLong, NotWellFormed, WritableCode};
+ghost use Rattle.model.specs.Step.{longest, step_call, resume_call};
 ghost use Rattle.model.specs.Outcome.{answer_of, step_answer, stepped_with};
 
 use crate::step;
 use hart::well_formed::well_formed;
-use model::stop::Stop;
+use model::stop::{CallRefusal, Stop, keep};
 use model::{LONGEST, Machine, Stepped};
 use writable_code::exposes_code;
 
-// What a step is refused for, 1, 3 and 4 in this order, and the step.
+// Question 1.
+pub fn ask_memory(size: usize) -> Result<(), CallRefusal>
+    ensures { result ≡ cond (ltb longest size) (Err MemoryTooLong) (Ok tt) }
+{
+    keep(size <= LONGEST, CallRefusal::MemoryTooLong)
+}
+
+// Questions 3 and 4.
+pub fn ask_machine(m: &Machine) -> Result<(), CallRefusal>
+    ensures { result ≡ cond (is_well_formed m.now) (cond (is_exposed m.now.hfi) (Err WritableCode) (Ok tt)) (Err NotWellFormed) }
+{
+    keep(well_formed(m), CallRefusal::NotWellFormed)?;
+    keep(!exposes_code(&m.hfi), CallRefusal::WritableCode)
+}
+
+// What a step is refused for, and the step.
 #[tactic(auto, unfolding(model::specs::Step::step_call))]
 fn checked_step(m: &mut Machine, mem: &mut [u8]) -> Result<(), Stop>
     ensures { stepped_with (answer_of result m.new) mem.new ≡ step_call m.old mem.old }
 {
-    if LONGEST < mem.len() {
-        return Err(Stop::MemoryTooLong);
-    }
-    if !well_formed(m) {
-        return Err(Stop::NotWellFormed);
-    }
-    if exposes_code(&m.hfi) {
-        return Err(Stop::WritableCode);
-    }
+    ask_memory(mem.len())?;
+    ask_machine(m)?;
     step(m, mem)
 }
 
@@ -43,7 +54,7 @@ pub fn resume_call(m: Machine, v: u64) -> Stepped
     let mut machine = m;
     if !well_formed(&m) {
         return Stepped {
-            stop: Err(Stop::NotWellFormed),
+            stop: Err(Stop::from(CallRefusal::NotWellFormed)),
             machine,
         };
     }
