@@ -1,9 +1,13 @@
 // A run: steps of one machine until one of the documents' questions stops it.
 #![tactic(auto)]
 
-ghost use Rattle.std.specs.Prelude.{◌≡◌};
+ghost use Rattle.std.specs.Prelude.{◌≡◌, cond, ltb};
 ghost use Rattle.model.specs.Machine.{inside as is_inside};
-ghost use Rattle.model.specs.Run.{run, run_answer, ran_with, run_call};
+ghost use Rattle.model.specs.Stops.{number_of};
+ghost use Rattle.model.specs.WellFormed.{well_formed};
+ghost use Rattle.model.specs.WritableCode.{exposes_code};
+ghost use Rattle.model.specs.Step.{longest};
+ghost use Rattle.model.specs.Run.{largest_budget, run, run_answer, ran_with, run_call};
 ghost use Rattle.run.specs.End.{end_with};
 
 use hart::state::inside;
@@ -44,7 +48,7 @@ fn run(m: &mut Machine, mem: &mut [u8], budget: u64) -> End
 
 // What a run is refused for, 1 to 4 in this order.
 fn ask(m: &Machine, size: usize, budget: u64) -> Result<(), Stop>
-    ensures { number_of result ≡ cond (ltb longest size) 1 (cond (ltb largest_budget budget) 2 (cond (is_well_formed m.now) (cond (is_exposed m.now.hfi) 4 0) 3)) }
+    ensures { number_of result ≡ cond (ltb longest size) 1 (cond (ltb largest_budget budget) 2 (cond (well_formed m.now) (cond (exposes_code m.now.hfi) 4 0) 3)) }
 {
     ask_memory(size)?;
     keep(budget <= LARGEST_BUDGET, Stop::BudgetTooLarge)?;

@@ -1,7 +1,7 @@
 // The calls by value: a step, and resuming after a system call. What refuses a step is asked of a run and of a turn too.
 ghost use Rattle.std.specs.Prelude.{◌≡◌, cond, ltb, Ok, Err};
-ghost use Rattle.model.specs.WellFormed.{well_formed as is_well_formed};
-ghost use Rattle.model.specs.WritableCode.{exposes_code as is_exposed};
+ghost use Rattle.model.specs.WellFormed.{well_formed};
+ghost use Rattle.model.specs.WritableCode.{exposes_code};
 ghost use Rattle.model.specs.declared.stop.CallRefusal.TheVariants.{MemoryTooLong, NotWellFormed, WritableCode};
 ghost use Rattle.model.specs.Step.{longest, step_call, resume_call};
 ghost use Rattle.model.specs.Outcome.{answer_of, step_answer, stepped_with};
@@ -21,7 +21,7 @@ pub fn ask_memory(size: usize) -> Result<(), CallRefusal>
 
 // Questions 3 and 4.
 pub fn ask_machine(m: &Machine) -> Result<(), CallRefusal>
-    ensures { result ≡ cond (is_well_formed m.now) (cond (is_exposed m.now.hfi) (Err WritableCode) (Ok tt)) (Err NotWellFormed) }
+    ensures { result ≡ cond (well_formed m.now) (cond (exposes_code m.now.hfi) (Err WritableCode) (Ok tt)) (Err NotWellFormed) }
 {
     keep(well_formed(m), CallRefusal::NotWellFormed)?;
     keep(!exposes_code(&m.hfi), CallRefusal::WritableCode)
