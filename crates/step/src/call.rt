@@ -19,11 +19,18 @@ pub fn ask_memory(size: usize) -> Result<(), CallRefusal>
     keep(size <= LONGEST, CallRefusal::MemoryTooLong)
 }
 
+// Question 3, which is all that a resumption is asked.
+fn ask_formed(m: &Machine) -> Result<(), CallRefusal>
+    ensures { result ≡ cond (well_formed m.now) (Ok tt) (Err NotWellFormed) }
+{
+    keep(well_formed(m), CallRefusal::NotWellFormed)
+}
+
 // Questions 3 and 4.
 pub fn ask_machine(m: &Machine) -> Result<(), CallRefusal>
     ensures { result ≡ cond (well_formed m.now) (cond (exposes_code m.now.hfi) (Err WritableCode) (Ok tt)) (Err NotWellFormed) }
 {
-    keep(well_formed(m), CallRefusal::NotWellFormed)?;
+    ask_formed(m)?;
     keep(!exposes_code(&m.hfi), CallRefusal::WritableCode)
 }
 
@@ -48,20 +55,20 @@ pub fn step_call(m: Machine, mem: &mut [u8]) -> Stepped
 
 // `v` in x10, and pc past the word that it stands at.
 #[tactic(auto, unfolding(model::specs::Step::resume_call))]
+fn checked_resume(m: &mut Machine, v: u64) -> Result<(), Stop>
+    ensures { answer_of result m.new ≡ resume_call m.old v }
+{
+    ask_formed(m)?;
+    m.x[10] = v;
+    m.pc = m.pc.wrapping_add(4);
+    Ok(())
+}
+
+// Resuming any machine after a system call.
 pub fn resume_call(m: Machine, v: u64) -> Stepped
     ensures { step_answer result ≡ resume_call m v }
 {
     let mut machine = m;
-    if !well_formed(&m) {
-        return Stepped {
-            stop: Err(Stop::from(CallRefusal::NotWellFormed)),
-            machine,
-        };
-    }
-    machine.x[10] = v;
-    machine.pc = m.pc.wrapping_add(4);
-    Stepped {
-        stop: Ok(()),
-        machine,
-    }
+    let stop = checked_resume(&mut machine, v);
+    Stepped { stop, machine }
 }
