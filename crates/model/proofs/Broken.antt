@@ -12,6 +12,7 @@ use lib.Dec.{eqb, leb, ltb}
 use lib.ListN.{length, get_or}
 use borrow.Author.Tests.{eqb-true, eqb-false, eq-eqb, ne_eqb, leb-false, lt-leb, ltb-true, lt-ltb, ltb-false, le-ltb, not-true}
 use Rattle.std.proofs.Common.{Option, Some, None}
+use Rattle.std.proofs.lemmas.Bool.{both_ways}
 use Rattle.words.specs.Word.{field}
 use Rattle.instructions.specs.Decode.{decode_word}
 use Rattle.instructions.specs.declared.kind.LoadKind.{LoadKind}
@@ -44,7 +45,7 @@ use Rattle.model.specs.declared.stop.Denied.TheVariants.{Refused, Absent}
 use Rattle.model.proofs.WritableCode.{code_tested, tested_code}
 use Rattle.model.proofs.Permissions.{fitting, permissions_fitting}
 use Rattle.model.proofs.Forbidden.{of_each, hfi_stops, is_hfi_stop, stop_nonzero}
-use Rattle.model.proofs.Moves.{other_stops, is_other, clash, perform_other}
+use Rattle.model.proofs.Moves.{other_stops, is_other, perform_other}
 use Rattle.model.proofs.HfiWords.{Enters, lockable, of_selection, enter_forms, locked_25, unselected_14}
 use Rattle.model.proofs.Runs.{run_ind, call_ind, is_locked, locked_is}
 use Rattle.model.proofs.Exposed.{Comes, exposes, step_made}
@@ -99,7 +100,7 @@ is_unlocked m n = go (locked m.hfi) refl
     go false e = e
 
 unlocked_is : (m : Machine) → locked m.hfi ≡ false → Locked m → ⊥
-unlocked_is m e k = clash e (is_locked m k)
+unlocked_is m e k = both_ways _ e (is_locked m k)
 
 -- "not 1 to 3", or to the last
 no_number : (a : ℕ) → (a ≡ 0) ⊎ (last_region < a) → (leb 1 a && leb a last_region) ≡ false
@@ -239,7 +240,7 @@ locked_numbers m i n k (Breaks.begins e o l b w) = absurd (o k.mode)
 
 -- no other question has one of these numbers
 other_numbers : (n : ℕ) → is_other n ≡ true → is_hfi_stop n ≡ true → ⊥
-other_numbers n p = clash (not-true (is_hfi_stop n) (of_each (λ k. not (is_hfi_stop k)) other_stops n refl p))
+other_numbers n p = both_ways _ (not-true (is_hfi_stop n) (of_each (λ k. not (is_hfi_stop k)) other_stops n refl p))
 
 clause_listed : (m : Machine) (i : Instruction) (n : ℕ) → Breaks m i n → is_hfi_stop n ≡ true
 clause_listed m i n (Breaks.enters_inside e o) = refl
@@ -399,7 +400,7 @@ call_stopped m mem q = go (ltb longest (length mem)) (well_formed m) (exposes_co
     go true c d l w x q = absurd (false≢true q)
     go false false d l w x q = absurd (false≢true q)
     go false true true l w x q = absurd (false≢true q)
-    go false true false l w x q = (record { short = ltb-false _ _ l; formed = w; safe = λ e. clash x (exposes m e) }, step_stopped m mem q)
+    go false true false l w x q = (record { short = ltb-false _ _ l; formed = w; safe = λ e. both_ways _ x (exposes m e) }, step_stopped m mem q)
 
 -- what is left at such a stop is what the step call is stopped over
 abbrev Left : Ended → Type 0

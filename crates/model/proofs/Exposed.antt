@@ -9,6 +9,7 @@ use native.Mathlib.Omega.{arith}
 use lib.Dec.{ltb}
 use lib.ListN.{length}
 use borrow.Author.Tests.{ltb-false, lt-ltb, le-ltb}
+use Rattle.std.proofs.lemmas.Bool.{both_ways}
 use Rattle.instructions.proofs.Tests.{and_both}
 use Rattle.model.specs.Machine.{inside, locked}
 use Rattle.model.specs.WellFormed.{well_formed}
@@ -19,7 +20,6 @@ use Rattle.model.specs.Run.{ended, run, run_call, largest_budget}
 use Rattle.model.specs.Isolation.{Locked}
 use Rattle.model.specs.declared.Machine.{Machine}
 use Rattle.model.proofs.WritableCode.{code_tested, tested_code}
-use Rattle.model.proofs.Moves.{clash}
 use Rattle.model.proofs.Runs.{is_locked, locked_is, run_not_refused, step_not_refused, run_unexposed}
 
 -- ---- the state
@@ -118,4 +118,4 @@ never_arises m mem budget n x = go (exposes_code m.hfi) refl
   where
     go : (b : Bool) → exposes_code m.hfi ≡ b → ⊥
     go true e = n (exposed m e)
-    go false e = clash (run_unexposed m mem budget e) (exposes _ x)
+    go false e = both_ways _ (run_unexposed m mem budget e) (exposes _ x)

@@ -5,13 +5,13 @@ use mathlib.Core.Path.{◌≡◌, refl}
 use mathlib.Core.Bool.{Bool, true, false, ◌&&◌, ◌||◌}
 use Prim.Native.Nat.{ℕ}
 use lib.Dec.{eqb, leb}
+use Rattle.std.proofs.lemmas.Bool.{both_ways}
 use Rattle.instructions.specs.Kinds.{hfi_code}
 use Rattle.instructions.specs.declared.kind.HfiKind.{HfiKind}
 use Rattle.instructions.specs.declared.kind.HfiKind.TheVariants.{Enter, EnterJump, Exit, SelectRegion, SetBase, GetBase, SetBound, GetBound, SetPermission, GetPermission, SetHandler, GetHandler, ResetRegions}
 use Rattle.model.specs.Machine.{locked}
 use Rattle.model.specs.Hfi.{first_broken, word_rules}
 use Rattle.model.specs.declared.HfiState.{HfiState}
-use Rattle.model.proofs.Moves.{clash}
 
 -- either enter form
 pub data Enters : HfiKind → Type 0 where
@@ -36,9 +36,9 @@ module _ (h : HfiState) (a : ℕ) where
   enter_forms k Enters.jump = refl
 
   pub locked_25 : (k : HfiKind) → lockable k ≡ true → locked h ≡ true → stop k ≡ 25
-  locked_25 Enter t l = absurd (clash refl t)
-  locked_25 EnterJump t l = absurd (clash refl t)
-  locked_25 Exit t l = absurd (clash refl t)
+  locked_25 Enter t l = absurd (both_ways _ refl t)
+  locked_25 EnterJump t l = absurd (both_ways _ refl t)
+  locked_25 Exit t l = absurd (both_ways _ refl t)
   locked_25 SelectRegion t l = rw l refl
   locked_25 SetBase t l = rw l refl
   locked_25 GetBase t l = rw l refl
@@ -46,21 +46,21 @@ module _ (h : HfiState) (a : ℕ) where
   locked_25 GetBound t l = rw l refl
   locked_25 SetPermission t l = rw l refl
   locked_25 GetPermission t l = rw l refl
-  locked_25 SetHandler t l = absurd (clash refl t)
+  locked_25 SetHandler t l = absurd (both_ways _ refl t)
   locked_25 GetHandler t l = rw l refl
   locked_25 ResetRegions t l = rw l refl
 
   pub unselected_14 : (k : HfiKind) → of_selection k ≡ true → locked h ≡ false → eqb h.selector 0 ≡ true → stop k ≡ 14
-  unselected_14 Enter t l s = absurd (clash refl t)
-  unselected_14 EnterJump t l s = absurd (clash refl t)
-  unselected_14 Exit t l s = absurd (clash refl t)
-  unselected_14 SelectRegion t l s = absurd (clash refl t)
+  unselected_14 Enter t l s = absurd (both_ways _ refl t)
+  unselected_14 EnterJump t l s = absurd (both_ways _ refl t)
+  unselected_14 Exit t l s = absurd (both_ways _ refl t)
+  unselected_14 SelectRegion t l s = absurd (both_ways _ refl t)
   unselected_14 SetBase t l s = rw (l, s) refl
   unselected_14 GetBase t l s = rw (l, s) refl
   unselected_14 SetBound t l s = rw (l, s) refl
   unselected_14 GetBound t l s = rw (l, s) refl
   unselected_14 SetPermission t l s = rw (l, s) refl
   unselected_14 GetPermission t l s = rw (l, s) refl
-  unselected_14 SetHandler t l s = absurd (clash refl t)
-  unselected_14 GetHandler t l s = absurd (clash refl t)
-  unselected_14 ResetRegions t l s = absurd (clash refl t)
+  unselected_14 SetHandler t l s = absurd (both_ways _ refl t)
+  unselected_14 GetHandler t l s = absurd (both_ways _ refl t)
+  unselected_14 ResetRegions t l s = absurd (both_ways _ refl t)

@@ -1,17 +1,18 @@
 -- Which bytes a region reaches: an implicit region that keeps its rule matches an interval of addresses, any other none;
 -- an explicit region that keeps its rule grants its own bytes alone, and ends at 2^48 or before.
 -- Assumes nothing.
-use mathlib.Core.Path.{◌≡◌, refl, sym, ap, subst, ◌∙◌}
+use mathlib.Core.Path.{◌≡◌, refl, sym, ap, ◌∙◌}
 use mathlib.Core.Bool.{Bool, true, false, not, cond, ◌&&◌}
 use Prim.Native.Nat.{ℕ, zero, suc, ◌+◌, ◌-◌, ◌*◌, ◌/◌, ◌%◌, ◌^◌, ◌<◌, ◌≤◌}
-use native.Mathlib.Nat.{sub-add_cancel, mod-lt, pow-suc}
+use native.Mathlib.Nat.{mod-lt, pow-suc}
 use native.Mathlib.Omega.{arith}
 use lib.Dec.{eqb, leb}
-use lib.Pow.{split, high, high_ones, shr_mod, pow_pos}
-use lib.Bits.{bit_and, and_high, shifted_even, shifted_half}
+use lib.Pow.{split, high, high_ones, pow_pos}
+use lib.Bits.{bit_and, shifted_even, shifted_half}
 use lib.Count.{count_trailing_zeros, trailing_of_zero}
 use lib.IntN.{ℤ, pos, ◌+ℤ◌}
 use borrow.Author.Tests.{leb-true, le-leb, lt-ltb, eqb-true, eqb-false, eq-eqb, not-true}
+use Rattle.std.proofs.lemmas.Nat.Bits.{and_high_mask}
 use Rattle.words.specs.Word.{word}
 use Rattle.instructions.proofs.Tests.{and_both}
 use Rattle.model.specs.Regions.{mask_zeros, implicit_rule, implicit_rule_at, large, permits, small_rule, large_rule, explicit_rule, matches, below, explicit_grants}
@@ -44,16 +45,9 @@ implicit_kept r h =
       low = leb-true (r.base + 2 ^ k) (2 ^ 48) s.1;
     }
 
--- an address and-ed with the mask loses its k low bits
-masked : (a k : ℕ) → k ≤ 64 → a < 2 ^ 64 → bit_and a (2 ^ 64 - 2 ^ k) ≡ a / 2 ^ k * 2 ^ k
-masked a k h l =
-    let e : 64 - k + k ≡ 64 = sub-add_cancel h in
-    ap (λ (n : ℕ). bit_and a (2 ^ n - 2 ^ k)) (sym e) ∙ and_high a (64 - k) k
-    ∙ ap (λ (x : ℕ). x * 2 ^ k) (shr_mod (64 - k) k (subst (λ (n : ℕ). a < 2 ^ n) (sym e) l))
-
--- the address without them, in a region that keeps its rule
+-- an address and-ed with the mask of a region that keeps its rule loses its low bits
 region_masked : (r : Region) (a : ℕ) → Kept r → a < 2 ^ 64 → bit_and a r.bound ≡ a / 2 ^ mask_zeros r.bound * 2 ^ mask_zeros r.bound
-region_masked r a h l = let s : mask_zeros r.bound ≤ 64 = omega arith in ap (bit_and a) h.shape ∙ masked a (mask_zeros r.bound) s l
+region_masked r a h l = let s : mask_zeros r.bound ≤ 64 = omega arith in ap (bit_and a) h.shape ∙ and_high_mask 64 (mask_zeros r.bound) s a l
 
 -- the numbers that a multiple of 2^k is left of are the 2^k from it on
 rounded : (a base k : ℕ) → base % 2 ^ k ≡ 0 → base ≤ a → a < base + 2 ^ k → a / 2 ^ k * 2 ^ k ≡ base

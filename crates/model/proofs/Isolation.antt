@@ -11,6 +11,7 @@ use lib.ListN.{length, get_or}
 use lib.Dec.{eqb, ltb}
 use borrow.Author.Tests.{eqb-true, eq-eqb}
 use Rattle.std.proofs.Common.{Option}
+use Rattle.std.proofs.lemmas.Bool.{not-false}
 use Rattle.words.specs.Word.{field}
 use Rattle.instructions.specs.declared.instruction.Instruction.{Instruction}
 use Rattle.instructions.specs.Decode.{decode_word}
@@ -144,10 +145,6 @@ by_test s t false f g = g refl
 unmoved : (m : Machine) (s t : List ℕ) (stop count : ℕ) → Ends s t (ended stop count 0 m s) (ended stop count 0 m t)
 unmoved m s t stop count = record { result = refl; agreeing = λ b e. e }
 
-not_false : (b : Bool) → not b ≡ false → b ≡ true
-not_false true e = refl
-not_false false e = sym e
-
 run_related : (n k : ℕ) (m : Machine) (s t : List ℕ) → Locked m → Agree m s t → Ends s t (run true n k m s) (run true n k m t)
 unfolding run_by
 run_related zero k m s t l a = unmoved m s t 21 k
@@ -159,7 +156,7 @@ run_related (suc n) k m s t l a =
     by_test s t (not (inside (step m s).result.machine.hfi))
     (λ e2. record { result = refl; agreeing = r.agreeing })
     (λ e2.
-    let h = run_related n (suc k) (step m s).result.machine (step m s).memory (step m t).memory (still_locked m s t l a (not_false _ e2)) (still_agree m s t l a) in
+    let h = run_related n (suc k) (step m s).result.machine (step m s).memory (step m t).memory (still_locked m s t l a (not-false _ e2)) (still_agree m s t l a) in
     record { result = h.result; agreeing = λ b q. h.agreeing b (r.agreeing b q) }))
     (λ e1. record { result = refl; agreeing = r.agreeing }))
 

@@ -3,7 +3,7 @@
 -- Forbidden.antt.
 -- Assumes nothing.
 use Rattle.std.specs.Prelude.{Ok, Err}
-use mathlib.Core.Path.{◌≡◌, refl, ap, sym, ◌∙◌}
+use mathlib.Core.Path.{◌≡◌, refl}
 use mathlib.Core.Bool.{Bool, true, false, cond, not, ◌&&◌, ◌||◌}
 use mathlib.Core.List.{List, [], ◌∷◌}
 use mathlib.Core.Logic.{◌⊎◌, inl, inr}
@@ -13,6 +13,7 @@ use lib.Dec.{eqb, leb, ltb}
 use lib.ListN.{length}
 use borrow.Author.Tests.{not-true, not-false, le-leb}
 use Rattle.std.proofs.Common.{Option, Some, None}
+use Rattle.std.proofs.lemmas.Bool.{both_ways, or_right}
 use Rattle.instructions.specs.Kinds.{hfi_code}
 use Rattle.instructions.specs.Decode.{decode_word}
 use Rattle.instructions.specs.Encode.{in_range}
@@ -47,7 +48,6 @@ use Rattle.model.specs.Access.{Verdict, passed}
 use Rattle.model.specs.declared.stop.Denied.TheVariants.{Refused, Absent}
 use Rattle.model.proofs.Forbidden.{every, of_each, is_hfi_stop, breaks_none, allowed_breaks_none, forbidden_listed}
 use Rattle.model.proofs.Formed.{Good, good, formed, zero_kept, changed_fits, selected_fits, entered_fits, exited_fits, handler_fits, regions_fit, fault_fits_lem}
-use Rattle.model.proofs.WritableCode.{or_second}
 use Rattle.model.proofs.Reach.{load_width_lem, store_width_lem, encodes}
 
 -- ---- the machine after a step
@@ -157,9 +157,6 @@ pub record Moves (ns : List ℕ) (m : Machine) (f : List ℕ → Outcome) : Type
   pub move : Move ns m
   pub same : (mem : List ℕ) → f mem ≡ enact m mem move
 
-pub clash : {b : Bool} → b ≡ false → b ≡ true → ⊥
-clash {b} e f = let z : ◌≡◌ {A = ℕ} 0 1 = ap (λ (t : Bool). cond t 1 0) (sym e ∙ f) in omega (arith, z)
-
 -- a lock is asked only in HFI mode
 asked : (b c : Bool) → cond b c false ≡ true → b ≡ true
 asked true c e = refl
@@ -257,7 +254,7 @@ module _ (m : Machine) where
           well = λ w. formed _ (g (good m w));
           mode = Mode.stays e;
           options = λ i. o;
-          lock = λ l. absurd (clash n l);
+          lock = λ l. absurd (both_ways _ n l);
           code = λ c. unlocked_safe h (rw (e, o) n);
         });
         same = λ mem. refl;
@@ -268,7 +265,7 @@ module _ (m : Machine) where
   outside n = go (locked m.hfi) refl
     where
       go : (b : Bool) → locked m.hfi ≡ b → locked m.hfi ≡ false
-      go true e = absurd (clash n (locked_inside m.hfi e))
+      go true e = absurd (both_ways _ n (locked_inside m.hfi e))
       go false e = e
 
   -- a word that changes the selected region
@@ -283,8 +280,8 @@ module _ (m : Machine) where
         move = Move.quiet 0 0 _ refl (record {
           well = λ w. formed _ (record { zero = (good m w).zero; state = entered_fits m.hfi (good m w).state a e });
           mode = Mode.enters n refl;
-          options = λ i. absurd (clash n i);
-          lock = λ l. absurd (clash n (locked_inside m.hfi l));
+          options = λ i. absurd (both_ways _ n i);
+          lock = λ l. absurd (both_ways _ n (locked_inside m.hfi l));
           code = λ c. x;
         });
         same = λ mem. refl;
@@ -505,10 +502,10 @@ module _ (m : Machine) (mem : List ℕ) where
       record { kept = d.kept; stop = rw (of_each is_other (0 ∷ ns) o.result.stop h p.0) p.1; memory = d.memory }
 
   executed_does : {f : List ℕ → Outcome} → Executed m f → Does is_stop m mem (f mem)
-  executed_does (Executed.forbidden n h same) = rw (same mem) (record { kept = same_kept m; stop = rw (or_second (is_other n) (is_hfi_stop n) h) (zero_address n); memory = inl refl })
+  executed_does (Executed.forbidden n h same) = rw (same mem) (record { kept = same_kept m; stop = rw (or_right (is_other n) (is_hfi_stop n) h) (zero_address n); memory = inl refl })
     where
       zero_address : (n : ℕ) → is_address n 0 ≡ true
-      zero_address n = or_second (eqb n 12) _ (or_second (eqb n 17) true refl)
+      zero_address n = or_right (eqb n 12) _ (or_right (eqb n 17) true refl)
   executed_does (Executed.moves ns h p) = any_stop ns h (does p)
 
   fetching_does : (a : ℕ) (o : Outcome) → Does is_stop m mem o → Does is_stop m mem (fetching m mem a o)

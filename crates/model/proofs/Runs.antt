@@ -9,6 +9,7 @@ use native.Mathlib.Omega.{arith}
 use lib.Dec.{eqb, leb, ltb, lit≤}
 use lib.ListN.{length, get_or}
 use borrow.Author.Tests.{eqb-true, eq-eqb, ne_eqb, eqb-false, leb-true, ltb-true, not-true}
+use Rattle.std.proofs.lemmas.Bool.{both_ways, or_cases}
 use Rattle.instructions.proofs.Tests.{and_both}
 use Rattle.model.specs.Machine.{inside, locked}
 use Rattle.model.specs.WellFormed.{well_formed}
@@ -21,9 +22,9 @@ use Rattle.model.specs.Isolation.{Locked}
 use Rattle.model.specs.declared.Machine.{Machine}
 use Rattle.model.proofs.Bytes.{length_written, written_other}
 use Rattle.model.proofs.Cleared.{passing}
-use Rattle.model.proofs.WritableCode.{either, not_both}
+use Rattle.model.proofs.WritableCode.{not_both}
 use Rattle.model.proofs.Forbidden.{every, of_each, hfi_stops, is_hfi_stop}
-use Rattle.model.proofs.Moves.{locked_inside, Settings, settings, Stored, clash, other_stops, is_other, is_stop, is_address, step_does}
+use Rattle.model.proofs.Moves.{locked_inside, Settings, settings, Stored, other_stops, is_other, is_stop, is_address, step_does}
 
 -- ---- for the loop
 
@@ -78,7 +79,7 @@ module _ (began : Bool) (Q : ℕ → ℕ → Machine → List ℕ → Ended → 
         still_on : (b c : Bool) → (b && not c) ≡ false → b ≡ true → c ≡ true
         still_on true true e f = refl
         still_on true false e f = sym e
-        still_on false c e f = absurd (clash refl f)
+        still_on false c e f = absurd (both_ways _ refl f)
 
         go : (b : Bool) → eqb (step m mem).result.stop 0 ≡ b → (c : Bool) → (began && not (inside (step m mem).result.machine.hfi)) ≡ c
             → {r : Ended} → Q n (suc k) (step m mem).result.machine (step m mem).memory r
@@ -131,14 +132,14 @@ module _ (m : Machine) (mem : List ℕ) where
 
   -- it is of question 8 or of another; so what holds of all those numbers holds of it
   of_its_own : (p : ℕ → Bool) → every p other_stops ≡ true → every p hfi_stops ≡ true → p stop ≡ true
-  of_its_own p f g = go (either (is_other stop) (is_hfi_stop stop) proper_parts.0)
+  of_its_own p f g = go (or_cases (is_other stop) (is_hfi_stop stop) proper_parts.0)
     where
       go : (is_other stop ≡ true) ⊎ (is_hfi_stop stop ≡ true) → p stop ≡ true
       go (inl e) = of_each p other_stops stop f e
       go (inr e) = of_each p hfi_stops stop g e
 
   pub step_number : (stop ≡ 0) ⊎ (((10 ≤ stop) × (stop ≤ 19)) ⊎ ((22 ≤ stop) × (stop ≤ 25)))
-  step_number = first (either (eqb stop 0) _ (of_its_own (λ n. eqb n 0 || ((leb 10 n && leb n 19) || (leb 22 n && leb n 25))) refl refl))
+  step_number = first (or_cases (eqb stop 0) _ (of_its_own (λ n. eqb n 0 || ((leb 10 n && leb n 19) || (leb 22 n && leb n 25))) refl refl))
     where
       within : (a b : ℕ) → (leb a stop && leb stop b) ≡ true → (a ≤ stop) × (stop ≤ b)
       within a b t = let u = and_both (leb a stop) (leb stop b) t in (leb-true a stop u.0, leb-true stop b u.1)
@@ -150,7 +151,7 @@ module _ (m : Machine) (mem : List ℕ) where
       first : (eqb stop 0 ≡ true) ⊎ (((leb 10 stop && leb stop 19) || (leb 22 stop && leb stop 25)) ≡ true)
           → (stop ≡ 0) ⊎ (((10 ≤ stop) × (stop ≤ 19)) ⊎ ((22 ≤ stop) × (stop ≤ 25)))
       first (inl t) = inl (eqb-true stop 0 t)
-      first (inr t) = inr (second (either (leb 10 stop && leb stop 19) _ t))
+      first (inr t) = inr (second (or_cases (leb 10 stop && leb stop 19) _ t))
 
   -- "all others give 0 there"
   pub step_address : (stop ≡ 12 → ⊥) → (stop ≡ 17 → ⊥) → (step m mem).result.address ≡ 0
@@ -161,7 +162,7 @@ module _ (m : Machine) (mem : List ℕ) where
 
   -- it is none of the calls' own numbers, nor the run's 20 and 21
   pub step_not_refused : 1 ≤ stop → stop ≤ 4 → ⊥
-  step_not_refused l u = go (either (eqb stop 0) (ltb 4 stop) (of_its_own (λ n. eqb n 0 || ltb 4 n) refl refl))
+  step_not_refused l u = go (or_cases (eqb stop 0) (ltb 4 stop) (of_its_own (λ n. eqb n 0 || ltb 4 n) refl refl))
     where
       go : (eqb stop 0 ≡ true) ⊎ (ltb 4 stop ≡ true) → ⊥
       go (inl e) = let z = eqb-true stop 0 e in omega (arith, z, l)
@@ -293,7 +294,7 @@ module _ (m : Machine) (mem : List ℕ) (budget : ℕ) (k : Locked m) where
   locked_executable b x = go (writable_code m.hfi.regions) refl
     where
       go : (c : Bool) → writable_code m.hfi.regions ≡ c → get_or (run_call m mem budget).memory b 0 ≡ get_or mem b 0
-      go true e = call_ind (λ r. get_or r.memory b 0 ≡ get_or mem b 0) m mem budget (λ s l u. refl) (λ w y. absurd (clash y (rw (is_locked m k) e)))
+      go true e = call_ind (λ r. get_or r.memory b 0 ≡ get_or mem b 0) m mem budget (λ s l u. refl) (λ w y. absurd (both_ways _ y (rw (is_locked m k) e)))
       go false e = locked_unwritten b (not_both m.hfi.regions b e x)
 
   -- one that ends in 21 is still locked, in HFI mode, well formed and not refused with 4

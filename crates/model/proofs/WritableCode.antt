@@ -12,6 +12,8 @@ use lib.Dec.{eqb, leb, ltb, lit<}
 use lib.ListN.{get_or}
 use lib.Count.{count_trailing_zeros}
 use borrow.Author.Tests.{leb-true, le-leb, ltb-true, lt-ltb, eqb-true, eqb-false, eq-eqb}
+use Rattle.std.specs.Cmp.{both_ways}
+use Rattle.std.proofs.lemmas.Bool.{or_cases, or_left, or_right}
 use Rattle.instructions.proofs.Tests.{and_both}
 use Rattle.model.specs.Machine.{no_region, region}
 use Rattle.instructions.specs.HWords.{explicit_regions, among}
@@ -27,22 +29,6 @@ use Rattle.model.proofs.Forms.{writable_form, form_writable, executable_form, fo
 -- ---- tests
 
 -- two tests that hold together are one
-same_truth : (b c : Bool) → (b ≡ true → c ≡ true) → (c ≡ true → b ≡ true) → b ≡ c
-same_truth true c f g = sym (f refl)
-same_truth false true f g = g refl
-same_truth false false f g = refl
-
-pub either : (b c : Bool) → (b || c) ≡ true → (b ≡ true) ⊎ (c ≡ true)
-either true c e = inl refl
-either false c e = inr e
-
-or_first : (b c : Bool) → b ≡ true → (b || c) ≡ true
-or_first b c e = rw e refl
-
-pub or_second : (b c : Bool) → c ≡ true → (b || c) ≡ true
-or_second true c e = refl
-or_second false c e = e
-
 nowhere : (b c : Bool) → cond b true c ≡ false → (b ≡ false) × (c ≡ false)
 nowhere true c e = let z : ◌≡◌ {A = ℕ} 0 1 = cc in absurd (omega arith)
 nowhere false c e = (refl, e)
@@ -60,8 +46,8 @@ some_among p a [] h t = absurd (false≢true h)
 some_among p a (b ∷ bs) h t = go (eqb a b) refl h (λ q. some_among p a bs q t)
   where
     go : (c : Bool) → eqb a b ≡ c → cond c true (among a bs) ≡ true → (among a bs ≡ true → some p bs ≡ true) → (p b || some p bs) ≡ true
-    go true e q f = or_first (p b) _ (ap p (sym (eqb-true a b e)) ∙ t)
-    go false e q f = or_second (p b) _ (f q)
+    go true e q f = or_left (p b) _ (ap p (sym (eqb-true a b e)) ∙ t)
+    go false e q f = or_right (p b) _ (f q)
 
 -- ---- one region, of whatever kind: the byte at b is no edge of it
 
@@ -70,7 +56,7 @@ NoEdge k b r = keeps_rule k r ≡ true → (b ≡ r.base → ⊥) × (b ≡ regi
 
 slide_inside : (s e a : ℕ) → (suc a ≡ s → ⊥) → (suc a ≡ e → ⊥) → (leb s (suc a) && ltb (suc a) e) ≡ (leb s a && ltb a e)
 slide_inside s e a p q =
-    same_truth _ _
+    both_ways _ _
     (λ h.
     let t = and_both (leb s (suc a)) (ltb (suc a) e) h in
     let l = leb-true s (suc a) t.0 in
@@ -95,7 +81,7 @@ slide_matches a r l h = go (implicit_rule r) refl
     go : (b : Bool) → implicit_rule r ≡ b → matches r (suc a) ≡ matches r a
     go false e = broken_matches_none r (suc a) e ∙ sym (broken_matches_none r a e)
     go true e =
-        same_truth _ _
+        both_ways _ _
         (λ t. let i = matches_inside r (suc a) l t in inside_matches r a e (omega (arith, i.0, (h e).0)) (omega (arith, i.1)))
         (λ t. let i = matches_inside r a (omega arith) t in inside_matches r (suc a) e (omega (arith, i.0)) (omega (arith, i.1, (h e).1)))
 
@@ -245,7 +231,7 @@ some_edge p (r ∷ rs) n h = go (keeps_rule (region_kind n) r) refl h (some_edge
     go : (c : Bool) → keeps_rule (region_kind n) r ≡ c → some p (cond c (r.base ∷ region_end (region_kind n) r ∷ []) [] ++ edges (suc n) rs) ≡ true
         → (some p (edges (suc n) rs) ≡ true → Edge p) → Edge p
     go false e t f = f t
-    go true e t f = first (either (p r.base) _ t)
+    go true e t f = first (or_cases (p r.base) _ t)
       where
         low : (r.base ≤ region_end (region_kind n) r) × (region_end (region_kind n) r ≤ 2 ^ 48)
         low = kept_ends (region_kind n) r e
@@ -256,7 +242,7 @@ some_edge p (r ∷ rs) n h = go (keeps_rule (region_kind n) r) refl h (some_edge
 
         first : (p r.base ≡ true) ⊎ ((p (region_end (region_kind n) r) || some p (edges (suc n) rs)) ≡ true) → Edge p
         first (inl y) = record { at = r.base; passes = y; low = omega (arith, low.0, low.1) }
-        first (inr y) = second (either (p (region_end (region_kind n) r)) _ y)
+        first (inr y) = second (or_cases (p (region_end (region_kind n) r)) _ y)
 
 -- ---- the test of one byte is the definition
 
@@ -264,7 +250,7 @@ some_edge p (r ∷ rs) n h = go (keeps_rule (region_kind n) r) refl h (some_edge
 covered_by : (rs : List Region) (ns : List ℕ) (p b : ℕ) → explicit_covers rs ns p b ≡ true → InChosen rs ns p b
 unfolding explicit_covers
 covered_by rs [] p b t = absurd (false≢true t)
-covered_by rs (n ∷ ns) p b t = go (either (covers p b (region rs n)) (explicit_covers rs ns p b) t) (covered_by rs ns p b)
+covered_by rs (n ∷ ns) p b t = go (or_cases (covers p b (region rs n)) (explicit_covers rs ns p b) t) (covered_by rs ns p b)
   where
     go : (covers p b (region rs n) ≡ true) ⊎ (explicit_covers rs ns p b ≡ true) → (explicit_covers rs ns p b ≡ true → InChosen rs ns p b)
         → InChosen rs (n ∷ ns) p b
@@ -291,9 +277,9 @@ by_covered rs (k ∷ ns) n p b h i = go (eqb n k) refl h (λ q. by_covered rs ns
   where
     go : (c : Bool) → eqb n k ≡ c → cond c true (among n ns) ≡ true → (among n ns ≡ true → explicit_covers rs ns p b ≡ true)
         → (covers p b (region rs k) || explicit_covers rs ns p b) ≡ true
-    go false e q f = or_second (covers p b (region rs k)) _ (f q)
+    go false e q f = or_right (covers p b (region rs k)) _ (f q)
     go true e q f =
-        or_first (covers p b (region rs k)) _
+        or_left (covers p b (region rs k)) _
         (ap (λ j. covers p b (region rs j)) (sym (eqb-true n k e)) ∙ rw (i.rule, i.permitted, le-leb _ _ i.start) (lt-ltb _ _ i.end))
 
 module _ (rs : List Region) (b : ℕ) where
@@ -301,11 +287,11 @@ module _ (rs : List Region) (b : ℕ) where
   writable_tested w = go (writable_form rs b w)
     where
       go : InImplicit rs data_regions write b ⊎ InChosen rs explicit_regions write b → writable_at rs b ≡ true
-      go (inl i) = or_first (implicit_grants rs data_regions write b) _ i.granted
-      go (inr i) = or_second (implicit_grants rs data_regions write b) _ (by_covered rs explicit_regions i.chosen write b i.listed i.inside)
+      go (inl i) = or_left (implicit_grants rs data_regions write b) _ i.granted
+      go (inr i) = or_right (implicit_grants rs data_regions write b) _ (by_covered rs explicit_regions i.chosen write b i.listed i.inside)
 
   tested_writable : b < 2 ^ 64 → writable_at rs b ≡ true → Writable rs b
-  tested_writable l t = form_writable rs b (go (either (implicit_grants rs data_regions write b) _ t))
+  tested_writable l t = form_writable rs b (go (or_cases (implicit_grants rs data_regions write b) _ t))
     where
       go : (implicit_grants rs data_regions write b ≡ true) ⊎ (explicit_covers rs explicit_regions write b ≡ true)
           → InImplicit rs data_regions write b ⊎ InChosen rs explicit_regions write b

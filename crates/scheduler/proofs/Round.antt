@@ -7,8 +7,8 @@ use Prim.Native.Nat.{ℕ, zero, suc, ◌+◌, ◌-◌, ◌<◌, ◌≤◌}
 use native.Mathlib.Omega.{arith}
 use lib.Dec.{leb, ltb}
 use borrow.Author.Tests.{leb-true, leb-false, ltb-true, ltb-false, le-leb}
+use Rattle.std.proofs.lemmas.Bool.{both_ways}
 use Rattle.instructions.proofs.Tests.{and_both}
-use Rattle.model.proofs.Moves.{clash}
 use Rattle.scheduler.specs.Turn.{within, slot, stopped, place_in, following, first_unstopped}
 use Rattle.scheduler.specs.declared.Slot.{Slot}
 
@@ -138,7 +138,7 @@ first_found ds count (suc k) m n p q u l =
     go (stopped (slot ds m)) refl (λ f. first_found ds count k (following count m) n (following_numbered count m p) q u f)
   where
     apart : stopped (slot ds m) ≡ true → (i : ℕ) → stopped (slot ds i) ≡ false → m ≡ i → ⊥
-    apart e i v same = clash v (ap (λ j. stopped (slot ds j)) (sym same) ∙ e)
+    apart e i v same = both_ways _ v (ap (λ j. stopped (slot ds j)) (sym same) ∙ e)
 
     past : stopped (slot ds m) ≡ true → (i : ℕ) → Numbered count i → stopped (slot ds i) ≡ false → distance count m i ≡ suc (distance count (following count m) i)
     past e i j v =
