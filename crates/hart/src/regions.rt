@@ -16,7 +16,8 @@ pub enum RegionKind {
 }
 
 impl RegionKind {
-    // The kind of region `n`. Any number may be asked: what is no region's counts as code.
+    // The kind of region `n`. A method, since of `From<u64>` one would not see that the number is a region's. Any may be asked: what is no region's
+    // counts as code, as in the definition.
     pub fn of(n: u64) -> RegionKind
         ensures { kind_of result ≡ region_kind n }
     {
