@@ -7,8 +7,9 @@ ghost use Rattle.model.specs.Outcome.{Outcome, answer_of, stepped_with, assigned
 use model::stop::{Denied, Op, Stop};
 use model::{Fault, Machine};
 
-// Register `i`. A register's number is 64 bits wide in an instruction, so that a caller can hand in any wrong value; who knows it to be below 32
-// says so.
+// Register `i`. An instruction's fields are 64 bits wide, so that a caller can hand in any wrong register and have it refused: who knows the number to be
+// below 32 says so. No struct carries the fact, here or in `hfi` and `load_store`: its constructor would require `i < 32` where these functions
+// do, and each arm of `execute` would call it for each register that the arm reads or writes.
 pub fn register(m: &Machine, i: u64) -> u64
     requires { i < 32 }
     ensures { result ≡ reg m.now.x i }

@@ -22,7 +22,8 @@ fn chosen(h: &HfiState, c: Choice) -> bool
     bits(h.options, c.bit(), 1) == 1
 }
 
-// Are the regions locked? One function for each question of the documents, over the one that reads a bit.
+// Are the regions locked? A function for each question of the documents, over the one that reads a bit: who asked one function of an option would
+// have to know that only some count in HFI mode alone.
 pub fn locked(h: &HfiState) -> bool
     ensures { result ≡ is_locked h.now }
 {

@@ -1,9 +1,10 @@
 // Question 3: is the machine well formed?
 ghost use Rattle.std.specs.Prelude.{◌≡◌};
-ghost use Rattle.model.specs.Regions.{region_kind, permission_bits, permission_fits};
+ghost use Rattle.model.specs.Regions.{permission_fits};
 ghost use Rattle.model.specs.WellFormed.{clear_handler, permissions_fit, fault_fits, state_fits, well_formed};
 
-use model::stop::Op;
+use crate::regions::RegionKind;
+use model::stop::{Op, Reason};
 use model::{Fault, HfiState, LARGEST_OPTIONS, LAST_REGION, Machine, REGIONS, Region};
 
 // A handler with bits 0, 1, 62 and 63 cleared.
@@ -13,33 +14,19 @@ pub fn clear_handler(v: u64) -> u64
     v & 0x3fff_ffff_ffff_fffc
 }
 
-// The permission bits that region `n` has. A region's number is the documents' own, and any number may be asked.
-fn permission_bits(n: u64) -> u64
-    ensures { result ≡ permission_bits (region_kind n) }
-{
-    match n {
-        1 | 4 | 5 | 6 => 0b1011,
-        2 | 7 | 8 | 9 => 0b0011,
-        _ => 0b0100,
-    }
-}
-
 // Has `permission` no bit that region `n` lacks?
 pub fn permission_fits(n: u64, permission: u64) -> bool
     ensures { result ≡ permission_fits n permission }
 {
-    (permission & permission_bits(n)) == permission
+    (permission & RegionKind::of(n).permission_bits()) == permission
 }
 
 fn permissions_fit(rs: &[Region; REGIONS]) -> bool
     ensures { result ≡ permissions_fit 1 rs.now }
 {
-    for i in 0..REGIONS {
-        if !permission_fits(i as u64 + 1, rs[i].permission) {
-            return false;
-        }
-    }
-    true
+    rs.iter()
+        .enumerate()
+        .all(|(i, r)| permission_fits(i as u64 + 1, r.permission))
 }
 
 fn fault_fits(f: &Fault) -> bool
@@ -53,7 +40,7 @@ pub fn state_fits(h: &HfiState) -> bool
     ensures { result ≡ state_fits h.now }
 {
     h.mode <= 1
-        && h.reason <= 2
+        && h.reason <= Reason::SystemCall.number()
         && h.options <= LARGEST_OPTIONS
         && clear_handler(h.handler) == h.handler
         && h.selector <= LAST_REGION

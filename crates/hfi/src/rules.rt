@@ -1,5 +1,5 @@
 // Question 8: the first rule that an h-word or a word of opcode 5b breaks.
-ghost use Rattle.std.specs.Prelude.{◌≡◌, if◌then◌else◌, Ok, Err};
+ghost use Rattle.std.specs.Prelude.{◌≡◌};
 ghost use Rattle.instructions.specs.declared.kind.HfiKind.TheVariants.{Enter, SetBase, SetPermission};
 ghost use Rattle.model.specs.Stops.{broken_number};
 ghost use Rattle.model.specs.Hfi.{first_broken, h_word_rules, word_rules};
@@ -8,17 +8,10 @@ use hart::state::{inside, locked};
 use hart::well_formed::permission_fits;
 use instructions::kind::HfiKind;
 use model::permission::Choice;
-use model::stop::Rule;
+use model::stop::{Rule, keep};
 use model::{HfiState, LARGEST_OPTIONS, LAST_REGION};
 use words::bits;
 use writable_code::writable_code;
-
-// One rule. (`setup::question` has the same two lines for its own enum: neither crate is built on the other.)
-fn keep(kept: bool, rule: Rule) -> Result<(), Rule>
-    ensures { result ≡ (if kept then Ok tt else Err rule) }
-{
-    if kept { Ok(()) } else { Err(rule) }
-}
 
 // The rule of an h-word.
 pub fn h_word_rule(h: &HfiState) -> Result<(), Rule>
@@ -58,7 +51,7 @@ fn select_rules(h: &HfiState, n: u64) -> Result<(), Rule>
     ensures { broken_number result ≡ first_broken (word_rules h.now HfiKind.SelectRegion n) }
 {
     keep(!locked(h), Rule::Locked)?;
-    keep((1 <= n) & (n <= LAST_REGION), Rule::Operand)
+    keep((1..=LAST_REGION).contains(&n), Rule::Operand)
 }
 
 // The first rule that a word of opcode 5b breaks; `a` is the register rs1.

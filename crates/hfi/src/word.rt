@@ -1,13 +1,13 @@
-// The words of opcode 5b.
+// The words of opcode 5b. Why each register is a number and a clause: hart::machine::register.
 ghost use Rattle.std.specs.Prelude.{◌≡◌, List, cond, ℕ, ◌<◌};
 ghost use Rattle.instructions.specs.declared.instruction.Instruction.TheVariants.{Hfi};
-ghost use Rattle.model.specs.Machine.{redirects_exits, exited, machine};
+ghost use Rattle.model.specs.Machine.{redirects_exits, exited};
 ghost use Rattle.model.specs.Outcome.{answer_of, stepped_with};
 ghost use Rattle.model.specs.Hfi.{selected as selected_of, changed as changed_of, hfi_perform};
 ghost use Rattle.model.specs.Step.{execute_instruction};
 
 use crate::rules::word_rule;
-use hart::machine::{register, write_back};
+use hart::machine::{assign, register};
 use hart::regions::{put_region, region_at};
 use hart::state::{enter, exit, redirects_exits};
 use hart::well_formed::clear_handler;
@@ -22,29 +22,24 @@ fn selected(h: &HfiState) -> Region
     region_at(&h.regions, h.selector)
 }
 
-// `to` in its place, and on at `next`.
-fn replace(m: &mut Machine, next: u64, to: Region)
-    ensures { m.new ≡ machine m.old.x next (changed_of m.old.hfi to) }
+// `to` in its place.
+fn replace(h: &mut HfiState, to: Region)
+    ensures { h.new ≡ changed_of h.old to }
 {
-    let n = m.hfi.selector;
-    put_region(&mut m.hfi.regions, n, to);
-    m.pc = next;
+    put_region(&mut h.regions, h.selector, to);
 }
 
-// Exit to the handler where exits are redirected, else to the next instruction.
-fn leave(m: &mut Machine, next: u64)
-    ensures { m.new ≡ machine m.old.x (cond (redirects_exits m.old.hfi) m.old.hfi.handler next) (exited m.old.hfi 1 m.old.pc) }
+// Exit to the handler where exits are redirected, else to the next instruction: the pc after it.
+fn leave(h: &mut HfiState, pc: u64, next: u64) -> u64
+    ensures after { result ≡ cond (redirects_exits h.old) h.old.handler next }
+    ensures left { h.new ≡ exited h.old 1 pc }
 {
-    let pc = m.pc;
-    m.pc = if redirects_exits(&m.hfi) {
-        m.hfi.handler
-    } else {
-        next
-    };
-    exit(&mut m.hfi, Reason::Exit, pc);
+    let after = if redirects_exits(h) { h.handler } else { next };
+    exit(h, Reason::Exit, pc);
+    after
 }
 
-// What a word that nothing forbids does; the target of an enter with jump is to be a multiple of 2. An arm for each word.
+// What a word that nothing forbids does, and on at `after`; the target of an enter with jump is to be a multiple of 2.
 #[tactic(auto, unfolding(model::specs::Hfi::hfi_perform, model::specs::Outcome::aligned))]
 fn perform(m: &mut Machine, next: u64, k: HfiKind, rd: u64, rs1: u64, rs2: u64) -> Result<(), Stop>
     requires { (rd < 32) × (rs1 < 32) × (rs2 < 32) }
@@ -52,44 +47,35 @@ fn perform(m: &mut Machine, next: u64, k: HfiKind, rd: u64, rs1: u64, rs2: u64) 
 {
     let a = register(m, rs1);
     let r = selected(&m.hfi);
+    let mut after = next;
     match k {
-        HfiKind::Enter => {
-            enter(&mut m.hfi, a);
-            m.pc = next;
-        }
+        HfiKind::Enter => enter(&mut m.hfi, a),
         HfiKind::EnterJump => {
-            let target = register(m, rs2);
-            if target % 2 != 0 {
+            after = register(m, rs2);
+            if after % 2 != 0 {
                 return Err(Stop::OddTarget);
             }
             enter(&mut m.hfi, a);
-            m.pc = target;
         }
-        HfiKind::Exit => leave(m, next),
-        HfiKind::SelectRegion => {
-            m.hfi.selector = a;
-            m.pc = next;
-        }
-        HfiKind::SetBase => replace(m, next, Region { base: a, ..r }),
-        HfiKind::GetBase => write_back(m, next, rd, r.base),
-        HfiKind::SetBound => replace(m, next, Region { bound: a, ..r }),
-        HfiKind::GetBound => write_back(m, next, rd, r.bound),
-        HfiKind::SetPermission => replace(m, next, Region { permission: a, ..r }),
-        HfiKind::GetPermission => write_back(m, next, rd, r.permission),
-        HfiKind::SetHandler => {
-            m.hfi.handler = clear_handler(a);
-            m.pc = next;
-        }
+        HfiKind::Exit => after = leave(&mut m.hfi, m.pc, next),
+        HfiKind::SelectRegion => m.hfi.selector = a,
+        HfiKind::SetBase => replace(&mut m.hfi, Region { base: a, ..r }),
+        HfiKind::GetBase => assign(m, rd, r.base),
+        HfiKind::SetBound => replace(&mut m.hfi, Region { bound: a, ..r }),
+        HfiKind::GetBound => assign(m, rd, r.bound),
+        HfiKind::SetPermission => replace(&mut m.hfi, Region { permission: a, ..r }),
+        HfiKind::GetPermission => assign(m, rd, r.permission),
+        HfiKind::SetHandler => m.hfi.handler = clear_handler(a),
         HfiKind::GetHandler => {
             let v = m.hfi.handler;
-            write_back(m, next, rd, v);
+            assign(m, rd, v);
         }
         HfiKind::ResetRegions => {
             m.hfi.regions = [Region::default(); REGIONS];
             m.hfi.selector = 0;
-            m.pc = next;
         }
     }
+    m.pc = after;
     Ok(())
 }
 

@@ -12,7 +12,7 @@ pub enum Permission {
 }
 
 impl Permission {
-    // Its bit number.
+    // Its bit number: a method, since of `u64::from` one would not see whether the number or the bit's value is meant.
     pub fn bit(self) -> u64
         ensures { result ≡ permission_bit self }
     {

@@ -84,13 +84,16 @@ pub fn keep<E: Copy>(kept: bool, or: E) -> Result<(), E>
 }
 
 impl Op {
+    // A method, here and of the enums below, and not `From`: `op.number()` says which number is meant, where `u64::from(op)` would not, and a stop
+    // has two, its number and its address.
     pub fn number(self) -> u64
         ensures { result ≡ op_number self }
     {
         self as u64
     }
 
-    // The numbers of a refused byte and of an absent one: two columns of one table.
+    // The numbers of a refused byte, questions 5 and 10, and of an absent one, 6 and 11. Of one function for both, `Stop::number` would have to
+    // write `op.either(11, 16)` and `op.either(12, 17)`: no name there for what the numbers are.
     fn refused(self) -> u64
         ensures { result ≡ refused_number self }
     {

@@ -1,13 +1,11 @@
--- A test at the edges of the regions, one region after another.
+-- A test at the edges of the regions, one region after another, counted from 0 as an iterator counts them.
 -- Assumes nothing.
-use mathlib.Core.Path.{◌≡◌, refl, ap, ap₂, sym, ◌∙◌}
-use mathlib.Core.Bool.{Bool, true, false, ◌||◌, or_assoc}
+use mathlib.Core.Path.{◌≡◌, refl, ap, sym, ◌∙◌}
+use mathlib.Core.Bool.{Bool, ◌||◌, or_assoc}
 use mathlib.Core.List.{List, [], ◌∷◌, ◌++◌}
-use Prim.Native.Nat.{ℕ, suc, ◌+◌, ◌-◌, ◌<◌}
+use Prim.Native.Nat.{ℕ, suc, ◌+◌}
 use native.Mathlib.Omega.{arith}
-use lib.ListN.{length, get_or, drop}
-use lib.Seq.{drop-cons}
-use Rattle.model.specs.Machine.{no_region, region}
+use Rattle.std.specs.List.{list_any, enumerate_from}
 use Rattle.model.specs.Regions.{region_kind}
 use Rattle.model.specs.WritableCode.{edges_of, edges, some}
 use Rattle.model.specs.declared.Region.{Region}
@@ -16,22 +14,10 @@ some_of_both : (p : ℕ → Bool) (bs cs : List ℕ) → some p (bs ++ cs) ≡ (
 some_of_both p [] cs = refl
 some_of_both p (b ∷ bs) cs = ap (λ t. p b || t) (some_of_both p bs cs) ∙ sym (or_assoc (p b) (some p bs) (some p cs))
 
-module _ (p : ℕ → Bool) (rs : List Region) (i : ℕ) where
-  -- the edges of the region at index i, and the rest
-  edges_split : i < length rs
-      → some p (edges (i + 1) (drop i rs)) ≡ (some p (edges_of (region_kind (i + 1)) (region rs (i + 1))) || some p (edges (i + 1 + 1) (drop (i + 1) rs)))
-  edges_split h =
-      let s : suc i ≡ i + 1 = omega arith in
-      let u : suc (i + 1) ≡ i + 1 + 1 = omega arith in
-      let v : i ≡ i + 1 - 1 = omega arith in
-      ap (λ l. some p (edges (i + 1) l)) (drop-cons rs i no_region h)
-      ∙ some_of_both p (edges_of (region_kind (i + 1)) (get_or rs i no_region)) (edges (suc (i + 1)) (drop (suc i) rs))
-      ∙ ap (λ k. some p (edges_of (region_kind (i + 1)) (get_or rs k no_region)) || some p (edges (suc (i + 1)) (drop (suc i) rs))) v
-      ∙ ap₂ (λ n k. some p (edges_of (region_kind (i + 1)) (region rs (i + 1))) || some p (edges n (drop k rs))) u s
-
-  pub edges_here : i < length rs → some p (edges_of (region_kind (i + 1)) (region rs (i + 1))) ≡ true → some p (edges (i + 1) (drop i rs)) ≡ true
-  edges_here h e = edges_split h ∙ rw e refl
-
-  pub edges_past : i < length rs → some p (edges_of (region_kind (i + 1)) (region rs (i + 1))) ≡ false
-      → some p (edges (i + 1) (drop i rs)) ≡ some p (edges (i + 1 + 1) (drop (i + 1) rs))
-  edges_past h e = edges_split h ∙ rw e refl
+pub edges_any : (p : ℕ → Bool) (n : ℕ) (rs : List Region)
+    → some p (edges (n + 1) rs) ≡ list_any (λ (q : ℕ × Region). some p (edges_of (region_kind (q.0 + 1)) q.1)) (enumerate_from n rs)
+edges_any p n [] = refl
+edges_any p n (r ∷ rs) =
+    let s : suc (n + 1) ≡ n + 1 + 1 = omega arith in
+    some_of_both p (edges_of (region_kind (n + 1)) r) (edges (suc (n + 1)) rs)
+    ∙ ap (λ b. some p (edges_of (region_kind (n + 1)) r) || b) (ap (λ k. some p (edges k rs)) s ∙ edges_any p (n + 1) rs)

@@ -1,3 +1,2 @@
-pub mod ByNumber
 pub mod Explicit
 pub mod Edges
