@@ -1,12 +1,11 @@
 // Reading and changing the parts of the HFI state.
 ghost use Rattle.std.specs.Prelude.{◌≡◌};
 ghost use Rattle.model.specs.Stops.{reason_number};
-ghost use Rattle.model.specs.Machine.{inside as is_inside, bit, option_bit, locked as is_locked, redirects_calls, redirects_exits, entered, exited};
+ghost use Rattle.model.specs.Machine.{inside as is_inside, locked as is_locked, redirects_calls, redirects_exits, entered, exited};
 
 use model::HfiState;
 use model::permission::Choice;
 use model::stop::Reason;
-use words::bits;
 
 // In HFI mode?
 pub fn inside(h: &HfiState) -> bool
@@ -15,33 +14,26 @@ pub fn inside(h: &HfiState) -> bool
     h.mode == 1
 }
 
-// Is the option chosen?
-fn chosen(h: &HfiState, c: Choice) -> bool
-    ensures { result ≡ bit (option_bit c) h.now.options }
-{
-    bits(h.options, c.bit(), 1) == 1
-}
-
 // Are the regions locked? A function for each question of the documents, over the one that reads a bit: who asked one function of an option would
 // have to know that only some count in HFI mode alone.
 pub fn locked(h: &HfiState) -> bool
     ensures { result ≡ is_locked h.now }
 {
-    inside(h) && chosen(h, Choice::LockRegions)
+    inside(h) && Choice::LockRegions.is_among(h.options)
 }
 
 // Are system calls redirected?
 pub fn redirects_calls(h: &HfiState) -> bool
     ensures { result ≡ redirects_calls h.now }
 {
-    inside(h) && chosen(h, Choice::RedirectCalls)
+    inside(h) && Choice::RedirectCalls.is_among(h.options)
 }
 
 // Are exits redirected?
 pub fn redirects_exits(h: &HfiState) -> bool
     ensures { result ≡ redirects_exits h.now }
 {
-    chosen(h, Choice::RedirectExits)
+    Choice::RedirectExits.is_among(h.options)
 }
 
 // Into HFI mode with new options; the fault record keeps all but `occurred`.

@@ -10,7 +10,6 @@ use instructions::kind::HfiKind;
 use model::permission::Choice;
 use model::stop::{Rule, keep};
 use model::{HfiState, LARGEST_OPTIONS, LAST_REGION};
-use words::bits;
 use writable_code::writable_code;
 
 // The rule of an h-word.
@@ -27,7 +26,7 @@ fn enter_rules(h: &HfiState, options: u64) -> Result<(), Rule>
 {
     keep(!inside(h), Rule::AlreadyInside)?;
     keep(options <= LARGEST_OPTIONS, Rule::Operand)?;
-    let locks = bits(options, Choice::LockRegions.bit(), 1) == 1;
+    let locks = Choice::LockRegions.is_among(options);
     keep(!(locks && writable_code(&h.regions)), Rule::WritableCode)
 }
 

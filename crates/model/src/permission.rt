@@ -1,7 +1,9 @@
 // The permissions of a region and the options of HFI mode, each by its bit: a case's place in its list is the bit's number.
 ghost use Rattle.std.specs.Prelude.{◌≡◌};
-ghost use Rattle.model.specs.Machine.{option_bit};
+ghost use Rattle.model.specs.Machine.{bit, option_bit};
 ghost use Rattle.model.specs.Regions.{permission_bit};
+
+use words::bits;
 
 #[derive(Clone, Copy, PartialEq, Eq)]
 pub enum Permission {
@@ -34,5 +36,12 @@ impl Choice {
         ensures { result ≡ option_bit self }
     {
         self as u64
+    }
+
+    // Do these options choose it?
+    pub fn is_among(self, options: u64) -> bool
+        ensures { result ≡ bit (option_bit self) options }
+    {
+        bits(options, self.bit(), 1) == 1
     }
 }
