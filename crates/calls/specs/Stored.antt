@@ -1,8 +1,9 @@
--- The machine that the lines of a stored call describe; README.md has the form. No promise rests on this file: it serves the program `calls`.
+-- The machine and the memory that the lines of a stored call describe; README.md has the form. No promise rests on this file: it serves the program `calls`.
 -- Machine is declared in model/src/lib.rt. Assumes nothing.
-use Rattle.std.specs.Prelude.{List, [], ◌∷◌, ℕ, ◌+◌, ◌*◌, get_or, set, drop, replicate}
+use Rattle.std.specs.Prelude.{cond, List, [], ◌∷◌, ℕ, ◌+◌, ◌*◌, leb, get_or, set, drop, replicate}
 use Rattle.text.specs.Number.{number}
 use Rattle.text.specs.Split.{fields, row_of}
+use Rattle.model.specs.Bytes.{written}
 use Rattle.model.specs.Machine.{last_region, regions_from}
 use Rattle.model.specs.declared.HfiState.{HfiState}
 use Rattle.model.specs.declared.Machine.{Machine}
@@ -13,14 +14,26 @@ pairs base [] = []
 pairs base (f ∷ []) = []
 pairs base (f ∷ g ∷ fs) = (number base f, number 16 g) ∷ pairs base fs
 
--- each second number stored at the place that the first one says, where there is such a place
-unfoldable pub stored_at : List ℕ → List (ℕ × ℕ) → List ℕ
-stored_at x [] = x
-stored_at x (p ∷ ps) = stored_at (set x p.0 p.1) ps
+-- what `put` leaves, of each pair in turn
+unfoldable pub put_all : (List ℕ → ℕ → ℕ → List ℕ) → List ℕ → List (ℕ × ℕ) → List ℕ
+put_all put x [] = x
+put_all put x (p ∷ ps) = put_all put (put x p.0 p.1) ps
+
+-- the pairs of a line that begins with a word
+abbrev pub pairs_of : ℕ → List ℕ → List (ℕ × ℕ)
+pairs_of base line = pairs base (drop 1 (fields line))
 
 -- "`x`: number and value of each register that is not 0", the numbers in decimal
 abbrev pub registers_of : List ℕ → List ℕ
-registers_of line = stored_at (replicate 32 0) (pairs 10 (drop 1 (fields line)))
+registers_of line = put_all set (replicate 32 0) (pairs_of 10 line)
+
+-- a doubleword in 65,536 bytes, where it has room
+abbrev pub put_doubleword : List ℕ → ℕ → ℕ → List ℕ
+put_doubleword mem a v = cond (leb a 65528) (written mem a 0 8 v) mem
+
+-- "`memory`: address and value of each doubleword that is not 0"
+abbrev pub filled : List ℕ → List ℕ → List ℕ
+filled mem line = put_all put_doubleword mem (pairs_of 16 line)
 
 -- "then base, bound or mask and permission of regions 1 to 10"
 abbrev pub first_region : ℕ

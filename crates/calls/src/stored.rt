@@ -1,6 +1,6 @@
 // A stored call: its lines, and the machine and the memory that they describe.
 ghost use Rattle.std.specs.Prelude.{◌≡◌, set};
-ghost use Rattle.calls.specs.Stored.{registers_of, machine_of};
+ghost use Rattle.calls.specs.Stored.{registers_of, machine_of, put_doubleword, filled};
 
 use memory::bytes::write;
 use model::{Fault, HfiState, Machine, REGIONS};
@@ -27,9 +27,9 @@ fn set_register(x: &mut [u64; 32], i: u64, v: u64)
     }
 }
 
-// The registers of a line of pairs, number and value; the others are 0. A turn takes two fields: a `for` over both would go through the
-// line twice, `line.split(..).skip(1).step_by(2).zip(line.split(..).skip(2).step_by(2))`. `fill` has the same loop: tried as one function that
-// takes a closure, and the proof didn't close, since the check refuses its own module `Given` of such a loop where the function is generic.
+// The registers of a line of pairs, number and value; the others are 0. A turn takes two fields: a `for` takes one, or goes through the line
+// twice, by `line.split(..).skip(1).step_by(2).zip(line.split(..).skip(2).step_by(2))`. `fill` has the same loop. Tried as one function with
+// a closure: the proof didn't close, since the check refuses its own module `Given` for an invariant of such a loop in a generic function.
 fn registers(line: &[u8]) -> [u64; 32]
     ensures { result ≡ registers_of line.now }
 {
@@ -77,14 +77,18 @@ pub fn machine(c: &Lines) -> Machine
 }
 
 // A doubleword put into memory, where it has room.
-fn put(mem: &mut [u8; 65536], a: u64, v: u64) {
+fn put(mem: &mut [u8; 65536], a: u64, v: u64)
+    ensures { mem.new ≡ put_doubleword mem.old a v }
+{
     if a <= 65528 {
         write(mem, a, 8, v);
     }
 }
 
-// The doublewords of a line of pairs, address and value, put into memory.
-pub fn fill(line: &[u8], mem: &mut [u8; 65536]) {
+// The doublewords of a line of pairs, address and value, put into memory. `registers` says why its loop is as it is.
+pub fn fill(line: &[u8], mem: &mut [u8; 65536])
+    ensures { mem.new ≡ filled mem.old line.now }
+{
     let mut fields = line.split(|&b| b == b',').skip(1);
     while let (Some(a), Some(v)) = (fields.next(), fields.next()) {
         put(mem, number(a, 16), number(v, 16));

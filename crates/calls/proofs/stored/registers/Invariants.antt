@@ -1,8 +1,8 @@
--- With the pairs that are still to come stored too, x has them all.
-use Rattle.std.proofs.Common.{◌≡◌, List, ℕ}
-use Rattle.std.proofs.lemmas.Iterator.{YieldsList}
-use Rattle.calls.specs.Stored.{pairs, stored_at, registers_of}
+-- With the pairs that are still to come, x has them all.
+use Rattle.std.proofs.Common.{set}
+use Rattle.calls.specs.Stored.{registers_of}
+use Rattle.calls.proofs.Pairs.{StillToPut}
 use Rattle.calls.proofs.stored.registers.Given as goal
 
 abbrev pub invariant-loop-i : goal.invariant-loop-i
-invariant-loop-i l = (fs : List (List ℕ)) × YieldsList (goal.iterator-loop-i).next_gives (λ f. f.now) l.fields fs × (stored_at l.x (pairs 10 fs) ≡ registers_of l.fn.line)
+invariant-loop-i l = StillToPut (goal.iterator-loop-i).next_gives set 10 l.x l.fields (registers_of l.fn.line)
