@@ -4,14 +4,14 @@
 mod answer;
 mod stored;
 
-use answer::{Answer, print_answer};
-use columns::{each_doubleword, read_file};
+use answer::Answer;
+use columns::{each_doubleword, each_register, read_file};
 use model::Machine;
 use run::run_call;
 use std::io;
 use std::rt::Files;
 use step::call::{resume_call, step_call};
-use stored::{Lines, fill, machine, split_call};
+use stored::{Lines, fill, machine};
 use text::row::read_row;
 
 // What is called, with the budget of a run and the value of a resumption.
@@ -23,7 +23,7 @@ enum Call {
 }
 
 impl Call {
-    // As the line of a call numbers it.
+    // As the line of a call numbers it: the file has no names, and its numbers are asked here alone.
     fn numbered(n: u64, argument: u64) -> Call {
         match n {
             1 => Call::Step,
@@ -51,18 +51,31 @@ fn show(rt: &impl Print, c: &Lines) -> io::Result<()> {
     let call = Call::numbered(n.value, argument.value);
     let answer = call.make(machine(c), &mut mem[..lent]);
     rt.write_all(c.name)?;
-    print_answer(rt, &answer)?;
+    print!(rt; "\n{answer}\nx")?;
+    each_register(&answer.machine.x, |i, v| print!(rt; ",{i},{v:x}"))?;
     print!(rt; "\nmemory")?;
     each_doubleword(&mem, |a, v| print!(rt; ",{a:x},{v:x}"))?;
     println!(rt)
 }
 
-// Makes each call of a text. `iter::from_fn` would be no plainer: its closure would carry what is left, whose length ends this loop.
+// Makes each call of a text. A call is five lines, so a turn takes five, where a `for` takes one.
 fn show_all(rt: &impl Print, s: &[u8]) -> io::Result<()> {
-    let mut left = s;
-    while let Some((call, after)) = split_call(left) {
+    let mut lines = s.split(|&b| b == b'\n');
+    while let (Some(name), Some(call), Some(state), Some(x), Some(memory)) = (
+        lines.next(),
+        lines.next(),
+        lines.next(),
+        lines.next(),
+        lines.next(),
+    ) {
+        let call = Lines {
+            name,
+            call,
+            state,
+            x,
+            memory,
+        };
         show(rt, &call)?;
-        left = after;
     }
     Ok(())
 }

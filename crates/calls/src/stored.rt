@@ -1,13 +1,12 @@
 // A stored call: its lines, and the machine and the memory that they describe.
-ghost use Rattle.std.specs.Prelude.{◌<◌, ◌≤◌, ◌-◌, length, IfSome};
+ghost use Rattle.std.specs.Prelude.{◌≡◌, set};
+ghost use Rattle.calls.specs.Stored.{registers_of, machine_of, put_doubleword, filled};
 
 use memory::bytes::write;
 use model::{Fault, HfiState, Machine, REGIONS};
 use setup::regions_from;
-use text::field::split_line;
 use text::number::number;
 use text::row::read_row;
-use text::scan::{front, position, rest};
 
 // The lines of a call, in their order.
 #[derive(Clone, Copy)]
@@ -19,63 +18,26 @@ pub struct Lines<'a> {
     pub memory: &'a [u8],
 }
 
-// The first line, and what follows it; both are empty of an empty text.
-fn first_line(s: &[u8]) -> (&[u8], &[u8])
-    ensures { length result.1.now ≤ length s.now }
+// A register of the line, where there is such a register.
+fn set_register(x: &mut [u64; 32], i: u64, v: u64)
+    ensures { x.new ≡ set x.old i v }
 {
-    split_line(s).unwrap_or((&[], &[]))
-}
-
-// The first call of a text, and what follows it. A line that is missing is empty.
-pub fn split_call(s: &[u8]) -> Option<(Lines<'_>, &[u8])>
-    ensures { IfSome result (λ parts. length parts.1.now < length s.now) }
-{
-    let (name, left) = split_line(s)?;
-    let (call, left) = first_line(left);
-    let (state, left) = first_line(left);
-    let (x, left) = first_line(left);
-    let (memory, left) = first_line(left);
-    let lines = Lines {
-        name,
-        call,
-        state,
-        x,
-        memory,
-    };
-    Some((lines, left))
-}
-
-// The first field of a line, and what follows its comma; both are empty of an empty line. It is not `split_line` with another
-// separator: that answers None of an empty text, and an empty line still has a field.
-fn split_field(line: &[u8]) -> (&[u8], &[u8])
-    ensures { length result.1.now ≤ length line.now - 1 }
-{
-    let end = position(line, b',');
-    (front(line, end), rest(line, end + 1))
-}
-
-// Hands on the pairs of fields that follow a line's first field. `line.split` would be no plainer: it hands out one field at a time, and
-// the loop would keep the first of each pair.
-fn each_pair<F: FnMut(&[u8], &[u8])>(line: &[u8], mut take: F)
-    requires { F.IsAlwaysCallable take }
-{
-    let (_, mut left) = split_field(line);
-    while !left.is_empty() {
-        let (first, after) = split_field(left);
-        let (second, after) = split_field(after);
-        take(first, second);
-        left = after;
+    if i < 32 {
+        x[i as usize] = v;
     }
 }
 
-// The registers of a line of pairs, number and value; the others are 0.
-fn registers(line: &[u8]) -> [u64; 32] {
+// The registers of a line of pairs, number and value; the others are 0. A turn takes two fields: a `for` takes one, or goes through the line
+// twice, by `line.split(..).skip(1).step_by(2).zip(line.split(..).skip(2).step_by(2))`. `fill` has the same loop. Tried as one function with
+// a closure: the proof didn't close, since the check refuses its own module `Given` for an invariant of such a loop in a generic function.
+fn registers(line: &[u8]) -> [u64; 32]
+    ensures { result ≡ registers_of line.now }
+{
     let mut x = [0u64; 32];
-    each_pair(line, |i, v| {
-        if let Some(register) = x.get_mut(number(i, 10) as usize) {
-            *register = number(v, 16);
-        }
-    });
+    let mut fields = line.split(|&b| b == b',').skip(1);
+    while let (Some(i), Some(v)) = (fields.next(), fields.next()) {
+        set_register(&mut x, number(i, 10), number(v, 16));
+    }
     x
 }
 
@@ -85,7 +47,9 @@ const FIRST_REGION: usize = 8;
 const STATE_FIELDS: usize = FIRST_REGION + 3 * REGIONS + 4;
 
 // The machine of a call.
-pub fn machine(c: &Lines) -> Machine {
+pub fn machine(c: &Lines) -> Machine
+    ensures { result ≡ machine_of c.now.state.now c.now.x.now }
+{
     let (_, fields) = read_row::<STATE_FIELDS>(c.state);
     let v = fields.map(|f| f.value);
     let [_, pc, mode, reason, epc, options, handler, selector, ..] = v;
@@ -113,13 +77,20 @@ pub fn machine(c: &Lines) -> Machine {
 }
 
 // A doubleword put into memory, where it has room.
-fn put(mem: &mut [u8; 65536], a: u64, v: u64) {
+fn put(mem: &mut [u8; 65536], a: u64, v: u64)
+    ensures { mem.new ≡ put_doubleword mem.old a v }
+{
     if a <= 65528 {
         write(mem, a, 8, v);
     }
 }
 
-// The doublewords of a line of pairs, address and value, put into memory.
-pub fn fill(line: &[u8], mem: &mut [u8; 65536]) {
-    each_pair(line, |a, v| put(mem, number(a, 16), number(v, 16)));
+// The doublewords of a line of pairs, address and value, put into memory. `registers` says why its loop is as it is.
+pub fn fill(line: &[u8], mem: &mut [u8; 65536])
+    ensures { mem.new ≡ filled mem.old line.now }
+{
+    let mut fields = line.split(|&b| b == b',').skip(1);
+    while let (Some(a), Some(v)) = (fields.next(), fields.next()) {
+        put(mem, number(a, 16), number(v, 16));
+    }
 }

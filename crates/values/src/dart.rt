@@ -21,11 +21,13 @@ fn registers(r: &[u8]) -> [u64; 32] {
     x
 }
 
+// One for this and that of `value` would be handed each number of its two lines too.
 fn fill(r: &[u8], mem: &mut [u8; 2097152]) {
     place_words(r, 112, 18, mem, 0x100000);
     write(mem, 0x180000, 4, 0x00000073);
 }
 
+// Not by Display: `Ran` is another crate's, so that would be of a type made for it, and these lines with `write!`.
 fn print_end(rt: &impl Print, o: Ran) -> io::Result<()> {
     print!(rt; " {}", o.stop.number())?;
     if o.stop == Stop::SystemCall {

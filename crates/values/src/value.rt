@@ -38,7 +38,8 @@ fn print_case(rt: &impl Print, r: &[u8]) -> io::Result<()> {
 }
 
 // A line for each case of a file, which is 161 bytes. The room is made elsewhere: the prover takes no part of so large an array
-// where it is made.
+// where it is made. One function for these and for Dart's cases would take the room, the size of a record and what prints one, and give
+// each of them no more than the loop's line.
 fn print_cases_in(
     rt: &(impl Files + Print + Eprint),
     path: &str,
