@@ -70,8 +70,8 @@ fn decode_system(w: Word) -> Option<Instruction>
     }
 }
 
-// The explicit region that rs1's field and the other, rd's or rs2's, choose by their top bits. A table read here costs
-// the step of an h-word some twenty instructions more.
+// The explicit region that rs1's field and the other, rd's or rs2's, choose by their top bits. No `EXPLICIT_REGIONS[..]`: with it the guest
+// program `copy` takes 189.4 instructions a step, more than plain C with the same checks (186.9); with the match 171.5.
 fn chosen_region(rs1: u64, other: u64) -> u64
     ensures { result ≡ chosen_region rs1 other }
 {
