@@ -8,8 +8,9 @@ ghost use Rattle.instructions.specs.Decode.{decode_jalr, decode_shift, decode_im
 pub mod word;
 
 use crate::word::Word;
-use instructions::hfi_table::fields_named;
-use instructions::instruction::Instruction;
+use instructions::code::Coded;
+use instructions::instruction::{EXPLICIT_REGIONS, Instruction};
+use instructions::kind::HfiKind;
 use instructions::opcode;
 use words::{bits, put};
 
@@ -69,18 +70,12 @@ fn decode_system(w: Word) -> Option<Instruction>
     }
 }
 
-// The explicit region that rs1's field and the other, rd's or rs2's, choose by their top bits. A table read here costs
-// the step of an h-word some twenty instructions more.
+// The explicit region that rs1's field and the other, rd's or rs2's, choose by their top bits.
 fn chosen_region(rs1: u64, other: u64) -> u64
     ensures { result ≡ chosen_region rs1 other }
 {
     let choice = put(bits(other, 4, 1), bits(rs1, 4, 1), 1);
-    match choice {
-        0 => 1,
-        1 => 4,
-        2 => 5,
-        _ => 6,
-    }
+    EXPLICIT_REGIONS[choice as usize]
 }
 
 // A load and a store stay two: they are of two formats, and choose their region by two other fields.
@@ -108,11 +103,9 @@ fn decode_hfi(w: Word) -> Option<Instruction>
     ensures { result ≡ decode_hfi w.fields }
 {
     let f = w.fields;
-    if f.funct3 == 0 && fields_named(f.funct7, f.rd, f.rs1, f.rs2) {
-        listing::hfi(f.funct7, f.rd, f.rs1, f.rs2)
-    } else {
-        None
-    }
+    let k = HfiKind::of_code(f.funct7)?;
+    let named = k.fields_named(f.rd, f.rs1, f.rs2);
+    (f.funct3 == 0 && named).then_some(Instruction::Hfi(k, f.rd, f.rs1, f.rs2))
 }
 
 fn decode_fields(w: Word) -> Option<Instruction>

@@ -1,4 +1,5 @@
-// The fields of each format, and the word that fields make.
+// The fields of each format, and the word that fields make. What they are made of stays a list of parameters, those of a variant of
+// `Instruction`: a struct of them would be made in one arm of `encode_fields`, to be taken apart here at once.
 ghost use Rattle.std.specs.Prelude.{◌≡◌, ◌^◌, ◌<◌};
 ghost use Rattle.instructions.specs.Fields.{word_of};
 ghost use Rattle.instructions.specs.InWord.{InWord};

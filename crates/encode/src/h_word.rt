@@ -2,15 +2,9 @@
 ghost use Rattle.std.specs.Prelude.{◌≡◌, ◌^◌, ◌<◌};
 ghost use Rattle.words.specs.Word.{fits_signed};
 ghost use Rattle.instructions.specs.HWords.{explicit_regions, place_in, rs1_field, other_field};
-ghost use Rattle.instructions.specs.Encode.{encode_fields, h_word};
-ghost use Rattle.instructions.specs.declared.instruction.Instruction.TheVariants.{HLoad, HStore};
+ghost use Rattle.instructions.specs.Encode.{h_word};
 
-use crate::format::{i_fields, s_fields};
-use instructions::code::Coded;
-use instructions::fields::Fields;
 use instructions::instruction::EXPLICIT_REGIONS;
-use instructions::kind::{LoadKind, StoreKind};
-use instructions::opcode::{H_LOAD, H_STORE};
 use words::{bits, fits_signed, put};
 
 // The choice that means an explicit region; for any other it is their count, which two bits cannot hold. No Option: the definitions
@@ -30,7 +24,7 @@ pub fn h_word_in_range(region: u64, a: u64, b: u64, imm: u64) -> bool
 
 // Of the choice this field has bit 1 and `other_field` bit 0. One function with the bit as a parameter would be no plainer: each call
 // would give the bit in place of the field's name, and each is held to its own definition.
-fn rs1_field(region: u64, register: u64) -> u64
+pub fn rs1_field(region: u64, register: u64) -> u64
     requires { register < 2 ^ 4 }
     ensures { result ≡ rs1_field region register }
 {
@@ -38,36 +32,9 @@ fn rs1_field(region: u64, register: u64) -> u64
 }
 
 // The field of rd, or of rs2 in a store.
-fn other_field(region: u64, register: u64) -> u64
+pub fn other_field(region: u64, register: u64) -> u64
     requires { register < 2 ^ 4 }
     ensures { result ≡ other_field region register }
 {
     put(register, bits(choice_of(region), 0, 1), 4)
-}
-
-// Loads and stores stay two: they are of two formats, and their register fields stand in two orders.
-pub fn h_load_fields(k: LoadKind, region: u64, rd: u64, rs1: u64, imm: u64) -> Fields
-    requires { (rd < 2 ^ 4) × (rs1 < 2 ^ 4) }
-    ensures { result ≡ encode_fields (HLoad k region rd rs1 imm) }
-{
-    i_fields(
-        H_LOAD,
-        k.code(),
-        other_field(region, rd),
-        rs1_field(region, rs1),
-        imm,
-    )
-}
-
-pub fn h_store_fields(k: StoreKind, region: u64, rs1: u64, rs2: u64, imm: u64) -> Fields
-    requires { (rs1 < 2 ^ 4) × (rs2 < 2 ^ 4) }
-    ensures { result ≡ encode_fields (HStore k region rs1 rs2 imm) }
-{
-    s_fields(
-        H_STORE,
-        k.code(),
-        rs1_field(region, rs1),
-        other_field(region, rs2),
-        imm,
-    )
 }

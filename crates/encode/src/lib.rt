@@ -11,13 +11,12 @@ pub mod h_word;
 use crate::format::{
     b_fields, fence_fields, i_fields, j_fields, join, r_fields, s_fields, shift_fields, u_fields,
 };
-use crate::h_word::{h_load_fields, h_store_fields, h_word_in_range};
+use crate::h_word::{h_word_in_range, other_field, rs1_field};
 use instructions::code::Coded;
 use instructions::fields::Fields;
-use instructions::hfi_table::fields_named;
 use instructions::instruction::Instruction;
 use instructions::opcode::{
-    BRANCH, HFI, JAL, JALR, LOAD, OP, OP_32, OP_IMM, OP_IMM_32, STORE, SYSTEM,
+    BRANCH, H_LOAD, H_STORE, HFI, JAL, JALR, LOAD, OP, OP_32, OP_IMM, OP_IMM_32, STORE, SYSTEM,
 };
 use words::{bits, fits_signed, put};
 
@@ -62,7 +61,7 @@ fn in_range(i: Instruction) -> bool
         Instruction::Hfi(k, rd, rs1, rs2) => two_registers(
             rd,
             rs1,
-            rs2 < 32 && fields_named(k.code(), rd, rs1, rs2),
+            rs2 < 32 && k.fields_named(rd, rs1, rs2),
         ),
     }
 }
@@ -86,8 +85,20 @@ fn encode_fields(i: Instruction) -> Fields
         Instruction::RegisterWord(k, rd, rs1, rs2) => r_fields(OP_32, k.code(), rd, rs1, rs2),
         Instruction::Fence(fm, pred, succ, rs1, rd) => fence_fields(fm, pred, succ, rs1, rd),
         Instruction::System(k) => i_fields(SYSTEM, 0, 0, 0, k.code()),
-        Instruction::HLoad(k, region, rd, rs1, imm) => h_load_fields(k, region, rd, rs1, imm),
-        Instruction::HStore(k, region, rs1, rs2, imm) => h_store_fields(k, region, rs1, rs2, imm),
+        Instruction::HLoad(k, region, rd, rs1, imm) => i_fields(
+            H_LOAD,
+            k.code(),
+            other_field(region, rd),
+            rs1_field(region, rs1),
+            imm,
+        ),
+        Instruction::HStore(k, region, rs1, rs2, imm) => s_fields(
+            H_STORE,
+            k.code(),
+            rs1_field(region, rs1),
+            other_field(region, rs2),
+            imm,
+        ),
         Instruction::Hfi(k, rd, rs1, rs2) => r_fields(HFI, put(0, k.code(), 3), rd, rs1, rs2),
     }
 }

@@ -1,5 +1,6 @@
-// Kinds and their codes, both ways: the numbers of their function fields, of their opcode, or document 01's funct7. Each stands
-// twice, and is proved the same. As discriminants of the kinds they cost the loop of steps up to five instructions more a step. A table each, since no two kinds have the same codes.
+// Kinds and their codes, both ways: the numbers of their function fields, of their opcode, or document 01's funct7. A code is the
+// discriminant of its kind. A pattern cannot name a discriminant, so each `of_code` has the numbers again, proved to be the same:
+// one search of a list would want a list for each kind in the place of its match. Each `code` is written out, since no type parameter can be cast.
 ghost use Rattle.std.specs.Prelude.{◌≡◌, List, ℕ, Some, None};
 ghost use Rattle.instructions.specs.Table.{of_code, Found};
 ghost use Rattle.instructions.specs.Kinds.{upper_code, upper_kinds, branch_code, branch_kinds, load_code, load_kinds, store_code, store_kinds, immediate_code, immediate_kinds, shift_code, shift_kinds, shift_word_code, shift_word_kinds, register_code, register_kinds, register_word_code, register_word_kinds, system_code, system_kinds, hfi_code, hfi_kinds};
@@ -11,7 +12,7 @@ use crate::kind::{
 };
 use crate::opcode::{AUIPC, LUI};
 
-// A kind that stands under a code.
+// A kind that stands under a code. One trait for both ways, since `found` is a law of both: From<Kind> for u64 and TryFrom<u64> would be two, without it.
 pub trait Coded: Copy {
     ghost code_of: { Self → ℕ };
 
@@ -31,7 +32,6 @@ pub trait Coded: Copy {
     ghost found: { (k : Self) → Found code_of kinds width k };
 }
 
-// Opcode.
 impl Coded for UpperKind {
     ghost code_of = { upper_code };
 
@@ -42,10 +42,7 @@ impl Coded for UpperKind {
     ghost found = { Prim.search rules };
 
     fn code(self) -> u64 {
-        match self {
-            UpperKind::Lui => LUI,
-            UpperKind::Auipc => AUIPC,
-        }
+        self as u64
     }
 
     fn of_code(code: u64) -> Option<UpperKind> {
@@ -57,7 +54,6 @@ impl Coded for UpperKind {
     }
 }
 
-// funct3 of opcode BRANCH.
 impl Coded for BranchKind {
     ghost code_of = { branch_code };
 
@@ -68,14 +64,7 @@ impl Coded for BranchKind {
     ghost found = { Prim.search rules };
 
     fn code(self) -> u64 {
-        match self {
-            BranchKind::Beq => 0b000,
-            BranchKind::Bne => 0b001,
-            BranchKind::Blt => 0b100,
-            BranchKind::Bge => 0b101,
-            BranchKind::Bltu => 0b110,
-            BranchKind::Bgeu => 0b111,
-        }
+        self as u64
     }
 
     fn of_code(code: u64) -> Option<BranchKind> {
@@ -91,7 +80,6 @@ impl Coded for BranchKind {
     }
 }
 
-// funct3 of opcode LOAD, and of opcode 0b.
 impl Coded for LoadKind {
     ghost code_of = { load_code };
 
@@ -102,15 +90,7 @@ impl Coded for LoadKind {
     ghost found = { Prim.search rules };
 
     fn code(self) -> u64 {
-        match self {
-            LoadKind::Lb => 0b000,
-            LoadKind::Lh => 0b001,
-            LoadKind::Lw => 0b010,
-            LoadKind::Ld => 0b011,
-            LoadKind::Lbu => 0b100,
-            LoadKind::Lhu => 0b101,
-            LoadKind::Lwu => 0b110,
-        }
+        self as u64
     }
 
     fn of_code(code: u64) -> Option<LoadKind> {
@@ -127,7 +107,6 @@ impl Coded for LoadKind {
     }
 }
 
-// funct3 of opcode STORE, and of opcode 2b.
 impl Coded for StoreKind {
     ghost code_of = { store_code };
 
@@ -138,12 +117,7 @@ impl Coded for StoreKind {
     ghost found = { Prim.search rules };
 
     fn code(self) -> u64 {
-        match self {
-            StoreKind::Sb => 0b000,
-            StoreKind::Sh => 0b001,
-            StoreKind::Sw => 0b010,
-            StoreKind::Sd => 0b011,
-        }
+        self as u64
     }
 
     fn of_code(code: u64) -> Option<StoreKind> {
@@ -157,7 +131,6 @@ impl Coded for StoreKind {
     }
 }
 
-// funct3 of opcode OP-IMM.
 impl Coded for ImmediateKind {
     ghost code_of = { immediate_code };
 
@@ -168,14 +141,7 @@ impl Coded for ImmediateKind {
     ghost found = { Prim.search rules };
 
     fn code(self) -> u64 {
-        match self {
-            ImmediateKind::Addi => 0b000,
-            ImmediateKind::Slti => 0b010,
-            ImmediateKind::Sltiu => 0b011,
-            ImmediateKind::Xori => 0b100,
-            ImmediateKind::Ori => 0b110,
-            ImmediateKind::Andi => 0b111,
-        }
+        self as u64
     }
 
     fn of_code(code: u64) -> Option<ImmediateKind> {
@@ -191,7 +157,6 @@ impl Coded for ImmediateKind {
     }
 }
 
-// The six bits above the amount, and funct3, of opcode OP-IMM.
 impl Coded for ShiftKind {
     ghost code_of = { shift_code };
 
@@ -202,11 +167,7 @@ impl Coded for ShiftKind {
     ghost found = { Prim.search rules };
 
     fn code(self) -> u64 {
-        match self {
-            ShiftKind::Slli => 0b000000_001,
-            ShiftKind::Srli => 0b000000_101,
-            ShiftKind::Srai => 0b010000_101,
-        }
+        self as u64
     }
 
     fn of_code(code: u64) -> Option<ShiftKind> {
@@ -219,7 +180,6 @@ impl Coded for ShiftKind {
     }
 }
 
-// funct7 and funct3 of opcode OP-IMM-32.
 impl Coded for ShiftWordKind {
     ghost code_of = { shift_word_code };
 
@@ -230,11 +190,7 @@ impl Coded for ShiftWordKind {
     ghost found = { Prim.search rules };
 
     fn code(self) -> u64 {
-        match self {
-            ShiftWordKind::Slliw => 0b0000000_001,
-            ShiftWordKind::Srliw => 0b0000000_101,
-            ShiftWordKind::Sraiw => 0b0100000_101,
-        }
+        self as u64
     }
 
     fn of_code(code: u64) -> Option<ShiftWordKind> {
@@ -247,7 +203,6 @@ impl Coded for ShiftWordKind {
     }
 }
 
-// funct7 and funct3 of opcode OP.
 impl Coded for RegisterKind {
     ghost code_of = { register_code };
 
@@ -258,26 +213,7 @@ impl Coded for RegisterKind {
     ghost found = { Prim.search rules };
 
     fn code(self) -> u64 {
-        match self {
-            RegisterKind::Add => 0b0000000_000,
-            RegisterKind::Sub => 0b0100000_000,
-            RegisterKind::Sll => 0b0000000_001,
-            RegisterKind::Slt => 0b0000000_010,
-            RegisterKind::Sltu => 0b0000000_011,
-            RegisterKind::Xor => 0b0000000_100,
-            RegisterKind::Srl => 0b0000000_101,
-            RegisterKind::Sra => 0b0100000_101,
-            RegisterKind::Or => 0b0000000_110,
-            RegisterKind::And => 0b0000000_111,
-            RegisterKind::Mul => 0b0000001_000,
-            RegisterKind::Mulh => 0b0000001_001,
-            RegisterKind::Mulhsu => 0b0000001_010,
-            RegisterKind::Mulhu => 0b0000001_011,
-            RegisterKind::Div => 0b0000001_100,
-            RegisterKind::Divu => 0b0000001_101,
-            RegisterKind::Rem => 0b0000001_110,
-            RegisterKind::Remu => 0b0000001_111,
-        }
+        self as u64
     }
 
     fn of_code(code: u64) -> Option<RegisterKind> {
@@ -305,7 +241,6 @@ impl Coded for RegisterKind {
     }
 }
 
-// funct7 and funct3 of opcode OP-32.
 impl Coded for RegisterWordKind {
     ghost code_of = { register_word_code };
 
@@ -316,18 +251,7 @@ impl Coded for RegisterWordKind {
     ghost found = { Prim.search rules };
 
     fn code(self) -> u64 {
-        match self {
-            RegisterWordKind::Addw => 0b0000000_000,
-            RegisterWordKind::Subw => 0b0100000_000,
-            RegisterWordKind::Sllw => 0b0000000_001,
-            RegisterWordKind::Srlw => 0b0000000_101,
-            RegisterWordKind::Sraw => 0b0100000_101,
-            RegisterWordKind::Mulw => 0b0000001_000,
-            RegisterWordKind::Divw => 0b0000001_100,
-            RegisterWordKind::Divuw => 0b0000001_101,
-            RegisterWordKind::Remw => 0b0000001_110,
-            RegisterWordKind::Remuw => 0b0000001_111,
-        }
+        self as u64
     }
 
     fn of_code(code: u64) -> Option<RegisterWordKind> {
@@ -347,7 +271,6 @@ impl Coded for RegisterWordKind {
     }
 }
 
-// funct12 of opcode SYSTEM.
 impl Coded for SystemKind {
     ghost code_of = { system_code };
 
@@ -358,10 +281,7 @@ impl Coded for SystemKind {
     ghost found = { Prim.search rules };
 
     fn code(self) -> u64 {
-        match self {
-            SystemKind::Ecall => 0,
-            SystemKind::Ebreak => 1,
-        }
+        self as u64
     }
 
     fn of_code(code: u64) -> Option<SystemKind> {
@@ -373,7 +293,6 @@ impl Coded for SystemKind {
     }
 }
 
-// Document 01's funct7 of opcode 5b.
 impl Coded for HfiKind {
     ghost code_of = { hfi_code };
 
@@ -384,21 +303,7 @@ impl Coded for HfiKind {
     ghost found = { Prim.search rules };
 
     fn code(self) -> u64 {
-        match self {
-            HfiKind::Enter => 0,
-            HfiKind::EnterJump => 1,
-            HfiKind::Exit => 2,
-            HfiKind::SelectRegion => 3,
-            HfiKind::SetBase => 4,
-            HfiKind::GetBase => 5,
-            HfiKind::SetBound => 6,
-            HfiKind::GetBound => 7,
-            HfiKind::SetPermission => 8,
-            HfiKind::GetPermission => 9,
-            HfiKind::SetHandler => 10,
-            HfiKind::GetHandler => 11,
-            HfiKind::ResetRegions => 12,
-        }
+        self as u64
     }
 
     fn of_code(code: u64) -> Option<HfiKind> {

@@ -1,5 +1,6 @@
 // The listing of each group: the instruction that stands under a code. Thirteen functions stay: a generic one would be
-// `of_code(..).map(..)` itself, and each is held to the definition of its own group.
+// `of_code(..).map(..)` itself, and each is held to the definition of its own group. Their parameters are those of the variant that each makes:
+// a struct of them would be made at the call, only to be taken apart here.
 #![tactic(auto)]
 
 ghost use Rattle.std.specs.Prelude.{◌≡◌, true, false};

@@ -1,5 +1,7 @@
 // Integer multiplication and division, the specification's chapter "M". Signed high halves are had from the unsigned one, signed
 // quotients and remainders from those of the magnitudes.
+// A number and its width stay two parameters, with `a < 2 ^ width` at each function: a struct of both, which would carry that, would be made of
+// plain registers at each of the callers' six calls, to be taken apart here at once; and with a const parameter in place of the width the fact would stay.
 ghost use Rattle.std.specs.Prelude.{◌≡◌, ◌^◌, ◌<◌, ◌≤◌, pos, ◌*ℤ◌, neg_ℤ, if◌then◌else◌, unsigned_abs};
 ghost use Rattle.std.specs.Int.Signed.{non_neg};
 ghost use Rattle.words.specs.Word.{signed, word};

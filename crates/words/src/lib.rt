@@ -1,5 +1,6 @@
 // Bits of 64-bit words. The codec takes words apart and puts them together by these functions. A number and its width stay two
-// parameters: the number is a plain u64 before and after, so a struct of both would be made at each call only to be taken apart here.
+// parameters: the number is a plain u64 before and after, so a struct of both would be made at each call only to be taken apart here;
+// and a width as a const parameter would have its bounds in each `requires` as before.
 #![tactic(auto)]
 
 ghost use Rattle.std.specs.Prelude.{◌≡◌, ◌+◌, ◌-◌, ◌*◌, ◌^◌, ◌<◌, ◌≤◌, not, int_lt};
