@@ -14,8 +14,7 @@ fn gather<const N: usize>(h: u64, pieces: &[(u64, u64); N]) -> u64
     ensures bound { result < 2 ^ total pieces.now N }
 {
     let mut x = 0;
-    for i in 0..N {
-        let (at, width) = pieces[i];
+    for &(at, width) in pieces {
         x = put(bits(h, at, width), x, width);
     }
     x

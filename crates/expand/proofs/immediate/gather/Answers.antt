@@ -6,25 +6,25 @@ use Rattle.expand.proofs.immediate.gather.Goals as goal
 
 pub bits-requires : goal.bits-requires
 bits-requires g c =
-    let f = fit_at c.args.pieces.now g.row.N c.loop-i.i c.requires c.loop-i-test.true in
+    let f = fit_at c.args.pieces.now g.row.N c.loop-at.at-index c.requires c.loop-at-test.true in
     (f.0, omega (arith, f.1))
 
 pub put-x-requires : goal.put-x-requires
 put-x-requires g c =
     let ps = c.args.pieces.now in
-    let i = c.loop-i.i in
-    let f = fit_at ps g.row.N i c.requires c.loop-i-test.true in
+    let i = c.loop-at.at-index in
+    let f = fit_at ps g.row.N i c.requires c.loop-at-test.true in
     let low : c.bits.result < 2 ^ wide ps i = rw c.bits.ensures (field_lt c.args.h (place ps i) (wide ps i)) in
-    let s = grows c.loop-i.x (total ps i) (wide ps i) c.bits.result c.loop-i.invariant.1 low f.1 in
+    let s = grows c.loop-at.x (total ps i) (wide ps i) c.bits.result c.loop-at.invariant.1 low f.1 in
     (omega (arith, f.1), low, s.0)
 
-pub loop-i-preserved : goal.loop-i-preserved
-loop-i-preserved g c =
+pub loop-at-preserved : goal.loop-at-preserved
+loop-at-preserved g c =
     let ps = c.args.pieces.now in
-    let i = c.loop-i.i in
-    let f = fit_at ps g.row.N i c.requires c.loop-i-test.true in
+    let i = c.loop-at.at-index in
+    let f = fit_at ps g.row.N i c.requires c.loop-at-test.true in
     let low : c.bits.result < 2 ^ wide ps i = rw c.bits.ensures (field_lt c.args.h (place ps i) (wide ps i)) in
-    let s = grows c.loop-i.x (total ps i) (wide ps i) c.bits.result c.loop-i.invariant.1 low f.1 in (
-      c.put-x.ensures ∙ ap₂ (λ x b. x * 2 ^ wide ps i + b) c.loop-i.invariant.0 c.bits.ensures ∙ sym (gathered_next c.args.h ps i),
+    let s = grows c.loop-at.x (total ps i) (wide ps i) c.bits.result c.loop-at.invariant.1 low f.1 in (
+      c.put-x.ensures ∙ ap₂ (λ x b. x * 2 ^ wide ps i + b) c.loop-at.invariant.0 c.bits.ensures ∙ sym (gathered_next c.args.h ps i),
       rw (c.put-x.ensures, total_next ps i) s.1,
     )
