@@ -1,39 +1,31 @@
 // The immediate of each format of half-words, from its row of pieces, the highest first: of each the place of its lowest bit in the
 // half-word and its width; and how many zeros stand below them. A row is a function and no constant, since a constant has no clause to say
 // which format it is.
-ghost use Rattle.std.specs.Prelude.{◌≡◌, ◌+◌, ◌<◌, ◌^◌, true};
+ghost use Rattle.std.specs.Prelude.{◌≡◌, ◌<◌, ◌^◌, true};
 ghost use Rattle.compressed.specs.Immediates.{zero_extended, sign_extended, addi4spn, word_offset, double_offset, six_bits, addi16sp, upper, jump_offset, branch_offset, word_from_stack, double_from_stack, word_to_stack, double_to_stack};
-ghost use Rattle.expand.specs.Rows.{gathered, total, fit, row};
+ghost use Rattle.expand.specs.Rows.{row, width_of, fit};
 
 use words::{bits, put, sign_extend};
 
-// The pieces side by side.
-fn gather<const N: usize>(h: u64, pieces: &[(u64, u64); N]) -> u64
-    requires { fit pieces.now N ≡ true }
-    ensures value { result ≡ gathered h pieces.now N }
-    ensures bound { result < 2 ^ total pieces.now N }
+// The pieces side by side, above `low` zeros.
+fn zero_extended<const N: usize>(h: u64, places: &[(u64, u64); N], low: u64) -> u64
+    requires { (fit places.now ≡ true) × (low < 64) × (width_of h places.now low < 64) }
+    ensures value { result ≡ zero_extended h (row places.now low) }
+    ensures bound { result < 2 ^ width_of h places.now low }
 {
     let mut x = 0;
-    for &(at, width) in pieces {
+    for &(at, width) in places {
         x = put(bits(h, at, width), x, width);
     }
-    x
+    put(0, x, low)
 }
 
-fn zero_extended<const N: usize>(h: u64, pieces: &[(u64, u64); N], low: u64) -> u64
-    requires { (fit pieces.now N ≡ true) × (total pieces.now N + low < 64) }
-    ensures value { result ≡ zero_extended h (row pieces.now low) }
-    ensures bound { result < 2 ^ (total pieces.now N + low) }
+// The same of a number of `size` bits with a sign.
+fn sign_extended<const N: usize>(h: u64, places: &[(u64, u64); N], low: u64, size: u64) -> u64
+    requires { (fit places.now ≡ true) × (low < 64) × (0 < size) × (size < 64) × (width_of h places.now low ≡ size) }
+    ensures { result ≡ sign_extended h (row places.now low) }
 {
-    put(0, gather(h, pieces), low)
-}
-
-// With the sign: `width` bits, of which the highest piece begins with the sign.
-fn sign_extended<const N: usize>(h: u64, pieces: &[(u64, u64); N], low: u64, width: u64) -> u64
-    requires { (fit pieces.now N ≡ true) × (0 < width) × (width < 64) × (total pieces.now N + low ≡ width) }
-    ensures { result ≡ sign_extended h (row pieces.now low) }
-{
-    sign_extend(zero_extended(h, pieces, low), width)
+    sign_extend(zero_extended(h, places, low), size)
 }
 
 pub fn addi4spn_immediate(h: u64) -> u64
