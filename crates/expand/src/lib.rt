@@ -1,7 +1,7 @@
 // Half-words: the integer words of RV64C, each of which stands for one instruction. By quadrant and funct3 to a line of the listing.
 #![tactic(auto)]
 
-ghost use Rattle.std.specs.Prelude.{◌≡◌, ◌<◌, ◌^◌};
+ghost use Rattle.std.specs.Prelude.{◌≡◌, ◌<◌};
 ghost use Rattle.words.specs.Word.{field};
 ghost use Rattle.compressed.specs.Immediates.{short as short_of};
 ghost use Rattle.compressed.specs.Expand.{expand_half, is_long};
@@ -20,9 +20,6 @@ use instructions::kind::{
 };
 use words::{bits, put};
 
-// That h is a half-word, and the fields that the caller looked at, stand in the contracts of the quadrants and their parts: each is one
-// more case of the same analysis, and a struct would carry only the first of these facts.
-
 // The register, of x8 to x15, that three bits name.
 fn short(h: u64, at: u64) -> u64
     requires { at < 64 }
@@ -31,28 +28,10 @@ fn short(h: u64, at: u64) -> u64
     put(bits(h, at, 3), 1, 3)
 }
 
-#[tactic(auto, unfolding(compressed::specs::Expand::expand_half))]
-fn quadrant_0(h: u64) -> Option<Instruction>
-    requires { (h < 2 ^ 16) × (field h 0 2 ≡ 0) }
-    ensures { result ≡ expand_half h }
-{
-    let rs1 = short(h, 7);
-    let rs2 = short(h, 2);
-    match bits(h, 13, 3) {
-        0 if bits(h, 5, 8) == 0 => None,
-        0 => Some(Instruction::Immediate(ImmediateKind::Addi, rs2, 2, addi4spn_immediate(h))),
-        2 => Some(Instruction::Load(LoadKind::Lw, rs2, rs1, word_offset(h))),
-        3 => Some(Instruction::Load(LoadKind::Ld, rs2, rs1, double_offset(h))),
-        6 => Some(Instruction::Store(StoreKind::Sw, rs1, rs2, word_offset(h))),
-        7 => Some(Instruction::Store(StoreKind::Sd, rs1, rs2, double_offset(h))),
-        _ => None,
-    }
-}
-
 // C.ADDI16SP and C.LUI.
 #[tactic(auto, unfolding(compressed::specs::Expand::expand_half))]
 fn upper(h: u64) -> Option<Instruction>
-    requires { (h < 2 ^ 16) × (field h 0 2 ≡ 1) × (field h 13 3 ≡ 3) }
+    requires { (field h 0 2 ≡ 1) × (field h 13 3 ≡ 3) }
     ensures { result ≡ expand_half h }
 {
     if bits(h, 12, 1) == 0 && bits(h, 2, 5) == 0 {
@@ -65,64 +44,32 @@ fn upper(h: u64) -> Option<Instruction>
     Some(Instruction::Upper(UpperKind::Lui, rd, lui_immediate(h)))
 }
 
-// The C.xx between two of x8 to x15.
+// What has the destination, of x8 to x15, as its first source.
 #[tactic(auto, unfolding(compressed::specs::Expand::expand_half))]
-fn between_registers(h: u64) -> Option<Instruction>
-    requires { (h < 2 ^ 16) × (field h 0 2 ≡ 1) × (field h 13 3 ≡ 4) × (field h 10 2 ≡ 3) }
+fn arithmetic(h: u64) -> Option<Instruction>
+    requires { (field h 0 2 ≡ 1) × (field h 13 3 ≡ 4) }
     ensures { result ≡ expand_half h }
 {
     let rd = short(h, 7);
     let rs2 = short(h, 2);
-    match put(bits(h, 5, 2), bits(h, 12, 1), 2) {
-        0 => Some(Instruction::Register(RegisterKind::Sub, rd, rd, rs2)),
-        1 => Some(Instruction::Register(RegisterKind::Xor, rd, rd, rs2)),
-        2 => Some(Instruction::Register(RegisterKind::Or, rd, rd, rs2)),
-        3 => Some(Instruction::Register(RegisterKind::And, rd, rd, rs2)),
-        4 => Some(Instruction::RegisterWord(RegisterWordKind::Subw, rd, rd, rs2)),
-        5 => Some(Instruction::RegisterWord(RegisterWordKind::Addw, rd, rd, rs2)),
+    match (bits(h, 10, 2), bits(h, 12, 1), bits(h, 5, 2)) {
+        (0, _, _) => Some(Instruction::Shift(ShiftKind::Srli, rd, rd, amount(h))),
+        (1, _, _) => Some(Instruction::Shift(ShiftKind::Srai, rd, rd, amount(h))),
+        (2, _, _) => Some(Instruction::Immediate(ImmediateKind::Andi, rd, rd, immediate(h))),
+        (3, 0, 0) => Some(Instruction::Register(RegisterKind::Sub, rd, rd, rs2)),
+        (3, 0, 1) => Some(Instruction::Register(RegisterKind::Xor, rd, rd, rs2)),
+        (3, 0, 2) => Some(Instruction::Register(RegisterKind::Or, rd, rd, rs2)),
+        (3, 0, 3) => Some(Instruction::Register(RegisterKind::And, rd, rd, rs2)),
+        (3, 1, 0) => Some(Instruction::RegisterWord(RegisterWordKind::Subw, rd, rd, rs2)),
+        (3, 1, 1) => Some(Instruction::RegisterWord(RegisterWordKind::Addw, rd, rd, rs2)),
         _ => None,
-    }
-}
-
-// What has the destination as its first source.
-#[tactic(auto, unfolding(compressed::specs::Expand::expand_half))]
-fn arithmetic(h: u64) -> Option<Instruction>
-    requires { (h < 2 ^ 16) × (field h 0 2 ≡ 1) × (field h 13 3 ≡ 4) }
-    ensures { result ≡ expand_half h }
-{
-    let rd = short(h, 7);
-    match bits(h, 10, 2) {
-        0 => Some(Instruction::Shift(ShiftKind::Srli, rd, rd, amount(h))),
-        1 => Some(Instruction::Shift(ShiftKind::Srai, rd, rd, amount(h))),
-        2 => Some(Instruction::Immediate(ImmediateKind::Andi, rd, rd, immediate(h))),
-        _ => between_registers(h),
-    }
-}
-
-#[tactic(auto, unfolding(compressed::specs::Expand::expand_half))]
-fn quadrant_1(h: u64) -> Option<Instruction>
-    requires { (h < 2 ^ 16) × (field h 0 2 ≡ 1) }
-    ensures { result ≡ expand_half h }
-{
-    let rd = bits(h, 7, 5);
-    let rs1 = short(h, 7);
-    match bits(h, 13, 3) {
-        0 => Some(Instruction::Immediate(ImmediateKind::Addi, rd, rd, immediate(h))),
-        1 if rd == 0 => None,
-        1 => Some(Instruction::Addiw(rd, rd, immediate(h))),
-        2 => Some(Instruction::Immediate(ImmediateKind::Addi, rd, 0, immediate(h))),
-        3 => upper(h),
-        4 => arithmetic(h),
-        5 => Some(Instruction::Jal(0, jump_offset(h))),
-        6 => Some(Instruction::Branch(BranchKind::Beq, rs1, 0, branch_offset(h))),
-        _ => Some(Instruction::Branch(BranchKind::Bne, rs1, 0, branch_offset(h))),
     }
 }
 
 // C.JR, C.MV, C.EBREAK, C.JALR and C.ADD.
 #[tactic(auto, unfolding(compressed::specs::Expand::expand_half))]
 fn jump_or_add(h: u64) -> Option<Instruction>
-    requires { (h < 2 ^ 16) × (field h 0 2 ≡ 2) × (field h 13 3 ≡ 4) }
+    requires { (field h 0 2 ≡ 2) × (field h 13 3 ≡ 4) }
     ensures { result ≡ expand_half h }
 {
     let rd = bits(h, 7, 5);
@@ -137,35 +84,42 @@ fn jump_or_add(h: u64) -> Option<Instruction>
     }
 }
 
-#[tactic(auto, unfolding(compressed::specs::Expand::expand_half))]
-fn quadrant_2(h: u64) -> Option<Instruction>
-    requires { (h < 2 ^ 16) × (field h 0 2 ≡ 2) }
-    ensures { result ≡ expand_half h }
-{
-    let rd = bits(h, 7, 5);
-    let rs2 = bits(h, 2, 5);
-    match bits(h, 13, 3) {
-        0 => Some(Instruction::Shift(ShiftKind::Slli, rd, rd, amount(h))),
-        2 | 3 if rd == 0 => None,
-        2 => Some(Instruction::Load(LoadKind::Lw, rd, 2, word_from_stack(h))),
-        3 => Some(Instruction::Load(LoadKind::Ld, rd, 2, double_from_stack(h))),
-        4 => jump_or_add(h),
-        6 => Some(Instruction::Store(StoreKind::Sw, 2, rs2, word_to_stack(h))),
-        7 => Some(Instruction::Store(StoreKind::Sd, 2, rs2, double_to_stack(h))),
-        _ => None,
-    }
-}
-
-// The instruction of any half-word.
+// The instruction of any half-word, by its op and funct3.
 #[tactic(auto, unfolding(compressed::specs::Expand::expand_half))]
 pub fn expand(h: u16) -> Option<Instruction>
     ensures { result ≡ expand_half h }
 {
-    let x = h as u64;
-    match bits(x, 0, 2) {
-        0 => quadrant_0(x),
-        1 => quadrant_1(x),
-        2 => quadrant_2(x),
+    let h = h as u64;
+    let (rd, rs2) = (bits(h, 7, 5), bits(h, 2, 5));
+    let (rs1_short, rs2_short) = (short(h, 7), short(h, 2));
+    match (bits(h, 0, 2), bits(h, 13, 3)) {
+        (0, 0) if bits(h, 5, 8) == 0 => None,
+        (0, 0) => Some(Instruction::Immediate(
+            ImmediateKind::Addi,
+            rs2_short,
+            2,
+            addi4spn_immediate(h),
+        )),
+        (0, 2) => Some(Instruction::Load(LoadKind::Lw, rs2_short, rs1_short, word_offset(h))),
+        (0, 3) => Some(Instruction::Load(LoadKind::Ld, rs2_short, rs1_short, double_offset(h))),
+        (0, 6) => Some(Instruction::Store(StoreKind::Sw, rs1_short, rs2_short, word_offset(h))),
+        (0, 7) => Some(Instruction::Store(StoreKind::Sd, rs1_short, rs2_short, double_offset(h))),
+        (1, 0) => Some(Instruction::Immediate(ImmediateKind::Addi, rd, rd, immediate(h))),
+        (1, 1) if rd == 0 => None,
+        (1, 1) => Some(Instruction::Addiw(rd, rd, immediate(h))),
+        (1, 2) => Some(Instruction::Immediate(ImmediateKind::Addi, rd, 0, immediate(h))),
+        (1, 3) => upper(h),
+        (1, 4) => arithmetic(h),
+        (1, 5) => Some(Instruction::Jal(0, jump_offset(h))),
+        (1, 6) => Some(Instruction::Branch(BranchKind::Beq, rs1_short, 0, branch_offset(h))),
+        (1, 7) => Some(Instruction::Branch(BranchKind::Bne, rs1_short, 0, branch_offset(h))),
+        (2, 0) => Some(Instruction::Shift(ShiftKind::Slli, rd, rd, amount(h))),
+        (2, 2 | 3) if rd == 0 => None,
+        (2, 2) => Some(Instruction::Load(LoadKind::Lw, rd, 2, word_from_stack(h))),
+        (2, 3) => Some(Instruction::Load(LoadKind::Ld, rd, 2, double_from_stack(h))),
+        (2, 4) => jump_or_add(h),
+        (2, 6) => Some(Instruction::Store(StoreKind::Sw, 2, rs2, word_to_stack(h))),
+        (2, 7) => Some(Instruction::Store(StoreKind::Sd, 2, rs2, double_to_stack(h))),
         _ => None,
     }
 }

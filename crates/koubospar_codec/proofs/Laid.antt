@@ -1,15 +1,14 @@
 -- The laying out of an instruction loses nothing, and a record stands for an instruction exactly if it is that one laid out.
 -- Assumes nothing.
 use mathlib.Core.Path.{◌≡◌, refl, sym, ap, ◌∙◌}
-use mathlib.Core.Bool.{Bool, true, false}
+use mathlib.Core.Bool.{true}
 use mathlib.Core.Logic.{◌↔◌}
 use Prim.Native.Nat.{ℕ, ◌^◌, ◌<◌}
-use native.Mathlib.Omega.{arith}
 use lib.Dec.{eqb}
 use borrow.Author.Tests.{eqb-true, eq-eqb}
 use Rattle.std.proofs.Common.{Option, Some, None}
 use Rattle.std.proofs.lemmas.Option.{cond_some}
-use Rattle.instructions.specs.Decode.{provided, decode_word}
+use Rattle.instructions.specs.Decode.{decode_word}
 use Rattle.instructions.specs.Encode.{encode_word}
 use Rattle.instructions.specs.declared.kind.UpperKind.{UpperKind}
 use Rattle.instructions.specs.declared.kind.BranchKind.{BranchKind}

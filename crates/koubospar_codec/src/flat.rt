@@ -1,5 +1,6 @@
 // An instruction as numbers alone, since an enum cannot cross to C: laid out, read back, decoded and encoded.
 ghost use Rattle.std.specs.Prelude.{◌≡◌};
+ghost use Rattle.std.specs.Result.{result_ok};
 ghost use Rattle.instructions.specs.Decode.{decode_word};
 ghost use Rattle.compressed.specs.Expand.{expand_half};
 ghost use Rattle.koubospar_codec.specs.Flat.{layout, flatten, unflatten, stands_for, flat_decoded, flat_encoded, encode_flat};
@@ -44,7 +45,8 @@ pub struct FlatEncoded {
     pub word: u32,
 }
 
-// What most groups have. The numbers of group and kind are C's.
+// What most groups have. The numbers of group and kind are C's. The parameters are fields of the record that they make, so a struct of
+// them would be that record; by the fields' names each arm below would be three to seven lines, the function past forty.
 fn lay_out(group: u64, kind: u64, rd: u64, rs1: u64, rs2: u64, imm: u64) -> Flat
     ensures { result ≡ layout group kind rd rs1 rs2 imm }
 {
@@ -97,7 +99,8 @@ impl From<Instruction> for Flat {
 }
 
 impl Flat {
-    // The instruction that is read from the record; fields that its group lacks are not asked about.
+    // The instruction that is read from the record; fields that its group lacks are not asked about, so many records are read as
+    // one instruction, and this is not the way back: TryFrom is, below.
     pub fn unflatten(self) -> Option<Instruction>
         ensures { result ≡ unflatten self }
     {
@@ -122,13 +125,21 @@ impl Flat {
             _ => None,
         }
     }
+}
 
-    // The instruction that the record stands for: the one that is read from it, if the record is that one laid out.
-    pub fn stands_for(self) -> Option<Instruction>
-        ensures { result ≡ stands_for self }
-    {
-        let i = self.unflatten()?;
-        (Flat::from(i) == self).then_some(i)
+// Of a record that stands for no instruction: its numbers name none, or a field that its group lacks is not 0.
+#[derive(Clone, Copy, Debug, PartialEq, Eq)]
+pub struct NoInstruction;
+
+// The instruction that a record stands for: the one that is read from it, if the record is that one laid out.
+impl TryFrom<Flat> for Instruction {
+    type Error = NoInstruction;
+
+    ghost try_from_gives = { λ f r. result_ok r ≡ stands_for f };
+
+    fn try_from(f: Flat) -> Result<Instruction, NoInstruction> {
+        let i = f.unflatten().ok_or(NoInstruction)?;
+        (Flat::from(i) == f).then_some(i).ok_or(NoInstruction)
     }
 }
 
@@ -178,5 +189,5 @@ pub fn koubospar_expand(half: u16) -> FlatDecoded
 pub fn koubospar_encode(f: Flat) -> FlatEncoded
     ensures { result ≡ flat_encoded (encode_flat f) }
 {
-    f.stands_for().and_then(encode).into()
+    Instruction::try_from(f).ok().and_then(encode).into()
 }
