@@ -1,5 +1,11 @@
 // Loads and stores, ordinary and h-prefixed: questions 10 and 11, and what they do. A load and a store stay two functions: they ask for another
-// permission, take another kind, and one is lent the memory to write. Machine and memory stay two parameters, as C lends them.
+// permission, take another kind, and one is lent the memory to write. Machine and memory stay two parameters: C lends them apart, the turns of many
+// machines share one memory, and the isolation theorem is of one machine over two memories. A struct of both would be two references put together
+// in each call.
+//
+// `next`, the kind and `rd` (of a store its value) stay parameters, and `rd < 32` a clause: each is a name of the arm of `execute` that calls, and a
+// struct `Target { next, k, rd, ghost below: { rd < 32 } }` would be filled in two arms there and taken apart in `finish_load` alone, for the call
+// `write_back(m, target.next, target.rd, extended(target.k, read(mem, a, load_width(target.k))))`.
 #![tactic(auto)]
 
 ghost use Rattle.std.specs.Prelude.{◌≡◌, true, ◌+◌, ◌<◌, ◌≤◌, length};

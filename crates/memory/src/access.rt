@@ -31,16 +31,13 @@ fn outside(h: &HfiState) -> bool
 }
 
 // The lowest-numbered implicit region that matches the byte at `a`, or 0: the fault record's own number for none.
-#[tactic(auto, using(crate::proofs::Whole::match_here, crate::proofs::Whole::match_next, crate::proofs::Whole::match_end))]
 pub fn first_match(rs: &[Region; REGIONS], ns: &[u64], a: u64) -> u64
     ensures { result ≡ first_match rs.now ns.now a }
 {
-    for &n in ns {
-        if matches(region_at(rs, n), a) {
-            return n;
-        }
-    }
-    0
+    ns.iter()
+        .copied()
+        .find(|&n| matches(region_at(rs, n), a))
+        .unwrap_or(0)
 }
 
 // Does the region that decides grant the byte at `a`?
@@ -114,6 +111,7 @@ fn touches(r: Region, last: u64, n: u64) -> bool
 // Does the first region that has a byte of the access have all of them, with the permission? Then it decides each of them. A rule is
 // asked where the addresses do not tell, and not for each byte.
 #[tactic(auto, using(crate::proofs::Whole::whole_here, crate::proofs::Whole::whole_touched, crate::proofs::Whole::whole_next, crate::proofs::Whole::whole_end))]
+#[inline(always)]
 fn grants_whole(rs: &[Region; REGIONS], access: Access) -> bool
     ensures { result ≡ grants_whole rs.now access.entry.regions.now (permission_bit access.entry.wanted) access.entry.first access.entry.count }
 {
@@ -192,6 +190,7 @@ fn check_bytes(h: &HfiState, len: u64, access: Access) -> Result<(), Denied>
 }
 
 // Is no byte refused, as the mode or one region tells?
+#[inline(always)]
 fn passes_whole(h: &HfiState, access: Access) -> bool
     ensures { result ≡ passes_whole h.now.mode h.now.regions access.entry.regions.now (permission_bit access.entry.wanted) access.entry.first access.entry.count }
 {
