@@ -189,7 +189,7 @@ fn check_bytes(h: &HfiState, len: u64, access: Access) -> Result<(), Denied>
     presence(len, access.first, access.count)
 }
 
-// Is no byte refused, as the mode or one region tells?
+// Is no byte refused, as the mode or one region tells? Part of its callers, as `grants_whole` is: a call of it costs some 50 instructions a step.
 #[inline(always)]
 fn passes_whole(h: &HfiState, access: Access) -> bool
     ensures { result ≡ passes_whole h.now.mode h.now.regions access.entry.regions.now (permission_bit access.entry.wanted) access.entry.first access.entry.count }
