@@ -81,7 +81,11 @@ pub fn hload(
 {
     let len = mem.len() as u64;
     let verdict = check_explicit(&m.hfi, region, Permission::Read, len, offset, load_width(k));
-    let first = explicit_address(region_at(&m.hfi.regions, region), offset);
+    let first = explicit_address(
+        region_at(&m.hfi.regions, region),
+        offset.operand,
+        offset.imm,
+    );
     finish_load(m, mem, next, verdict, k, rd, first)
 }
 
@@ -151,6 +155,10 @@ pub fn hstore(
         offset,
         store_width(k),
     );
-    let first = explicit_address(region_at(&m.hfi.regions, region), offset);
+    let first = explicit_address(
+        region_at(&m.hfi.regions, region),
+        offset.operand,
+        offset.imm,
+    );
     finish_store(m, mem, next, verdict, k, value, first)
 }

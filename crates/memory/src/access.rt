@@ -246,11 +246,11 @@ pub fn check_data(h: &HfiState, wanted: Permission, len: u64, a: u64, n: u64) ->
     }
 }
 
-// The address of the first byte of an h-load or h-store.
-pub fn explicit_address(r: Region, offset: Offset) -> u64
-    ensures { result ≡ explicit_first r (offset_of offset.operand offset.imm) }
+// The address of the first byte of an h-load or h-store. (Of two numbers and no `Offset`: it asks nothing of the immediate.)
+pub fn explicit_address(r: Region, operand: u64, imm: u64) -> u64
+    ensures { result ≡ explicit_first r (offset_of operand imm) }
 {
-    r.base.wrapping_add(offset.sum())
+    r.base.wrapping_add(operand.wrapping_add(imm))
 }
 
 // Questions 10 and 11 of an h-load or h-store, of which region `number` decides.
@@ -269,7 +269,7 @@ pub fn check_explicit(
 {
     let r = region_at(&h.regions, number);
     let i = first_refused_explicit(h, r, wanted, offset, n);
-    let a = explicit_address(r, offset);
+    let a = explicit_address(r, offset.operand, offset.imm);
     if i < n {
         return Err(Denied::Refused(a.wrapping_add(i), number));
     }

@@ -1,6 +1,6 @@
 // Little-endian reads and writes of 1, 2, 4 and 8 bytes. The width is a constant of each copy, so that the compiler makes one move of it. (Copies of
-// `n` bytes, with no constant and no match, were proved and measured: 156.6 instructions a step of the guest program `sieve`, which takes 150.8 so,
-// and 149.3 in plain C.)
+// `n` bytes, with no constant and no match, were proved and measured: 156.6 instructions a step of the guest program `sieve`, where these take 150.8
+// and plain C 149.3.)
 ghost use Rattle.std.specs.Prelude.{◌≡◌, ◌+◌, ◌*◌, ◌^◌, ◌<◌, ◌≤◌, length};
 ghost use Rattle.model.specs.Bytes.{value, written};
 ghost use Rattle.memory.specs.Width.{IsWidth};
