@@ -18,6 +18,7 @@ use hfi::word::hfi_word;
 use instructions::instruction::Instruction;
 use instructions::kind::{SystemKind, UpperKind};
 use load_store::{hload, hstore, load, store};
+use memory::offset::Offset;
 use model::Machine;
 use model::stop::{Reason, Stop};
 
@@ -106,14 +107,20 @@ pub fn execute(m: &mut Machine, mem: &mut [u8], next: u64, i: Instruction) -> Re
         Instruction::System(k) => return system(m, k),
         Instruction::HLoad(k, region, rd, rs1, imm) => {
             h_word_rule(&m.hfi)?;
-            let operand = register(m, rs1);
-            hload(m, mem, next, k, region, rd, operand, imm)?;
+            let offset = Offset {
+                operand: register(m, rs1),
+                imm,
+            };
+            hload(m, mem, next, k, region, rd, offset)?;
         }
         Instruction::HStore(k, region, rs1, rs2, imm) => {
             h_word_rule(&m.hfi)?;
-            let operand = register(m, rs1);
+            let offset = Offset {
+                operand: register(m, rs1),
+                imm,
+            };
             let value = register(m, rs2);
-            hstore(m, mem, next, k, region, value, operand, imm)?;
+            hstore(m, mem, next, k, region, value, offset)?;
         }
         Instruction::Hfi(k, rd, rs1, rs2) => hfi_word(m, next, k, rd, rs1, rs2)?,
     }

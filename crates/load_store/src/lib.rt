@@ -1,12 +1,16 @@
 // Loads and stores, ordinary and h-prefixed: questions 10 and 11, and what they do. A load and a store stay two functions: they ask for another
-// permission, take another kind, and one is lent the memory to write. Machine and memory stay two parameters, as C lends them.
-// That an immediate has 12 bits stays a `requires` here and below: it is a field of an enum that anyone can make, so no type carries it.
+// permission, take another kind, and one is lent the memory to write. Machine and memory stay two parameters: C lends them apart, the turns of many
+// machines share one memory, and the isolation theorem is of one machine over two memories. A struct of both would be two references put together
+// in each call.
+//
+// `next`, the kind and `rd` (of a store its value) stay parameters, and `rd < 32` a clause: each is a name of the arm of `execute` that calls, and a
+// struct `Target { next, k, rd, ghost below: { rd < 32 } }` would be filled in two arms there and taken apart in `finish_load` alone, for the call
+// `write_back(m, target.next, target.rd, extended(target.k, read(mem, a, load_width(target.k))))`.
 #![tactic(auto)]
 
 ghost use Rattle.std.specs.Prelude.{◌≡◌, true, ◌+◌, ◌<◌, ◌≤◌, length};
-ghost use Rattle.words.specs.Word.{fits_signed};
 ghost use Rattle.model.specs.Regions.{read as read_bit, write as write_bit};
-ghost use Rattle.model.specs.Access.{load_width, store_width, passed, data_access, explicit_access, offset};
+ghost use Rattle.model.specs.Access.{load_width, store_width, passed, data_access, explicit_access, offset as offset_of};
 ghost use Rattle.model.specs.Outcome.{answer_of, stepped_with};
 ghost use Rattle.model.specs.Step.{load as load_of, store as store_of};
 ghost use Rattle.load_store.specs.Finish.{finish_load, finish_store};
@@ -17,6 +21,7 @@ use hart::regions::region_at;
 use instructions::kind::{LoadKind, StoreKind};
 use memory::access::{check_data, check_explicit, explicit_address};
 use memory::bytes::{read, write};
+use memory::offset::Offset;
 use memory::width::{load_width, store_width};
 use model::Machine;
 use model::permission::Permission;
@@ -60,7 +65,7 @@ pub fn load(
     finish_load(m, mem, next, verdict, k, rd, a)
 }
 
-// An h-load of the explicit region `region`; `operand` is the value of rs1.
+// An h-load of the explicit region `region`.
 #[tactic(auto, unfolding(model::specs::Step::load))]
 pub fn hload(
     m: &mut Machine,
@@ -69,23 +74,18 @@ pub fn hload(
     k: LoadKind,
     region: u64,
     rd: u64,
-    operand: u64,
-    imm: u64,
+    offset: Offset,
 ) -> Result<(), Stop>
-    requires { (rd < 32) × (fits_signed 12 imm ≡ true) }
-    ensures { stepped_with (answer_of result m.new) mem.now ≡ load_of m.old mem.now next (explicit_access m.old.hfi.regions region read_bit (offset operand imm) (load_width k)) k rd }
+    requires { rd < 32 }
+    ensures { stepped_with (answer_of result m.new) mem.now ≡ load_of m.old mem.now next (explicit_access m.old.hfi.regions region read_bit (offset_of offset.operand offset.imm) (load_width k)) k rd }
 {
     let len = mem.len() as u64;
-    let verdict = check_explicit(
-        &m.hfi,
-        region,
-        Permission::Read,
-        len,
-        operand,
-        imm,
-        load_width(k),
+    let verdict = check_explicit(&m.hfi, region, Permission::Read, len, offset, load_width(k));
+    let first = explicit_address(
+        region_at(&m.hfi.regions, region),
+        offset.operand,
+        offset.imm,
     );
-    let first = explicit_address(region_at(&m.hfi.regions, region), operand, imm);
     finish_load(m, mem, next, verdict, k, rd, first)
 }
 
@@ -133,7 +133,7 @@ pub fn store(
     finish_store(m, mem, next, verdict, k, value, a)
 }
 
-// An h-store of `value` to the explicit region `region`; `operand` is the value of rs1.
+// An h-store of `value` to the explicit region `region`.
 #[tactic(auto, unfolding(model::specs::Step::store))]
 pub fn hstore(
     m: &mut Machine,
@@ -142,11 +142,9 @@ pub fn hstore(
     k: StoreKind,
     region: u64,
     value: u64,
-    operand: u64,
-    imm: u64,
+    offset: Offset,
 ) -> Result<(), Stop>
-    requires { fits_signed 12 imm ≡ true }
-    ensures { stepped_with (answer_of result m.new) mem.new ≡ store_of m.old mem.old next (explicit_access m.old.hfi.regions region write_bit (offset operand imm) (store_width k)) value }
+    ensures { stepped_with (answer_of result m.new) mem.new ≡ store_of m.old mem.old next (explicit_access m.old.hfi.regions region write_bit (offset_of offset.operand offset.imm) (store_width k)) value }
 {
     let len = mem.len() as u64;
     let verdict = check_explicit(
@@ -154,10 +152,13 @@ pub fn hstore(
         region,
         Permission::Write,
         len,
-        operand,
-        imm,
+        offset,
         store_width(k),
     );
-    let first = explicit_address(region_at(&m.hfi.regions, region), operand, imm);
+    let first = explicit_address(
+        region_at(&m.hfi.regions, region),
+        offset.operand,
+        offset.imm,
+    );
     finish_store(m, mem, next, verdict, k, value, first)
 }

@@ -1,6 +1,8 @@
 -- One region that decides a whole access: over any list of numbers.
 -- Assumes nothing.
-use Rattle.std.proofs.Common.{◌≡◌, ℕ, suc, ◌+◌, ◌-◌, ◌%◌, ◌^◌, ◌<◌, ◌≤◌, Bool, true, false, cond, ◌&&◌, eqb, ltb, leb, List, [], ◌∷◌, length, get_or, drop, sym, refl, ap, ◌∙◌, ap₂, zero-add, arith, lit≤, drop_of_length-le, drop-cons, ltb-false, ltb-true, ne_eqb, le-leb, leb-false, leb-true}
+use Rattle.std.proofs.Common.{◌≡◌, ℕ, suc, ◌+◌, ◌-◌, ◌%◌, ◌^◌, ◌<◌, ◌≤◌, Bool, true, false, cond, ◌&&◌, eqb, ltb, leb, List, [], ◌∷◌, Option, Some, None, length, get_or, drop, sym, refl, ap, ◌∙◌, ap₂, zero-add, arith, lit≤, drop_of_length-le, drop-cons, ltb-false, ltb-true, ne_eqb, le-leb, leb-false, leb-true}
+use Rattle.std.specs.List.{find}
+use Rattle.std.specs.Option.{unwrap_or, option_map}
 use mathlib.Core.Bool.{false≢true}
 use lib.Bits.{bit_and}
 use borrow.Author.Tests.{lt-leb}
@@ -166,21 +168,26 @@ in_memory size pc d p q r e = go (ltb pc size) refl (leb 4 d) refl
     go true l false m = let x = ltb-true pc size l in let y = leb-false 4 d m in sym (lt-leb (pc + 4) size (omega (arith, x, y)))
     go false l c m = let x = ltb-false pc size l in sym (lt-leb (pc + 4) size (omega (arith, x)))
 
--- ---- the loops over the numbers of a list, from index i on
+-- ---- the first number of a list whose region matches
+
+first_found : (rs : List Region) (ns : List ℕ) (a : ℕ) → unwrap_or (find (λ n. matches (region rs n) a) ns) 0 ≡ first_match rs ns a
+unfolding first_match
+first_found rs [] a = refl
+first_found rs (n ∷ ns) a = go (matches (region rs n) a) (first_found rs ns a)
+  where
+    go : (b : Bool) → unwrap_or (find (λ m. matches (region rs m) a) ns) 0 ≡ first_match rs ns a
+        → unwrap_or (cond b (Some n) (find (λ m. matches (region rs m) a) ns)) 0 ≡ cond b n (first_match rs ns a)
+    go true e = refl
+    go false e = e
+
+pub match_found : (rs : List Region) (ns : List ℕ) (a : ℕ) (r : Option ℕ) → option_map (λ x. x) r ≡ find (λ n. matches (region rs n) a) ns
+    → unwrap_or r 0 ≡ first_match rs ns a
+match_found rs ns a None e = ap (λ o. unwrap_or o 0) e ∙ first_found rs ns a
+match_found rs ns a (Some x) e = ap (λ o. unwrap_or o 0) e ∙ first_found rs ns a
+
+-- ---- the loop over the numbers of a list, from index i on
 
 module _ (rs : List Region) (ns : List ℕ) (i : ℕ) where
-  pub match_here : (a : ℕ) → i < length ns → matches (region rs (get_or ns i 0)) a ≡ true → first_match rs (drop i ns) a ≡ get_or ns i 0
-  unfolding first_match
-  match_here a h e = rw (drop-cons ns i 0 h) (rw e refl)
-
-  pub match_next : (a : ℕ) → i < length ns → matches (region rs (get_or ns i 0)) a ≡ false → first_match rs (drop i ns) a ≡ first_match rs (drop (i + 1) ns) a
-  unfolding first_match
-  match_next a h e = let s : i + 1 ≡ suc i = omega arith in rw (drop-cons ns i 0 h, s) (rw e refl)
-
-  pub match_end : (a : ℕ) → length ns ≤ i → first_match rs (drop i ns) a ≡ 0
-  unfolding first_match
-  match_end a h = rw (drop_of_length-le ns h) refl
-
   module _ (wanted a n : ℕ) where
     pub whole_here : i < length ns → has_whole (region rs (get_or ns i 0)) wanted a (byte_of a (n - 1)) ≡ true → grants_whole rs (drop i ns) wanted a n ≡ true
     unfolding grants_whole

@@ -1,30 +1,43 @@
-// The questions that every byte of an access is asked before any is touched. `ns` are the numbers of the implicit regions that decide, in their
-// order; `len` is the memory's length, and the access is of the `n` bytes from `a` on. These stay parameters: of a struct of them each function
-// below would take another part, one byte of it or its last, a constant for it, or all but the regions.
-ghost use Rattle.std.specs.Prelude.{◌≡◌, ℕ, Bool, ◌<◌, ◌≤◌, true, length};
-ghost use Rattle.words.specs.Word.{fits_signed};
+// The questions that every byte of an access is asked before any is touched; `len` is the memory's length.
+ghost use Rattle.std.specs.Prelude.{◌≡◌, ◌==◌, ℕ, Bool, ◌<◌, ◌≤◌};
 ghost use Rattle.model.specs.Machine.{region};
 ghost use Rattle.model.specs.Regions.{permission_bit, first_match, implicit_grants};
-ghost use Rattle.model.specs.Access.{fetch_access, data_access, implicit_access, explicit_access, offset, scan, first_refused, first_absent, verdict};
+ghost use Rattle.model.specs.Access.{fetch_access, data_access, implicit_access, explicit_access, offset as offset_of, scan, first_refused, first_absent, verdict};
 ghost use Rattle.memory.specs.Loops.{explicit_refused, presence_of, explicit_first, has_whole, touches as is_touched, grants_whole, passes_whole, fetches_whole};
 
+use crate::offset::Offset;
 use crate::region::{explicit_rule, implicit_rule, matches, permits};
 use hart::regions::region_at;
 use model::permission::Permission;
 use model::stop::Denied;
 use model::{CODE_REGIONS, DATA_REGIONS, HfiState, REGIONS, Region};
 
+// An access that the implicit regions numbered `regions` decide, asked in their order: the `count` bytes from `first` on, each with the permission
+// `wanted`.
+#[derive(Clone, Copy)]
+struct Access<'a> {
+    regions: &'a [u64],
+    wanted: Permission,
+    first: u64,
+    count: u64,
+    ghost some: { 0 < count },
+}
+
+// Outside HFI mode, where no region is asked. (The mode is a number, as C declares it: with any but 0 they are.)
+fn outside(h: &HfiState) -> bool
+    ensures { result ≡ (h.now.mode == 0) }
+{
+    h.mode == 0
+}
+
 // The lowest-numbered implicit region that matches the byte at `a`, or 0: the fault record's own number for none.
-#[tactic(auto, using(crate::proofs::Whole::match_here, crate::proofs::Whole::match_next, crate::proofs::Whole::match_end))]
 pub fn first_match(rs: &[Region; REGIONS], ns: &[u64], a: u64) -> u64
     ensures { result ≡ first_match rs.now ns.now a }
 {
-    for &n in ns {
-        if matches(region_at(rs, n), a) {
-            return n;
-        }
-    }
-    0
+    ns.iter()
+        .copied()
+        .find(|&n| matches(region_at(rs, n), a))
+        .unwrap_or(0)
 }
 
 // Does the region that decides grant the byte at `a`?
@@ -56,12 +69,18 @@ fn first_failing<F: Fn(u64) -> bool>(n: u64, passes: F) -> u64
 }
 
 // The first byte that is not granted, or `n`.
-fn first_refused_implicit(h: &HfiState, ns: &[u64], wanted: Permission, a: u64, n: u64) -> u64
-    ensures { result ≡ first_refused h.now.mode (implicit_access h.now.regions ns.now (permission_bit wanted) a n) }
+fn first_refused_implicit(h: &HfiState, access: Access) -> u64
+    ensures { result ≡ first_refused h.now.mode (implicit_access h.now.regions access.entry.regions.now (permission_bit access.entry.wanted) access.entry.first access.entry.count) }
 {
     first_failing(
-        n,
-        move |i| h.mode == 0 || grants(&h.regions, ns, wanted, a.wrapping_add(i)),
+        access.count,
+        move |i| outside(h)
+            || grants(
+                &h.regions,
+                access.regions,
+                access.wanted,
+                access.first.wrapping_add(i),
+            ),
     )
 }
 
@@ -92,17 +111,17 @@ fn touches(r: Region, last: u64, n: u64) -> bool
 // Does the first region that has a byte of the access have all of them, with the permission? Then it decides each of them. A rule is
 // asked where the addresses do not tell, and not for each byte.
 #[tactic(auto, using(crate::proofs::Whole::whole_here, crate::proofs::Whole::whole_touched, crate::proofs::Whole::whole_next, crate::proofs::Whole::whole_end))]
-fn grants_whole(rs: &[Region; REGIONS], ns: &[u64], wanted: Permission, a: u64, n: u64) -> bool
-    requires { 0 < n }
-    ensures { result ≡ grants_whole rs.now ns.now (permission_bit wanted) a n }
+#[inline(always)]
+fn grants_whole(rs: &[Region; REGIONS], access: Access) -> bool
+    ensures { result ≡ grants_whole rs.now access.entry.regions.now (permission_bit access.entry.wanted) access.entry.first access.entry.count }
 {
-    let last = a.wrapping_add(n - 1);
-    for &number in ns {
+    let last = access.first.wrapping_add(access.count - 1);
+    for &number in access.regions {
         let r = region_at(rs, number);
-        if has_whole(r, wanted, a, last) {
+        if has_whole(r, access.wanted, access.first, last) {
             return true;
         }
-        if touches(r, last, n) {
+        if touches(r, last, access.count) {
             return false;
         }
     }
@@ -113,28 +132,27 @@ fn grants_whole(rs: &[Region; REGIONS], ns: &[u64], wanted: Permission, a: u64, 
 // below, the sum is the offset as a signed number of 64 bits, and one before the region's start wraps far beyond the bound.
 const FAR: u64 = 0x4000_0000_0000_0000;
 
-// The first byte that the explicit region does not grant, or `n`; `operand` is the value of rs1.
+// The first byte that the explicit region does not grant, or `n`.
 #[inline(always)]
 fn first_refused_explicit(
-    mode: u64,
+    h: &HfiState,
     r: Region,
     wanted: Permission,
-    operand: u64,
-    imm: u64,
+    offset: Offset,
     n: u64,
 ) -> u64
-    requires { (fits_signed 12 imm ≡ true) × (n ≤ 8) }
-    ensures { result ≡ explicit_refused mode r (permission_bit wanted) (offset operand imm) n }
+    requires { n ≤ 8 }
+    ensures { result ≡ explicit_refused h.now.mode r (permission_bit wanted) (offset_of offset.operand offset.imm) n }
 {
-    let ok = (explicit_rule(r) & permits(wanted, r)) & (operand < FAR);
-    let sum = operand.wrapping_add(imm);
+    let ok = (explicit_rule(r) & permits(wanted, r)) & (offset.operand < FAR);
+    let sum = offset.sum();
     // Where the region has them all, none is asked singly.
     if ok && sum < r.bound && n <= r.bound - sum {
         return n;
     }
     first_failing(
         n,
-        move |i| (mode == 0) | (ok & (sum.wrapping_add(i) < r.bound)),
+        move |i| outside(h) | (ok & (sum.wrapping_add(i) < r.bound)),
     )
 }
 
@@ -160,30 +178,23 @@ fn presence(len: u64, a: u64, n: u64) -> Result<(), Denied>
 // The verdict on an access, byte by byte. Most accesses pass whole.
 #[cold]
 #[tactic(auto, using(crate::proofs::Loops::refused_verdict, crate::proofs::Loops::granted_verdict))]
-fn check_bytes(
-    h: &HfiState,
-    ns: &[u64],
-    wanted: Permission,
-    len: u64,
-    a: u64,
-    n: u64,
-) -> Result<(), Denied>
-    ensures { result ≡ verdict h.now.mode len (implicit_access h.now.regions ns.now (permission_bit wanted) a n) }
+fn check_bytes(h: &HfiState, len: u64, access: Access) -> Result<(), Denied>
+    ensures { result ≡ verdict h.now.mode len (implicit_access h.now.regions access.entry.regions.now (permission_bit access.entry.wanted) access.entry.first access.entry.count) }
 {
-    let i = first_refused_implicit(h, ns, wanted, a, n);
-    if i < n {
-        let at = a.wrapping_add(i);
-        return Err(Denied::Refused(at, first_match(&h.regions, ns, at)));
+    let i = first_refused_implicit(h, access);
+    if i < access.count {
+        let at = access.first.wrapping_add(i);
+        return Err(Denied::Refused(at, first_match(&h.regions, access.regions, at)));
     }
-    presence(len, a, n)
+    presence(len, access.first, access.count)
 }
 
-// Is no byte refused, as the mode or one region tells?
-fn passes_whole(h: &HfiState, ns: &[u64], wanted: Permission, a: u64, n: u64) -> bool
-    requires { 0 < n }
-    ensures { result ≡ passes_whole h.now.mode h.now.regions ns.now (permission_bit wanted) a n }
+// Is no byte refused, as the mode or one region tells? Part of its callers, as `grants_whole` is: a call of it costs some 50 instructions a step.
+#[inline(always)]
+fn passes_whole(h: &HfiState, access: Access) -> bool
+    ensures { result ≡ passes_whole h.now.mode h.now.regions access.entry.regions.now (permission_bit access.entry.wanted) access.entry.first access.entry.count }
 {
-    h.mode == 0 || grants_whole(&h.regions, ns, wanted, a, n)
+    outside(h) || grants_whole(&h.regions, access)
 }
 
 // Do the four bytes at `pc` pass questions 5 and 6, as the mode or one region tells? Then so does either half of them.
@@ -191,7 +202,13 @@ pub fn fetches_whole(h: &HfiState, len: u64, pc: u64) -> bool
     ensures { result ≡ fetches_whole h.now.mode h.now.regions len pc }
 {
     if (pc < len) & (4 <= len.wrapping_sub(pc)) {
-        passes_whole(h, &CODE_REGIONS, Permission::Execute, pc, 4)
+        let word = Access {
+            regions: &CODE_REGIONS,
+            wanted: Permission::Execute,
+            first: pc,
+            count: 4,
+        };
+        passes_whole(h, word)
     } else {
         false
     }
@@ -201,7 +218,13 @@ pub fn fetches_whole(h: &HfiState, len: u64, pc: u64) -> bool
 pub fn check_fetch(h: &HfiState, len: u64, a: u64) -> Result<(), Denied>
     ensures { result ≡ verdict h.now.mode len (fetch_access h.now.regions a) }
 {
-    check_bytes(h, &CODE_REGIONS, Permission::Execute, len, a, 2)
+    let half_word = Access {
+        regions: &CODE_REGIONS,
+        wanted: Permission::Execute,
+        first: a,
+        count: 2,
+    };
+    check_bytes(h, len, half_word)
 }
 
 // Questions 10 and 11 of an ordinary load or store.
@@ -210,16 +233,22 @@ pub fn check_data(h: &HfiState, wanted: Permission, len: u64, a: u64, n: u64) ->
     requires { (0 < n) × (n ≤ 8) }
     ensures { result ≡ verdict h.now.mode len (data_access h.now.regions (permission_bit wanted) a n) }
 {
-    if passes_whole(h, &DATA_REGIONS, wanted, a, n) {
+    let access = Access {
+        regions: &DATA_REGIONS,
+        wanted,
+        first: a,
+        count: n,
+    };
+    if passes_whole(h, access) {
         presence(len, a, n)
     } else {
-        check_bytes(h, &DATA_REGIONS, wanted, len, a, n)
+        check_bytes(h, len, access)
     }
 }
 
-// The address of the first byte of an h-load or h-store.
+// The address of the first byte of an h-load or h-store. (Of two numbers and no `Offset`: it asks nothing of the immediate.)
 pub fn explicit_address(r: Region, operand: u64, imm: u64) -> u64
-    ensures { result ≡ explicit_first r (offset operand imm) }
+    ensures { result ≡ explicit_first r (offset_of operand imm) }
 {
     r.base.wrapping_add(operand.wrapping_add(imm))
 }
@@ -232,16 +261,15 @@ pub fn check_explicit(
     number: u64,
     wanted: Permission,
     len: u64,
-    operand: u64,
-    imm: u64,
+    offset: Offset,
     n: u64,
 ) -> Result<(), Denied>
-    requires { (fits_signed 12 imm ≡ true) × (n ≤ 8) }
-    ensures { result ≡ verdict h.now.mode len (explicit_access h.now.regions number (permission_bit wanted) (offset operand imm) n) }
+    requires { n ≤ 8 }
+    ensures { result ≡ verdict h.now.mode len (explicit_access h.now.regions number (permission_bit wanted) (offset_of offset.operand offset.imm) n) }
 {
     let r = region_at(&h.regions, number);
-    let i = first_refused_explicit(h.mode, r, wanted, operand, imm, n);
-    let a = explicit_address(r, operand, imm);
+    let i = first_refused_explicit(h, r, wanted, offset, n);
+    let a = explicit_address(r, offset.operand, offset.imm);
     if i < n {
         return Err(Denied::Refused(a.wrapping_add(i), number));
     }

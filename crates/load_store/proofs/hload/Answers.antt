@@ -12,10 +12,10 @@ pub finish_load-requires : goal.finish_load-requires
 finish_load-requires c =
     let a = c.args in
     let rs = a.m.now.hfi.regions in
-    let access = explicit_access rs a.region read (offset a.operand a.imm) (load_width a.k) in (
-      c.requires.0,
+    let access = explicit_access rs a.region read (offset a.offset.operand a.offset.imm) (load_width a.k) in (
+      c.requires,
       rw (c.explicit_address-first.ensures, c.region_at.ensures)
           (passed_fits a.m.now.hfi.mode (length a.mem.now) access (load_is_width a.k)
-          (word_lt 64 (pos (region rs a.region).base +ℤ offset a.operand a.imm)) (search rules)
+          (word_lt 64 (pos (region rs a.region).base +ℤ offset a.offset.operand a.offset.imm)) (search rules)
           (c.check_explicit-verdict.ensures ∙ rw c.load_width.ensures)),
     )

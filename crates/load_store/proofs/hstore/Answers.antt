@@ -12,8 +12,8 @@ pub finish_store-requires : goal.finish_store-requires
 finish_store-requires c =
     let a = c.args in
     let rs = a.m.now.hfi.regions in
-    let access = explicit_access rs a.region write (offset a.operand a.imm) (store_width a.k) in
+    let access = explicit_access rs a.region write (offset a.offset.operand a.offset.imm) (store_width a.k) in
     rw (c.explicit_address-first.ensures, c.region_at.ensures)
     (passed_fits a.m.now.hfi.mode (length a.mem.now) access (store_is_width a.k)
-    (word_lt 64 (pos (region rs a.region).base +ℤ offset a.operand a.imm)) (search rules)
+    (word_lt 64 (pos (region rs a.region).base +ℤ offset a.offset.operand a.offset.imm)) (search rules)
     (c.check_explicit-verdict.ensures ∙ rw c.store_width.ensures))

@@ -11,6 +11,6 @@ returns c =
     let a = c.args in
     let e = c.region_at-r.ensures in
     let wanted = permission_bit a.wanted in
-    granted_verdict a.h.now.mode a.len (explicit_access a.h.now.regions a.number wanted (offset a.operand a.imm) a.n)
-    (c.first_refused_explicit-i.ensures ∙ ap (λ r. explicit_refused a.h.now.mode r wanted (offset a.operand a.imm) a.n) e) c.if-i-n.false
-    (c.presence.ensures ∙ ap (λ f. presence_of a.len f a.n) (c.explicit_address-a.ensures ∙ ap (λ r. explicit_first r (offset a.operand a.imm)) e))
+    granted_verdict a.h.now.mode a.len (explicit_access a.h.now.regions a.number wanted (offset a.offset.operand a.offset.imm) a.n)
+    (c.first_refused_explicit-i.ensures ∙ ap (λ r. explicit_refused a.h.now.mode r wanted (offset a.offset.operand a.offset.imm) a.n) e) c.if-i-n.false
+    (c.presence.ensures ∙ ap (λ f. presence_of a.len f a.n) (c.explicit_address-a.ensures ∙ ap (λ r. explicit_first r (offset a.offset.operand a.offset.imm)) e))

@@ -1,4 +1,4 @@
-use Rattle.std.proofs.Common.{◌≡◌, ℕ, ◌+◌, ◌%◌, ◌^◌, true, cond, ◌&&◌, ◌||◌, eqb, ltb, refl, ◌∙◌, lit≤, arith, rules}
+use Rattle.std.proofs.Common.{◌≡◌, ℕ, ◌^◌, true, cond, ◌&&◌, ◌||◌, eqb, ltb, refl, ◌∙◌, lit≤, arith, rules}
 use Rattle.model.specs.Bytes.{byte_of}
 use Rattle.model.specs.Regions.{permission_bit, explicit_grants}
 use Rattle.model.specs.Access.{offset}
@@ -12,16 +12,15 @@ far = 2 ^ 62
 pub returns-then-n-r : goal.returns-then-n-r
 returns-then-n-r c =
     let a = c.args in
-    explicit_whole far a.mode a.r (permission_bit a.wanted) a.operand a.imm a.n (lit≤ tt) (lit≤ tt) c.requires.0 c.requires.1
-    c.explicit_rule.ensures c.permits.ensures (search rules) c.if-ok.true c.if-sum-r.true c.if-n-r.true
+    explicit_whole far a.h.now.mode a.r (permission_bit a.wanted) a.offset.operand a.offset.imm a.n (lit≤ tt) (lit≤ tt) a.offset.short c.requires
+    c.explicit_rule.ensures c.permits.ensures (search rules) c.if-ok.true (rw (← c.sum-sum.ensures) c.if-sum-r.true) (rw (← c.sum-sum.ensures) c.if-n-r.true)
 
 pub returns : goal.returns
 returns c =
     let a = c.args in
-    let sum = (a.operand + a.imm) % 2 ^ 64 in
     c.first_failing.ensures
-    (λ i. cond (eqb a.mode 0) true (explicit_grants a.r (permission_bit a.wanted) (offset a.operand a.imm) i))
+    (λ i. cond (eqb a.h.now.mode 0) true (explicit_grants a.r (permission_bit a.wanted) (offset a.offset.operand a.offset.imm) i))
     (λ i t h p.
-    let said : t ≡ (eqb a.mode 0 || (((c.explicit_rule.result && c.permits.result) && ltb a.operand far) && ltb (byte_of sum i) a.r.bound)) = search rules in
-    said ∙ explicit_asked far a.mode a.r (permission_bit a.wanted) a.operand a.imm i (lit≤ tt) (lit≤ tt) c.requires.0 (omega (arith, h, c.requires.1))
-    c.explicit_rule.ensures c.permits.ensures refl refl)
+    let said : t ≡ (eqb a.h.now.mode 0 || (((c.explicit_rule.result && c.permits.result) && ltb a.offset.operand far) && ltb (byte_of c.sum-sum.result i) a.r.bound)) = search rules in
+    said ∙ explicit_asked far a.h.now.mode a.r (permission_bit a.wanted) a.offset.operand a.offset.imm i (lit≤ tt) (lit≤ tt) a.offset.short (omega (arith, h, c.requires))
+    c.explicit_rule.ensures c.permits.ensures c.sum-sum.ensures refl)

@@ -9,5 +9,5 @@ unfolding first_refused
 returns c =
     let a = c.args in
     c.first_failing.ensures
-    (λ i. cond (eqb a.h.now.mode 0) true (implicit_grants a.h.now.regions a.ns.now (permission_bit a.wanted) (byte_of a.a i)))
+    (λ i. cond (eqb a.h.now.mode 0) true (implicit_grants a.h.now.regions a.access.regions.now (permission_bit a.access.wanted) (byte_of a.access.first i)))
     (λ i t h p. search rules)

@@ -5,4 +5,4 @@ use Rattle.memory.proofs.access.grants_whole.Given as goal
 
 abbrev pub invariant-loop-number : goal.invariant-loop-number
 invariant-loop-number l =
-    grants_whole l.rs (drop l.number-index l.ns) (permission_bit l.wanted) l.a l.n ≡ grants_whole l.rs l.ns (permission_bit l.wanted) l.a l.n
+    grants_whole l.rs (drop l.number-index l.access.regions.now) (permission_bit l.access.wanted) l.access.first l.access.count ≡ grants_whole l.rs l.access.regions.now (permission_bit l.access.wanted) l.access.first l.access.count
