@@ -64,8 +64,8 @@ pub fn koubospar_probe() -> Machine
     Machine { x, pc: 1032, hfi }
 }
 
-// What stands in place i of the registers, pc and the HFI state before its regions. Here and below 0 for no such place: C has
-// no Option.
+// What stands in place i of the registers, pc and the HFI state before its regions. Here and below 0 for no such place, as the
+// definition has it: with an Option each arm would be a `Some(..)`, which koubospar_place would undo at once by `unwrap_or(0)`.
 fn in_hart(m: &Machine, i: u64) -> u64
     ensures { result ≡ lookup 0 (in_hart m.now) i }
 {
