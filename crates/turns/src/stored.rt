@@ -113,8 +113,8 @@ pub fn read_record(r: &[u8]) -> Record<'_>
     }
 }
 
-// The doublewords put into memory from 0 on.
-pub fn fill(doublewords: &[u64; 8], mem: &mut [u8; MEMORY]) {
+// The doublewords put into memory from 0 on. What memory then holds is left free: the stored output has it.
+pub(crate) fn fill(doublewords: &[u64; 8], mem: &mut [u8; MEMORY]) {
     for (i, &v) in doublewords.iter().enumerate() {
         write(mem, 8 * i as u64, 8, v);
     }

@@ -2,7 +2,7 @@ use Rattle.std.proofs.Common.{rules, ◌≡◌}
 use Rattle.std.proofs.lemmas.List.FromFn.{fill_by_all}
 use borrow.Author.Tests.{tests}
 use Rattle.turns.specs.Stored.{number_at, numbers_of}
-use Rattle.turns.proofs.FromFn.{made_at}
+use Rattle.turn.proofs.FromFn.{made_at}
 use Rattle.turns.proofs.stored.numbers.Goals as goal
 
 pub returns : goal.returns

@@ -2,7 +2,7 @@ use Rattle.std.proofs.Common.{rules, ◌≡◌, ◌+◌, ◌*◌, get_or}
 use borrow.Author.Tests.{tests}
 use Rattle.scheduler.specs.Turn.{no_slot}
 use Rattle.turns.specs.Stored.{numbers_of, slot_of}
-use Rattle.turns.proofs.FromFn.{made_at}
+use Rattle.turn.proofs.FromFn.{made_at}
 use Rattle.turns.proofs.stored.read_record.Goals as goal
 
 pub returns-clause-slots : goal.returns-clause-slots
