@@ -5,6 +5,7 @@ ghost use Rattle.koubospar.specs.Probe.{probe, in_hart, in_region, in_fault, at_
 ghost use Rattle.instructions.specs.Table.{lookup};
 
 use model::{Fault, HfiState, LAST_REGION, Machine, Region};
+use std::array;
 
 // The places of the first region and of the fault record.
 const FIRST_REGION: u64 = 39;
@@ -32,19 +33,7 @@ pub fn koubospar_probe() -> Machine
     x[0] = 1000;
     x[31] = 1031;
     let first = 1000 + FIRST_REGION;
-    // Written out: tried as array::from_fn, of which the proof of the equation did not close.
-    let regions = [
-        numbered(first),
-        numbered(first + 3),
-        numbered(first + 6),
-        numbered(first + 9),
-        numbered(first + 12),
-        numbered(first + 15),
-        numbered(first + 18),
-        numbered(first + 21),
-        numbered(first + 24),
-        numbered(first + 27),
-    ];
+    let regions = array::from_fn(|i| numbered(first + 3 * i as u64));
     let fault = Fault {
         occurred: 1000 + FIRST_FAULT,
         region: 1001 + FIRST_FAULT,
@@ -64,8 +53,8 @@ pub fn koubospar_probe() -> Machine
     Machine { x, pc: 1032, hfi }
 }
 
-// What stands in place i of the registers, pc and the HFI state before its regions. Here and below 0 for no such place: C has
-// no Option.
+// What stands in place i of the registers, pc and the HFI state before its regions. Here and below 0 for no such place, as the
+// definition has it: with an Option each arm would be a `Some(..)`, which koubospar_place would undo at once by `unwrap_or(0)`.
 fn in_hart(m: &Machine, i: u64) -> u64
     ensures { result ≡ lookup 0 (in_hart m.now) i }
 {

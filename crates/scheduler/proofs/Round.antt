@@ -178,20 +178,6 @@ found_unstopped ds count (suc k) m p n = go (stopped (slot ds m)) refl (found_un
     go true e h f = h f
     go false e h f = (p, e)
 
--- ---- for the loop
-
-pub first_none : (ds : List Slot) (count k n : ℕ) → k ≤ 0 → first_unstopped ds count k n ≡ 0
-unfolding first_unstopped
-first_none ds count k n h = let e : k ≡ 0 = omega arith in rw e refl
-
-pub first_here : (ds : List Slot) (count k n : ℕ) → 0 < k → stopped (slot ds n) ≡ false → first_unstopped ds count k n ≡ n
-unfolding first_unstopped
-first_here ds count k n h u = let e : k ≡ suc (k - 1) = omega arith in ap (λ i. first_unstopped ds count i n) e ∙ rw u refl
-
-pub first_on : (ds : List Slot) (count k n : ℕ) → 0 < k → stopped (slot ds n) ≡ true → first_unstopped ds count k n ≡ first_unstopped ds count (k - 1) (following count n)
-unfolding first_unstopped
-first_on ds count k n h u = let e : k ≡ suc (k - 1) = omega arith in ap (λ i. first_unstopped ds count i n) e ∙ rw u refl
-
 -- ---- the place
 
 pub within_numbered : (count n : ℕ) → within count n ≡ true → Numbered count n

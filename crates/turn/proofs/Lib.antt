@@ -1,1 +1,4 @@
 pub mod Refusals
+pub mod Ranges
+pub mod Asked
+pub mod FromFn

@@ -6,14 +6,15 @@ use lib.ListN.{get_or, take}
 use Rattle.scheduler.specs.Turn.{refusal_number, slot, no_slot}
 use Rattle.scheduler.specs.declared.Slot.{Slot}
 use Rattle.scheduler.specs.declared.Refusal.{Refusal}
-use Rattle.scheduler.specs.declared.Refusal.TheVariants.{MemoryTooLong, SlotCount, Allowance, NotWellFormed, WritableCode, Unlocked}
+use Rattle.scheduler.specs.declared.Refusal.TheVariants.{CallRefused, SlotCount, Allowance, Unlocked}
+use Rattle.model.specs.declared.stop.CallRefusal.TheVariants.{MemoryTooLong, NotWellFormed, WritableCode}
 
 pub never_zero : (r : Refusal) → refusal_number r ≡ 0 → ⊥
-never_zero MemoryTooLong e = absurd (omega (arith, e))
+never_zero (CallRefused MemoryTooLong) e = absurd (omega (arith, e))
 never_zero SlotCount e = absurd (omega (arith, e))
 never_zero Allowance e = absurd (omega (arith, e))
-never_zero NotWellFormed e = absurd (omega (arith, e))
-never_zero WritableCode e = absurd (omega (arith, e))
+never_zero (CallRefused NotWellFormed) e = absurd (omega (arith, e))
+never_zero (CallRefused WritableCode) e = absurd (omega (arith, e))
 never_zero Unlocked e = absurd (omega (arith, e))
 
 -- a slot that is there, whatever is read where there is none

@@ -41,19 +41,20 @@ pub fn following(count: u64, n: u64) -> u64
     if n < count { n + 1 } else { 1 }
 }
 
+// Is slot n passed over?
+fn stopped_at(slots: &[Slot; SLOTS], n: u64) -> bool
+    ensures { result ≡ is_stopped (slot slots.now n) }
+{
+    slots.get(n.saturating_sub(1) as usize).is_some_and(stopped)
+}
+
 // The slot whose turn it is; none if all are stopped.
 pub fn next_slot(s: &Scheduler) -> Option<u64>
-    requires { (1 ≤ s.now.count) × (s.now.count ≤ most_slots) }
     ensures value { unwrap_or result 0 ≡ next_slot s.now }
-    ensures numbered { IfSome result (λ n. (1 ≤ n) × (n ≤ most_slots)) }
+    ensures numbered { IfSome result (λ n. (1 ≤ n) × (n ≤ s.now.count)) }
 {
-    // Carried by hand, since it goes round from the place.
-    let mut n = place_in(s.count, s.place);
-    for _ in 0..s.count {
-        if !stopped(&slot_at(&s.slots, n)) {
-            return Some(n);
-        }
-        n = following(s.count, n);
-    }
-    None
+    let start = place_in(s.count, s.place);
+    (start..=s.count)
+        .chain(1..start)
+        .find(|&n| !stopped_at(&s.slots, n))
 }

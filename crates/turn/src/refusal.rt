@@ -4,10 +4,9 @@ ghost use Rattle.scheduler.specs.Turn.{most_slots, slot_refusal, slots_refusal, 
 
 use crate::order::{stopped, within};
 use hart::state::locked;
-use hart::well_formed::well_formed;
-use model::LONGEST;
+use model::stop::keep;
 use scheduler::{LARGEST_ALLOWANCE, MOST_SLOTS, Refusal, SLOTS, Scheduler, Slot};
-use writable_code::exposes_code;
+use step::call::{ask_machine, ask_memory};
 
 // Of one slot.
 #[tactic(auto, unfolding(scheduler::specs::Turn::slot_refusal))]
@@ -17,16 +16,8 @@ fn slot_refusal(d: &Slot) -> Result<(), Refusal>
     if stopped(d) {
         return Ok(());
     }
-    if !well_formed(&d.machine) {
-        return Err(Refusal::NotWellFormed);
-    }
-    if exposes_code(&d.machine.hfi) {
-        return Err(Refusal::WritableCode);
-    }
-    if !locked(&d.machine.hfi) {
-        return Err(Refusal::Unlocked);
-    }
-    Ok(())
+    ask_machine(&d.machine)?;
+    keep(locked(&d.machine.hfi), Refusal::Unlocked)
 }
 
 // Of the first slot that is refused.
@@ -45,14 +36,8 @@ fn slots_refusal(slots: &[Slot; SLOTS], count: u64) -> Result<(), Refusal>
 pub fn refusal(s: &Scheduler, size: usize, allowance: u64) -> Result<(), Refusal>
     ensures { refused_number result ≡ refusal_of s.now size allowance }
 {
-    if LONGEST < size {
-        return Err(Refusal::MemoryTooLong);
-    }
-    if !within(MOST_SLOTS, s.count) {
-        return Err(Refusal::SlotCount);
-    }
-    if !within(LARGEST_ALLOWANCE, allowance) {
-        return Err(Refusal::Allowance);
-    }
+    ask_memory(size)?;
+    keep(within(MOST_SLOTS, s.count), Refusal::SlotCount)?;
+    keep(within(LARGEST_ALLOWANCE, allowance), Refusal::Allowance)?;
     slots_refusal(&s.slots, s.count)
 }

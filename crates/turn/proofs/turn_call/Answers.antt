@@ -1,9 +1,10 @@
 -- A turn is refused, or all slots are stopped, or the next slot makes its run.
-use Rattle.std.proofs.Common.{◌≡◌, length, sym, ap, ◌∙◌, arith, rules}
+use Rattle.std.proofs.Common.{◌≡◌, ℕ, ◌≤◌, length, sym, ap, ◌∙◌, arith, rules}
 use borrow.Author.Tests.{eq-eqb, ne_eqb}
 use Rattle.model.specs.Run.{Ended, run_call}
 use Rattle.scheduler.specs.Turn.{most_slots, refusal, refusal_number, next_slot, TurnAnswer, turn_answer, turned_with, no_turn, took_turn, turn_call}
 use Rattle.scheduler.specs.declared.Slot.{Slot}
+use Rattle.scheduler.specs.declared.Scheduler.{Scheduler}
 use Rattle.scheduler.proofs.Round.{within_numbered}
 use Rattle.scheduler.proofs.Turn.{accepted, turn_runs}
 use Rattle.turn.proofs.Refusals.{never_zero}
@@ -21,11 +22,14 @@ returns-in_err-refusal c =
     (ap (λ (t : TurnAnswer). turned_with t mem) r ∙ ap (λ k. turned_with (no_turn k s) mem) said)
 
 -- a turn that is not refused has 1 to 4 slots
-pub next_slot-requires : goal.next_slot-requires
-next_slot-requires c =
-    let s = c.args.s.now in
-    let k = within_numbered most_slots s.count (accepted s (length c.args.mem.now) c.args.allowance (sym c.in_ok-refusal.ensures)).count in
-    (k.low, k.high)
+in_slots : (s : Scheduler) (size allowance n : ℕ) → refusal s size allowance ≡ 0 → (1 ≤ n) × (n ≤ s.count) → (1 ≤ n) × (n ≤ most_slots)
+in_slots s size allowance n e h = let k = within_numbered most_slots s.count (accepted s size allowance e).count in (h.0, omega (arith, h.1, k.high))
+
+pub slot_at-requires : goal.slot_at-requires
+slot_at-requires c = in_slots c.args.s.now (length c.args.mem.now) c.args.allowance c.in-Some.n (sym c.in_ok-refusal.ensures) c.in-Some.ensures.numbered
+
+pub took_turn-requires : goal.took_turn-requires
+took_turn-requires c = in_slots c.args.s.now (length c.args.mem.now) c.args.allowance c.in-Some.n (sym c.in_ok-refusal.ensures) c.in-Some.ensures.numbered
 
 pub returns-in_default : goal.returns-in_default
 unfolding turn_call
