@@ -4,16 +4,18 @@ use mathlib.Core.Bool.{Bool, true, false, cond, ◌&&◌}
 use mathlib.Core.List.{List, [], ◌∷◌}
 use Prim.Native.Nat.{ℕ, ◌+◌, ◌-◌, ◌%◌, ◌<◌, ◌≤◌}
 use native.Mathlib.Omega.{arith}
-use lib.Dec.{eqb, leb}
-use lib.ListN.{length, get_or, drop, get_or-map, length-drop}
+use lib.Dec.{eqb, leb, ltb}
+use lib.ListN.{length, get_or, drop, take, get_or-map, length-drop}
 use lib.Seq.{drop-drop}
-use borrow.Author.Tests.{leb-true, eqb-true, eq-eqb, ne_eqb}
-use Rattle.text.specs.Scan.{newline, first_that, line_number, LineStart}
+use borrow.Author.Tests.{leb-true, ltb-true, ltb-false, eqb-true, eq-eqb, ne_eqb}
+use Rattle.text.specs.Scan.{newline, is, count, first_that, line_number, LineStart}
 use Rattle.text.specs.declared.row.Field.{Field}
-use Rattle.text.specs.Questions.{first_no}
 use Rattle.text.specs.Split.{FirstLine, lines, Row, row_as, row_of}
 use Rattle.text.proofs.Asking.{first_half, second_half, yes_at}
-use Rattle.std.specs.Prelude.{Some, None}
+use Rattle.std.specs.Prelude.{Option, Some, None}
+use Rattle.std.specs.List.{position_or_len, count_by}
+use Rattle.std.proofs.lemmas.List.Recursion.{is_count_by}
+use Rattle.text.proofs.Scanning.{first_is_position, first_le}
 use Rattle.text.proofs.Splitting.{line_more, line_ends, lines_none}
 use Rattle.text.proofs.LineNumbers.{number_first, start_first, start_next}
 use Rattle.model.specs.Bytes.{written}
@@ -27,16 +29,12 @@ pub read_is : (least : ℕ) (r : Row) → ((read_word least r).address ≡ (word
 unfolding read_word
 read_is least r = (refl, refl)
 
--- a word line by its slots, and by its questions
+-- a word line by its slots
 pub word_at : (n : ℕ) (fs : List Field)
     → record { address = (get_or fs 0 (record { value = 0; width = 0 })).value; word = (get_or fs 1 (record { value = 0; width = 0 })).value } ≡ word_of (row_as n fs)
 word_at n fs =
     let none : Field = record { value = 0; width = 0 } in
     rw (get_or-map (λ f. f.value) fs 0 none, get_or-map (λ f. f.value) fs 1 none)
-
-pub word_asked : (least : ℕ) (r : Row) (n : ℕ) → first_no (word_questions least r (word_of r)) ≡ n → (read_word least r).question ≡ n
-unfolding read_word
-word_asked least r n e = e
 
 -- where it passes, its word lies in memory
 pub word_fits : (least : ℕ) (r : Row) → (read_word least r).question ≡ 0 → (read_word least r).address ≤ 0xfffc
@@ -63,6 +61,14 @@ pub file_whole : (s : List ℕ) → file_no s ≡ 0 → (1 ≤ length s) × (len
 unfolding file_no
 file_whole s e = whole_parts s (yes_at 0 (file_questions s) refl e)
 
+count_is : (s : List ℕ) → count newline s ≡ count_by (is newline) s
+unfolding count
+count_is s = is_count_by (count newline) (is newline) refl (λ b bs. by (is newline b) (count newline bs)) s
+  where
+    by : (t : Bool) (n : ℕ) → cond t 1 0 + n ≡ cond t (1 + n) n
+    by true n = refl
+    by false n = omega arith
+
 -- ---- the first foreign byte: its line, or 0; so 31 may ask for the line
 module _ (s : List ℕ) where
   pub foreign_asked : eqb (foreign_line s) 0 ≡ eqb (first_that foreign s) (length s)
@@ -72,12 +78,28 @@ module _ (s : List ℕ) where
       by true = refl
       by false = ne_eqb (line_number s (first_that foreign s)) 0 (λ z. omega (arith, z))
 
-  -- it stands at i, or nowhere
-  pub foreign_here : (i : ℕ) → i < length s → first_that foreign s ≡ i → Some (line_number s i) ≡ foreign_found s
-  foreign_here i h e = rw (e, ne_eqb i (length s) (λ z. omega (arith, z)))
+  -- as `position` finds it, and as the 0a bytes before it are counted
+  abbrev Found : Option ℕ → Type 0
+  Found r = r ≡ cond (ltb (position_or_len foreign s) (length s)) (Some (position_or_len foreign s)) None
 
-  pub foreign_none : first_that foreign s ≡ length s → None ≡ foreign_found s
-  foreign_none e = rw (eq-eqb (first_that foreign s) (length s) e)
+  pub foreign_at : (i n : ℕ) → Found (Some i) → n ≡ count_by (is newline) (take i s) → Some (n + 1) ≡ foreign_found s
+  foreign_at i n f e = by (ltb (position_or_len foreign s) (length s)) refl f
+    where
+      by : (t : Bool) → ltb (position_or_len foreign s) (length s) ≡ t → Some i ≡ cond t (Some (position_or_len foreign s)) None → Some (n + 1) ≡ foreign_found s
+      by true g h =
+          let at : first_that foreign s ≡ i = first_is_position foreign s ∙ sym cc in
+          let z : first_that foreign s < length s = rw (first_is_position foreign s) (ltb-true (position_or_len foreign s) (length s) g) in
+          rw (ne_eqb (first_that foreign s) (length s) (λ y. omega (arith, y)), at) (ap (λ k. Some (k + 1)) (e ∙ sym (count_is (take i s))))
+      by false g h = cc
+
+  pub foreign_none : Found None → None ≡ foreign_found s
+  foreign_none f = by (ltb (position_or_len foreign s) (length s)) refl f
+    where
+      by : (t : Bool) → ltb (position_or_len foreign s) (length s) ≡ t → None ≡ cond t (Some (position_or_len foreign s)) None → None ≡ foreign_found s
+      by true g h = cc
+      by false g h =
+          let z : length s ≤ first_that foreign s = rw (first_is_position foreign s) (ltb-false (position_or_len foreign s) (length s) g) in
+          rw (eq-eqb (first_that foreign s) (length s) (omega (arith, z, first_le foreign s)))
 
   -- ---- 30 and 31, of the file
   pub file_not_whole : whole s ≡ false → refusal 30 0 ≡ file_refusal s

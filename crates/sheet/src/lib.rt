@@ -10,6 +10,7 @@ ghost use Rattle.sheet.specs.Words.{word_of, read_word, in_range, words_of, memo
 ghost use Rattle.sheet.specs.Sheet.{refusal_of, whole, foreign as foreign_of, foreign_found, file_refusal, words_refusal, read_sheet, refusal_text};
 
 use memory::bytes::write;
+use model::stop::keep;
 use setup::question::Question;
 use setup::{Setup, read_setup};
 use text::field::{line_at, split_line};
@@ -65,21 +66,13 @@ fn foreign(b: u8) -> bool
     !(is_digit(b) || b == b',' || b == b'\n')
 }
 
-// The line of the first byte that no sheet has. The line number runs along, counted by hand, so that each byte is
-// looked at once.
+// The line of the first byte that no sheet has: one more than the line ends before it.
 fn foreign_line(s: &[u8]) -> Option<u64>
     ensures { result ≡ foreign_found s.now }
 {
-    let mut lineno = 1;
-    for &b in s {
-        if foreign(b) {
-            return Some(lineno);
-        }
-        if b == b'\n' {
-            lineno += 1;
-        }
-    }
-    None
+    let at = s.iter().position(|&b| foreign(b))?;
+    let ends = s[..at].iter().filter(|&&b| b == b'\n').count();
+    Some(ends as u64 + 1)
 }
 
 // 30 and 31, of the whole file. Only 31 has a line: that of the first foreign byte.
@@ -109,6 +102,7 @@ fn in_range(w: WordLine) -> bool
 }
 
 // The questions of a word line in their order. Its address is to be at least `least`.
+#[tactic(auto, using(crate::proofs::Laws::word_at), unfolding(crate::specs::Words::read_word))]
 fn read_word(line: &[u8], least: u64) -> Result<WordLine, Question>
     ensures refusal { question_of result ≡ (read_word least (row_of 2 line.now)).question }
     ensures value { IfOk result (λ w. w ≡ word_of (row_of 2 line.now)) }
@@ -118,10 +112,10 @@ fn read_word(line: &[u8], least: u64) -> Result<WordLine, Question>
         address: fields[0].value,
         word: fields[1].value,
     };
-    Question::FieldCount.ask(count == WORD_FIELDS)?;
-    Question::FieldWidth.ask(all_wide(&fields))?;
-    Question::Range.ask(in_range(w))?;
-    Question::Order.ask(least <= w.address)?;
+    keep(count == WORD_FIELDS, Question::FieldCount)?;
+    keep(all_wide(&fields), Question::FieldWidth)?;
+    keep(in_range(w), Question::Range)?;
+    keep(least <= w.address, Question::Order)?;
     Ok(w)
 }
 

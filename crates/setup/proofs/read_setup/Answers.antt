@@ -1,5 +1,5 @@
 -- Its values and tests are those of the row.
-use Rattle.std.proofs.Common.{arith, rules}
+use Rattle.std.proofs.Common.{rules}
 use Rattle.setup.specs.Setup.{read_setup}
 use Rattle.setup.proofs.read_setup.Goals as goal
 
