@@ -1,8 +1,8 @@
 -- How the lines of a sheet go on, and what a passed question gives.
 use mathlib.Core.Path.{◌≡◌, refl, ap, sym, ◌∙◌}
 use mathlib.Core.Bool.{Bool, true, false, cond, ◌&&◌}
-use mathlib.Core.List.{List, [], ◌∷◌}
-use Prim.Native.Nat.{ℕ, ◌+◌, ◌-◌, ◌%◌, ◌<◌, ◌≤◌}
+use mathlib.Core.List.{List, [], ◌∷◌, ◌++◌}
+use Prim.Native.Nat.{ℕ, ◌+◌, ◌-◌, ◌%◌, ◌<◌, ◌≤◌, min}
 use native.Mathlib.Omega.{arith}
 use lib.Dec.{eqb, leb, ltb}
 use lib.ListN.{length, get_or, drop, take, get_or-map, length-drop}
@@ -13,10 +13,13 @@ use Rattle.text.specs.declared.row.Field.{Field}
 use Rattle.text.specs.Split.{FirstLine, lines, Row, row_as, row_of}
 use Rattle.text.proofs.Asking.{first_half, second_half, yes_at}
 use Rattle.std.specs.Prelude.{Option, Some, None}
-use Rattle.std.specs.List.{position_or_len, count_by}
+use Rattle.std.specs.List.{position_or_len, count_by, AllWithin, IsFirstMatchOrLen}
+use Rattle.std.proofs.lemmas.List.{take-append-le, length-take-le, get_or-drop}
+use Rattle.std.proofs.lemmas.List.Sums.{position_or_len_is}
+use Rattle.std.proofs.Math.Seq.{drop-append_seam}
 use Rattle.std.proofs.lemmas.List.Recursion.{is_count_by}
-use Rattle.text.proofs.Scanning.{first_is_position, first_le}
-use Rattle.text.proofs.Splitting.{line_more, line_ends, lines_none}
+use Rattle.text.proofs.Scanning.{first_is_position, first_le, first_before}
+use Rattle.text.proofs.Splitting.{split_first, line_more, line_ends, lines_none}
 use Rattle.text.proofs.LineNumbers.{number_first, start_first, start_next}
 use Rattle.model.specs.Bytes.{written}
 use Rattle.setup.specs.Setup.{setup_row, read_setup}
@@ -130,6 +133,39 @@ pub record LeftAt (s left : List ℕ) (at n : ℕ) : Type 0 where
   pub inside : at ≤ length s
   pub start : LineStart s at n
 
+-- no test fails up to past an element that passes
+cut_le : (xs : List ℕ) (j : ℕ) → is newline (get_or xs (length xs - 1) 0) ≡ true → AllWithin (λ y. is newline y ≡ false) xs 0 j → j ≤ length xs
+cut_le xs j t a = by (ltb (length xs - 1) j) refl
+  where
+    by : (u : Bool) → ltb (length xs - 1) j ≡ u → j ≤ length xs
+    by true g =
+        let no : is newline (get_or xs (length xs - 1) 0) ≡ false = a (length xs - 1) 0 (omega arith) (ltb-true (length xs - 1) j g) in
+        let z : ◌≡◌ {A = Bool} true false = sym t ∙ no in
+        cc
+    by false g = let h = ltb-false (length xs - 1) j g in omega (arith, h)
+
+-- the line that `split_inclusive` gives first, without its end
+pub line_cut : (s left piece after : List ℕ) (at n i : ℕ) → LeftAt s left at n → get_or s (length s - 1) 0 ≡ newline
+    → left ≡ piece ++ after → length piece ≡ min (i + 1) (length left) → IsFirstMatchOrLen (is newline) left i → 0 < length left
+    → FirstLine left (take (length piece - 1) piece) after
+line_cut s left piece after at n i l z e w m some =
+    let width : length left ≡ length s - at = ap length l.is ∙ length-drop at s in
+    let place : at + (length left - 1) ≡ length s - 1 = omega (arith, l.inside) in
+    let last : get_or left (length left - 1) 0 ≡ newline =
+    ap (λ t. get_or t (length left - 1) 0) l.is ∙ get_or-drop at s (length left - 1) 0 ∙ ap (λ k. get_or s k 0) place ∙ z in
+    let first : first_that (is newline) left ≡ i =
+    first_is_position (is newline) left ∙ position_or_len_is (is newline) left i 0 (cut_le left i (eq-eqb _ newline last) m.0) (λ k h. m.0 k 0 (omega arith) h) (λ h. m.1 h 0) in
+    let inside : first_that (is newline) left ≤ length left - 1 = first_before (is newline) left (length left - 1) (omega arith) (eq-eqb _ newline last) in
+    let k : length piece - 1 ≡ i = omega arith in
+    let part : i ≤ length piece = omega arith in
+    let line : take (length piece - 1) piece ≡ take i left = ap (λ j. take j piece) k ∙ sym (take-append-le i piece after part) ∙ ap (take i) (sym e) in
+    let long : length (take (length piece - 1) piece) + 1 ≡ length piece = omega (arith, length-take-le (length piece - 1) piece (omega arith)) in
+    record {
+      some = some;
+      first = line ∙ ap (λ j. take j left) (sym first) ∙ sym (split_first newline [] left refl);
+      after = sym (ap (λ j. drop j left) long ∙ ap (drop (length piece)) e ∙ drop-append_seam piece after);
+    }
+
 module _ (s left line after : List ℕ) (at n : ℕ) (l : LeftAt s left at n) (f : FirstLine left line after) where
   left_width : length left ≡ length s - at
   left_width = ap length l.is ∙ length-drop at s
@@ -152,9 +188,6 @@ module _ (s left line after : List ℕ) (at n : ℕ) (l : LeftAt s left at n) (f
         start = start_next s line at first end n l.start;
       }
 
-  pub left_shorter : length after < length left
-  left_shorter = omega (arith, f.some, ap length f.after, length-drop (length line + 1) left)
-
   -- line by line it is read as w, and passes or is refused
   pub refusal_on : (least a : ℕ) → (read_word least (row_of 2 line)).question ≡ 0 → a ≡ (word_of (row_of 2 line)).address
       → words_refusal s (at + length line + 1) (a + 1) (lines after) ≡ words_refusal s at least (lines left)
@@ -176,6 +209,10 @@ module _ (s left line after : List ℕ) (at n : ℕ) (l : LeftAt s left at n) (f
   unfolding memory_of
   memory_on mem now w e m =
       ap (λ k. memory_of k (words_of (lines after))) (m ∙ ap (placed mem) e) ∙ sym (ap (λ ls. memory_of mem (words_of ls)) left_lines)
+
+pub none_left : (xs : List ℕ) → length xs ≡ 0 → xs ≡ []
+none_left [] e = refl
+none_left (x ∷ xs) e = let z : ⊥ = omega arith in absurd z
 
 pub refusal_off : (s left : List ℕ) (at least : ℕ) → left ≡ [] → words_refusal s at least (lines left) ≡ refusal 0 0
 unfolding words_refusal

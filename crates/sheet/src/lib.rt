@@ -13,10 +13,10 @@ use memory::bytes::write;
 use model::stop::keep;
 use setup::question::Question;
 use setup::{Setup, read_setup};
-use text::field::{line_at, split_line};
+use text::field::line_at;
 use text::number::is_digit;
 use text::row::{all_wide, read_row};
-use text::scan::rest;
+use text::scan::{front, rest};
 use text::writer::Writer;
 
 // The fields of a word line: address and word.
@@ -31,7 +31,8 @@ pub struct Refusal {
 }
 
 impl Refusal {
-    // "sheet,", the question, the line number and the line's end.
+    // "sheet,", the question, the line number and the line's end. Not `write!`: at most 48 bytes go into a buffer that has room for
+    // them by contract, and fmt would have to answer an error where it is full (text::writer).
     pub fn put(self, w: &mut Writer)
         requires { w.old.at + 48 ≤ length w.old.buffer.now }
         ensures put { Put w.old (refusal_text (question_number self.question) self.lineno) w.new }
@@ -120,23 +121,22 @@ fn read_word(line: &[u8], least: u64) -> Result<WordLine, Question>
 }
 
 // The word lines, from line 2 on, which begins at a position, and their words placed in memory. Where a line is refused, memory
-// is left free: no refused sheet is run. A position, and not the rest that `split_line` gives, since `words_refusal` names a line by
+// is left free: no refused sheet is run. A position, and not the rest of the text, since `words_refusal` names a line by
 // its position in the whole text.
 fn read_words(s: &[u8], start: usize, mem: &mut [u8]) -> Result<(), Refusal>
     requires { (length mem.old ≡ 65536) × (start ≤ length s.now) × (length s.now ≤ 65536) × (get_or s.now (length s.now - 1) 0 ≡ newline) × LineStart s.now start 2 }
     ensures refusal { refusal_of result ≡ words_refusal s.now start 0 (lines (drop start s.now)) }
     ensures mem_after { OnOk result (mem.new ≡ memory_of mem.old (words_of (lines (drop start s.now)))) }
 {
-    let mut left = rest(s, start);
-    // Counted by hand: a loop of `split_line` is no iterator to enumerate.
-    let mut lineno = 2;
     let mut least = 0;
-    while let Some((line, after)) = split_line(left) {
-        let w = read_word(line, least).map_err(|question| Refusal { question, lineno })?;
+    // Each line comes with its end, which is cut off.
+    for (line, lineno) in rest(s, start).split_inclusive(|&b| b == b'\n').zip(2..) {
+        let w = read_word(front(line, line.len() - 1), least).map_err(|question| Refusal {
+            question,
+            lineno,
+        })?;
         write(mem, w.address, 4, w.word);
         least = w.address + 1;
-        lineno += 1;
-        left = after;
     }
     Ok(())
 }
