@@ -85,8 +85,8 @@ module _ (s : List ℕ) where
   abbrev Found : Option ℕ → Type 0
   Found r = r ≡ cond (ltb (position_or_len foreign s) (length s)) (Some (position_or_len foreign s)) None
 
-  pub foreign_at : (i n : ℕ) → Found (Some i) → n ≡ count_by (is newline) (take i s) → Some (n + 1) ≡ foreign_found s
-  foreign_at i n f e = by (ltb (position_or_len foreign s) (length s)) refl f
+  pub foreign_here : (i n : ℕ) → Found (Some i) → n ≡ count_by (is newline) (take i s) → Some (n + 1) ≡ foreign_found s
+  foreign_here i n f e = by (ltb (position_or_len foreign s) (length s)) refl f
     where
       by : (t : Bool) → ltb (position_or_len foreign s) (length s) ≡ t → Some i ≡ cond t (Some (position_or_len foreign s)) None → Some (n + 1) ≡ foreign_found s
       by true g h =

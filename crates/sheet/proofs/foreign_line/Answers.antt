@@ -7,7 +7,7 @@ use Rattle.std.proofs.lemmas.Iterator.Consumers.{YieldsList-from_filter, count_f
 use Rattle.std.proofs.lemmas.Iterator.Search.{position_from_yields_List}
 use Rattle.text.specs.Scan.{is, newline}
 use Rattle.sheet.specs.Sheet.{foreign}
-use Rattle.sheet.proofs.Laws.{foreign_at, foreign_none}
+use Rattle.sheet.proofs.Laws.{foreign_here, foreign_none}
 use Rattle.sheet.proofs.foreign_line.Goals as goal
 
 pub returns-in_err-at : goal.returns-in_err-at
@@ -24,4 +24,4 @@ returns c =
     let ends =
     count_from_yields_List c.filter.result c.count-ends.result c.count-ends.ensures.ran
     (YieldsList-from_filter _ (is newline) (YieldsList-from_slice (take at s) cc) c.filter.ensures.closure (λ x b q k. search (rules, tests))) in
-    foreign_at s at c.count-ends.result (sym c.in_ok-at.was ∙ found) (ends ∙ length-filter (is newline) (take at s))
+    foreign_here s at c.count-ends.result (sym c.in_ok-at.was ∙ found) (ends ∙ length-filter (is newline) (take at s))
