@@ -65,7 +65,8 @@ pub fn each_doubleword<F: Fn(usize, u64) -> io::Result<()>>(mem: &[u8], show: F)
 }
 
 // Hands on the number and the value of each register that is not 0, in the order of numbers, until that answers an error. What is
-// printed of them is left free, as of doublewords.
+// printed of them is left free, as of doublewords. (One loop over an iterator of either would have to say in its clause what the
+// iterator gives, where these two say it of the memory and of the registers.)
 pub fn each_register<F: Fn(usize, u64) -> io::Result<()>>(x: &[u64; 32], show: F) -> io::Result<()>
     requires { F.IsAlwaysCallable show }
     ensures { OnOk result ((i : ℕ) → i < 32 → 0 < get_or x.now i 0 → F.post show i (get_or x.now i 0) (Ok tt)) }

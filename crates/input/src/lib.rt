@@ -12,8 +12,9 @@ use std::{fs, io};
 pub const ROOM: usize = 65537;
 
 // The bytes up to the end, or until the room is full: they stand from the room's start on. (std's own fills a Vec, and no program
-// here asks for memory.) A read that fails is the answer, and nothing is then known of the room. Which of the two answers it is,
-// and the bytes and their number within the room, are left free, since no contract can speak of what a file holds.
+// here asks for memory. A read says only how many bytes came, so where the next are to stand is counted by hand.) A read that fails
+// is the answer, and nothing is then known of the room. Which of the two answers it is, and the bytes and their number within the
+// room, are left free, since no contract can speak of what a file holds.
 pub fn read_to_end<'a, R: Read>(source: &mut R, room: &'a mut [u8]) -> io::Result<&'a [u8]>
     ensures { IfOk result (λ bytes. length bytes.now ≤ length room.old) }
 {

@@ -12,6 +12,10 @@ ghost use Rattle.report.specs.Report.{fault_fields, result_line, register_line, 
 use model::{Fault, Ran};
 use text::writer::Writer;
 
+// Put by hand, not by `write!`: each function asks for the room that its text needs at most, so that nothing here can fail, and fmt
+// would have to answer an error for a full buffer (text::writer). The room is a `requires` of each, since a type that says it would need
+// computed const arguments, as `Writer<{ROOM - 17}>`, which Rattle has not.
+
 // A comma and a number in hexadecimal: a field after the first.
 fn put_field(w: &mut Writer, n: u64)
     requires { w.old.at + 17 ≤ length w.old.buffer.now }

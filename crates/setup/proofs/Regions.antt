@@ -1,12 +1,14 @@
 -- The regions of line 1, one after another.
 use mathlib.Core.Path.{◌≡◌, refl, ap, ◌∙◌}
 use mathlib.Core.Bool.{◌&&◌}
-use mathlib.Core.List.{List, ◌++◌}
-use Prim.Native.Nat.{ℕ, zero, suc, ◌+◌, ◌-◌, ◌*◌, ◌<◌, ◌≤◌}
+use mathlib.Core.List.{List, [], ◌++◌}
+use Prim.Native.Nat.{ℕ, zero, suc, ◌+◌, ◌-◌, ◌*◌, ◌/◌, ◌<◌, ◌≤◌}
 use native.Mathlib.Omega.{arith}
 use lib.Dec.{leb}
-use lib.ListN.{length, get_or, drop, set, replicate, length-replicate}
+use lib.ListN.{length, get_or, take, drop, set, replicate, length-replicate}
 use lib.Seq.{sets, sets-eq}
+use Rattle.std.specs.Simd.{first_chunks}
+use Rattle.std.proofs.lemmas.List.{get_or-take, get_or-drop, length-take-le, length-drop}
 use Rattle.std.specs.List.{list_all}
 use Rattle.std.proofs.lemmas.List.Recursion.{same_from_clauses}
 use Rattle.model.specs.Machine.{last_region, no_region, regions_from}
@@ -63,6 +65,35 @@ module _ (vs : List ℕ) (first n i : ℕ) where
       rw (at, left, e)
       (sets_over last_region no_region (regions_from vs first n) few
       ∙ ap (λ k. regions_from vs first n ++ replicate (last_region - k) no_region) (regions_length vs first n))
+
+-- ---- the values three by three
+chunk_at : (k i j : ℕ) (xs : List ℕ) → i < k → j < 3 → get_or (get_or (first_chunks 3 k xs) i []) j 0 ≡ get_or xs (3 * i + j) 0
+chunk_at zero i j xs h l = let z : ⊥ = omega arith in absurd z
+chunk_at (suc k) zero j xs h l = let e : j ≡ 3 * 0 + j = omega arith in get_or-take 3 xs j 0 l ∙ ap (λ m. get_or xs m 0) e
+chunk_at (suc k) (suc i) j xs h l =
+    let e : 3 + (3 * i + j) ≡ 3 * suc i + j = omega arith in
+    chunk_at k i j (drop 3 xs) (omega arith) l ∙ get_or-drop 3 xs (3 * i + j) 0 ∙ ap (λ m. get_or xs m 0) e
+
+module _ (vs : List ℕ) (first n : ℕ) (h : first + 3 * n ≤ length vs) where
+  abbrev pub given : List ℕ
+  given = take (first + 3 * n - first) (drop first vs)
+
+  given_width : length given ≡ 3 * n
+  given_width =
+      let fits : first + 3 * n - first ≤ length (drop first vs) = omega (arith, length-drop first vs) in
+      omega (arith, length-take-le (first + 3 * n - first) (drop first vs) fits)
+
+  pub given_count : length given / 3 ≡ n
+  given_count = omega (arith, given_width)
+
+  pub given_at : (i j : ℕ) → i < n → j < 3 → get_or (get_or (first_chunks 3 (length given / 3) given) i []) j 0 ≡ get_or vs (first + 3 * i + j) 0
+  given_at i j k l =
+      let inside : 3 * i + j < first + 3 * n - first = omega arith in
+      let e : first + (3 * i + j) ≡ first + 3 * i + j = omega arith in
+      chunk_at (length given / 3) i j given (omega (arith, given_count)) l
+      ∙ get_or-take (first + 3 * n - first) (drop first vs) (3 * i + j) 0 inside
+      ∙ get_or-drop first vs (3 * i + j) 0
+      ∙ ap (λ m. get_or vs m 0) e
 
 -- ---- the permissions
 pub in_range_is : (rs : List Region) → permissions_in_range rs ≡ list_all (λ r. leb r.permission 0xff) rs

@@ -1,12 +1,14 @@
 -- Line 1 of a sheet: "pc, options, handler, then base, bound or mask, permission for regions 1, 2, 3, then budget" (01, The run sheet),
 -- or for all ten (02, Job 7); and the machine that a run of the sheet starts from.
--- Setup is declared in src/lib.rt, Region and Machine in model/src/lib.rt, Row in text/specs/Split.antt. Assumes nothing.
+-- Setup and Form are declared in src/lib.rt, Region and Machine in model/src/lib.rt, Row in text/specs/Split.antt. Assumes nothing.
 use Rattle.std.specs.Prelude.{Bool, true, cond, ◌&&◌, ◌||◌, List, [], ◌∷◌, ◌++◌, ℕ, ◌+◌, ◌-◌, ◌*◌, eqb, leb, get_or, take, replicate}
 use Rattle.text.specs.Split.{Row, row_of, all_wide}
 use Rattle.text.specs.Questions.{first_no}
 use Rattle.model.specs.Machine.{last_region, no_region, regions_from}
 use Rattle.model.specs.declared.Region.{Region}
 use Rattle.model.specs.declared.Machine.{Machine}
+use Rattle.setup.specs.declared.Form.{Form}
+use Rattle.setup.specs.declared.Form.TheVariants.{Short, Long}
 use Rattle.setup.specs.declared.Setup.{Setup}
 
 -- ---- a line that gives n regions: pc, options, handler, three fields for each region, then the budget
@@ -30,6 +32,11 @@ counted count = eqb count (setup_fields few_regions) || eqb count (setup_fields 
 -- how many regions a line of so many fields gives
 abbrev pub regions_given : ℕ → ℕ
 regions_given count = cond (eqb count (setup_fields few_regions)) few_regions last_region
+
+-- how many regions a form gives
+abbrev pub regions_in : Form → ℕ
+regions_in Short = few_regions
+regions_in Long = last_region
 
 -- line 1 as a row, with a slot for each of 34 fields
 abbrev pub setup_row : List ℕ → Row

@@ -3,12 +3,13 @@
 
 pub mod question;
 
-ghost use Rattle.std.specs.Prelude.{◌≡◌, ℕ, ◌++◌, ◌+◌, ◌-◌, ◌*◌, ◌≤◌, length, replicate, IfOk};
+ghost use Rattle.std.specs.Prelude.{◌≡◌, ℕ, ◌++◌, ◌+◌, ◌-◌, ◌*◌, ◌≤◌, length, true, false, replicate, IfOk, MatchOption};
 ghost use Rattle.text.specs.Split.{values_of, row_as};
 ghost use Rattle.model.specs.Machine.{last_region, no_region, regions_from};
 ghost use Rattle.setup.specs.Question.{question_of};
-ghost use Rattle.setup.specs.Setup.{regions_given, counted, permissions_in_range, budget_field, digits_in_range, values_in_range, setup_row, setup_of, read_setup, machine_of};
+ghost use Rattle.setup.specs.Setup.{regions_in, regions_given, counted, permissions_in_range, budget_field, digits_in_range, values_in_range, setup_row, setup_of, read_setup, machine_of};
 
+use model::stop::keep;
 use model::{HfiState, Machine, REGIONS, Region};
 use question::Question;
 use text::row::{Field, all_wide, read_row};
@@ -34,40 +35,57 @@ pub struct Setup {
     pub budget: u64,
 }
 
-// How many regions a line of so many fields gives.
-fn regions_given(count: usize) -> usize
-    ensures value { result ≡ regions_given count }
-    ensures upper_bound { result ≤ last_region }
-{
-    if count == SHORT_FORM {
-        FEW_REGIONS
-    } else {
-        REGIONS
+// The forms of line 1.
+#[derive(Clone, Copy)]
+enum Form {
+    Short,
+    Long,
+}
+
+impl Form {
+    // The form of a line of so many fields, where that is a form.
+    fn of_count(count: usize) -> Option<Form>
+        ensures { MatchOption result (counted count ≡ false) (λ form. (counted count ≡ true) × (regions_in form ≡ regions_given count)) }
+    {
+        match count {
+            SHORT_FORM => Some(Form::Short),
+            LONG_FORM => Some(Form::Long),
+            _ => None,
+        }
+    }
+
+    // How many regions it gives.
+    fn regions(self) -> usize
+        ensures value { result ≡ regions_in self }
+        ensures upper_bound { result ≤ last_region }
+    {
+        match self {
+            Form::Short => FEW_REGIONS,
+            Form::Long => REGIONS,
+        }
+    }
+
+    // The budget's place.
+    fn budget_field(self) -> usize
+        ensures { result ≡ budget_field (regions_in self) }
+    {
+        3 + 3 * self.regions()
     }
 }
 
-// The budget's place in a line that gives n regions. (That n is no more than the record keeps stays a `requires`: n is 3 or all of them, and a
-// type for it would be taken apart at each use.)
-fn budget_field(n: usize) -> usize
-    requires { n ≤ last_region }
-    ensures { result ≡ budget_field n }
-{
-    3 + 3 * n
-}
-
-// The regions, of which the first n are in the values from place `first` on; the others are zero. By index:
-// `chunks_exact(3)` beside the slots would name a region's three values by index all the same.
+// The regions, of which the first n are in the values from place `first` on; the others are zero. Not `iter_mut().zip(given)`: its
+// loop does not tell the proof what the array is left with.
 pub fn regions_from(values: &[u64], first: usize, n: usize) -> [Region; REGIONS]
     requires { (n ≤ last_region) × (first + 3 * n ≤ length values.now) }
     ensures { result ≡ regions_from values.now first n ++ replicate (last_region - n) no_region }
 {
     let mut regions = [Region::default(); REGIONS];
-    for i in 0..n {
-        let k = first + 3 * i;
+    let (given, _) = values[first..first + 3 * n].as_chunks::<3>();
+    for (i, &[base, bound, permission]) in given.iter().enumerate() {
         regions[i] = Region {
-            base: values[k],
-            bound: values[k + 1],
-            permission: values[k + 2],
+            base,
+            bound,
+            permission,
         };
     }
     regions
@@ -87,18 +105,17 @@ fn values(fields: [Field; LONG_FORM]) -> [u64; LONG_FORM]
     fields.map(|f| f.value)
 }
 
-// The values of a line that gives n regions.
-fn setup_of(n: usize, fields: &[Field; LONG_FORM]) -> Setup
-    requires { n ≤ last_region }
-    ensures { (count : ℕ) → result ≡ setup_of n (row_as count fields.now) }
+// The values of a line of a form.
+fn setup_of(form: Form, fields: &[Field; LONG_FORM]) -> Setup
+    ensures { (count : ℕ) → result ≡ setup_of (regions_in form) (row_as count fields.now) }
 {
     let values = values(*fields);
-    let budget = fields[budget_field(n)];
+    let budget = fields[form.budget_field()];
     Setup {
         pc: values[0],
         options: values[1],
         handler: values[2],
-        regions: regions_from(&values, 3, n),
+        regions: regions_from(&values, 3, form.regions()),
         budget: if budget.width == 0 {
             DEFAULT_BUDGET
         } else {
@@ -107,19 +124,11 @@ fn setup_of(n: usize, fields: &[Field; LONG_FORM]) -> Setup
     }
 }
 
-// Has a line so many fields?
-fn counted(count: usize) -> bool
-    ensures { result ≡ counted count }
-{
-    count == SHORT_FORM || count == LONG_FORM
-}
-
 // Has each field before the budget 1 to 16 digits, and the budget at most 16?
-fn digits_in_range(n: usize, fields: &[Field; LONG_FORM]) -> bool
-    requires { n ≤ last_region }
-    ensures { (count : ℕ) → result ≡ digits_in_range n (row_as count fields.now) }
+fn digits_in_range(form: Form, fields: &[Field; LONG_FORM]) -> bool
+    ensures { (count : ℕ) → result ≡ digits_in_range (regions_in form) (row_as count fields.now) }
 {
-    let last = budget_field(n);
+    let last = form.budget_field();
     all_wide(&fields[..last]) && fields[last].width <= 16
 }
 
@@ -131,16 +140,16 @@ fn values_in_range(s: &Setup) -> bool
 }
 
 // The questions of line 1 in their order. The line is taken apart once.
+#[tactic(auto, unfolding(crate::specs::Setup::read_setup))]
 pub fn read_setup(line: &[u8]) -> Result<Setup, Question>
     ensures refusal { question_of result ≡ (read_setup (setup_row line.now)).question }
     ensures value { IfOk result (λ setup. setup ≡ (read_setup (setup_row line.now)).setup) }
 {
     let (count, fields) = read_row::<LONG_FORM>(line);
-    let n = regions_given(count);
-    let setup = setup_of(n, &fields);
-    Question::FieldCount.ask(counted(count))?;
-    Question::FieldWidth.ask(digits_in_range(n, &fields))?;
-    Question::Range.ask(values_in_range(&setup))?;
+    let form = Form::of_count(count).ok_or(Question::FieldCount)?;
+    let setup = setup_of(form, &fields);
+    keep(digits_in_range(form, &fields), Question::FieldWidth)?;
+    keep(values_in_range(&setup), Question::Range)?;
     Ok(setup)
 }
 

@@ -1,5 +1,5 @@
 // What a sheet is asked, and what refuses it: a question that is answered no.
-ghost use Rattle.std.specs.Prelude.{◌≡◌, cond, Ok, Err};
+ghost use Rattle.std.specs.Prelude.{◌≡◌};
 ghost use Rattle.setup.specs.Question.{question_number};
 
 // The questions, in their order.
@@ -14,17 +14,10 @@ pub enum Question {
 }
 
 impl Question {
-    // Its number.
+    // Its number. A method, not `From`: the name says which number, at the place that prints it.
     pub fn number(self) -> u64
         ensures { result ≡ question_number self }
     {
         self as u64
-    }
-
-    // Refuses by this question, where its answer is no.
-    pub fn ask(self, yes: bool) -> Result<(), Question>
-        ensures { result ≡ cond yes (Ok tt) (Err self) }
-    {
-        if yes { Ok(()) } else { Err(self) }
     }
 }

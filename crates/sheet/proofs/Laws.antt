@@ -1,20 +1,25 @@
 -- How the lines of a sheet go on, and what a passed question gives.
 use mathlib.Core.Path.{◌≡◌, refl, ap, sym, ◌∙◌}
 use mathlib.Core.Bool.{Bool, true, false, cond, ◌&&◌}
-use mathlib.Core.List.{List, [], ◌∷◌}
-use Prim.Native.Nat.{ℕ, ◌+◌, ◌-◌, ◌%◌, ◌<◌, ◌≤◌}
+use mathlib.Core.List.{List, [], ◌∷◌, ◌++◌}
+use Prim.Native.Nat.{ℕ, ◌+◌, ◌-◌, ◌%◌, ◌<◌, ◌≤◌, min}
 use native.Mathlib.Omega.{arith}
-use lib.Dec.{eqb, leb}
-use lib.ListN.{length, get_or, drop, get_or-map, length-drop}
+use lib.Dec.{eqb, leb, ltb}
+use lib.ListN.{length, get_or, drop, take, get_or-map, length-drop}
 use lib.Seq.{drop-drop}
-use borrow.Author.Tests.{leb-true, eqb-true, eq-eqb, ne_eqb}
-use Rattle.text.specs.Scan.{newline, first_that, line_number, LineStart}
+use borrow.Author.Tests.{leb-true, ltb-true, ltb-false, eqb-true, eq-eqb, ne_eqb}
+use Rattle.text.specs.Scan.{newline, is, count, first_that, line_number, LineStart}
 use Rattle.text.specs.declared.row.Field.{Field}
-use Rattle.text.specs.Questions.{first_no}
 use Rattle.text.specs.Split.{FirstLine, lines, Row, row_as, row_of}
 use Rattle.text.proofs.Asking.{first_half, second_half, yes_at}
-use Rattle.std.specs.Prelude.{Some, None}
-use Rattle.text.proofs.Splitting.{line_more, line_ends, lines_none}
+use Rattle.std.specs.Prelude.{Option, Some, None}
+use Rattle.std.specs.List.{position_or_len, count_by, AllWithin, IsFirstMatchOrLen}
+use Rattle.std.proofs.lemmas.List.{take-append-le, length-take-le, get_or-drop}
+use Rattle.std.proofs.lemmas.List.Sums.{position_or_len_is}
+use Rattle.std.proofs.Math.Seq.{drop-append_seam}
+use Rattle.std.proofs.lemmas.List.Recursion.{is_count_by}
+use Rattle.text.proofs.Scanning.{first_is_position, first_le, first_before}
+use Rattle.text.proofs.Splitting.{split_first, line_more, line_ends, lines_none}
 use Rattle.text.proofs.LineNumbers.{number_first, start_first, start_next}
 use Rattle.model.specs.Bytes.{written}
 use Rattle.setup.specs.Setup.{setup_row, read_setup}
@@ -27,16 +32,12 @@ pub read_is : (least : ℕ) (r : Row) → ((read_word least r).address ≡ (word
 unfolding read_word
 read_is least r = (refl, refl)
 
--- a word line by its slots, and by its questions
+-- a word line by its slots
 pub word_at : (n : ℕ) (fs : List Field)
     → record { address = (get_or fs 0 (record { value = 0; width = 0 })).value; word = (get_or fs 1 (record { value = 0; width = 0 })).value } ≡ word_of (row_as n fs)
 word_at n fs =
     let none : Field = record { value = 0; width = 0 } in
     rw (get_or-map (λ f. f.value) fs 0 none, get_or-map (λ f. f.value) fs 1 none)
-
-pub word_asked : (least : ℕ) (r : Row) (n : ℕ) → first_no (word_questions least r (word_of r)) ≡ n → (read_word least r).question ≡ n
-unfolding read_word
-word_asked least r n e = e
 
 -- where it passes, its word lies in memory
 pub word_fits : (least : ℕ) (r : Row) → (read_word least r).question ≡ 0 → (read_word least r).address ≤ 0xfffc
@@ -63,6 +64,14 @@ pub file_whole : (s : List ℕ) → file_no s ≡ 0 → (1 ≤ length s) × (len
 unfolding file_no
 file_whole s e = whole_parts s (yes_at 0 (file_questions s) refl e)
 
+count_is : (s : List ℕ) → count newline s ≡ count_by (is newline) s
+unfolding count
+count_is s = is_count_by (count newline) (is newline) refl (λ b bs. by (is newline b) (count newline bs)) s
+  where
+    by : (t : Bool) (n : ℕ) → cond t 1 0 + n ≡ cond t (1 + n) n
+    by true n = refl
+    by false n = omega arith
+
 -- ---- the first foreign byte: its line, or 0; so 31 may ask for the line
 module _ (s : List ℕ) where
   pub foreign_asked : eqb (foreign_line s) 0 ≡ eqb (first_that foreign s) (length s)
@@ -72,12 +81,28 @@ module _ (s : List ℕ) where
       by true = refl
       by false = ne_eqb (line_number s (first_that foreign s)) 0 (λ z. omega (arith, z))
 
-  -- it stands at i, or nowhere
-  pub foreign_here : (i : ℕ) → i < length s → first_that foreign s ≡ i → Some (line_number s i) ≡ foreign_found s
-  foreign_here i h e = rw (e, ne_eqb i (length s) (λ z. omega (arith, z)))
+  -- as `position` finds it, and as the 0a bytes before it are counted
+  abbrev Found : Option ℕ → Type 0
+  Found r = r ≡ cond (ltb (position_or_len foreign s) (length s)) (Some (position_or_len foreign s)) None
 
-  pub foreign_none : first_that foreign s ≡ length s → None ≡ foreign_found s
-  foreign_none e = rw (eq-eqb (first_that foreign s) (length s) e)
+  pub foreign_here : (i n : ℕ) → Found (Some i) → n ≡ count_by (is newline) (take i s) → Some (n + 1) ≡ foreign_found s
+  foreign_here i n f e = by (ltb (position_or_len foreign s) (length s)) refl f
+    where
+      by : (t : Bool) → ltb (position_or_len foreign s) (length s) ≡ t → Some i ≡ cond t (Some (position_or_len foreign s)) None → Some (n + 1) ≡ foreign_found s
+      by true g h =
+          let at : first_that foreign s ≡ i = first_is_position foreign s ∙ sym cc in
+          let z : first_that foreign s < length s = rw (first_is_position foreign s) (ltb-true (position_or_len foreign s) (length s) g) in
+          rw (ne_eqb (first_that foreign s) (length s) (λ y. omega (arith, y)), at) (ap (λ k. Some (k + 1)) (e ∙ sym (count_is (take i s))))
+      by false g h = cc
+
+  pub foreign_none : Found None → None ≡ foreign_found s
+  foreign_none f = by (ltb (position_or_len foreign s) (length s)) refl f
+    where
+      by : (t : Bool) → ltb (position_or_len foreign s) (length s) ≡ t → None ≡ cond t (Some (position_or_len foreign s)) None → None ≡ foreign_found s
+      by true g h = cc
+      by false g h =
+          let z : length s ≤ first_that foreign s = rw (first_is_position foreign s) (ltb-false (position_or_len foreign s) (length s) g) in
+          rw (eq-eqb (first_that foreign s) (length s) (omega (arith, z, first_le foreign s)))
 
   -- ---- 30 and 31, of the file
   pub file_not_whole : whole s ≡ false → refusal 30 0 ≡ file_refusal s
@@ -108,6 +133,39 @@ pub record LeftAt (s left : List ℕ) (at n : ℕ) : Type 0 where
   pub inside : at ≤ length s
   pub start : LineStart s at n
 
+-- no test fails up to past an element that passes
+cut_le : (xs : List ℕ) (j : ℕ) → is newline (get_or xs (length xs - 1) 0) ≡ true → AllWithin (λ y. is newline y ≡ false) xs 0 j → j ≤ length xs
+cut_le xs j t a = by (ltb (length xs - 1) j) refl
+  where
+    by : (u : Bool) → ltb (length xs - 1) j ≡ u → j ≤ length xs
+    by true g =
+        let no : is newline (get_or xs (length xs - 1) 0) ≡ false = a (length xs - 1) 0 (omega arith) (ltb-true (length xs - 1) j g) in
+        let z : ◌≡◌ {A = Bool} true false = sym t ∙ no in
+        cc
+    by false g = let h = ltb-false (length xs - 1) j g in omega (arith, h)
+
+-- the line that `split_inclusive` gives first, without its end
+pub line_cut : (s left piece after : List ℕ) (at n i : ℕ) → LeftAt s left at n → get_or s (length s - 1) 0 ≡ newline
+    → left ≡ piece ++ after → length piece ≡ min (i + 1) (length left) → IsFirstMatchOrLen (is newline) left i → 0 < length left
+    → FirstLine left (take (length piece - 1) piece) after
+line_cut s left piece after at n i l z e w m some =
+    let width : length left ≡ length s - at = ap length l.is ∙ length-drop at s in
+    let place : at + (length left - 1) ≡ length s - 1 = omega (arith, l.inside) in
+    let last : get_or left (length left - 1) 0 ≡ newline =
+    ap (λ t. get_or t (length left - 1) 0) l.is ∙ get_or-drop at s (length left - 1) 0 ∙ ap (λ k. get_or s k 0) place ∙ z in
+    let first : first_that (is newline) left ≡ i =
+    first_is_position (is newline) left ∙ position_or_len_is (is newline) left i 0 (cut_le left i (eq-eqb _ newline last) m.0) (λ k h. m.0 k 0 (omega arith) h) (λ h. m.1 h 0) in
+    let inside : first_that (is newline) left ≤ length left - 1 = first_before (is newline) left (length left - 1) (omega arith) (eq-eqb _ newline last) in
+    let k : length piece - 1 ≡ i = omega arith in
+    let part : i ≤ length piece = omega arith in
+    let line : take (length piece - 1) piece ≡ take i left = ap (λ j. take j piece) k ∙ sym (take-append-le i piece after part) ∙ ap (take i) (sym e) in
+    let long : length (take (length piece - 1) piece) + 1 ≡ length piece = omega (arith, length-take-le (length piece - 1) piece (omega arith)) in
+    record {
+      some = some;
+      first = line ∙ ap (λ j. take j left) (sym first) ∙ sym (split_first newline [] left refl);
+      after = sym (ap (λ j. drop j left) long ∙ ap (drop (length piece)) e ∙ drop-append_seam piece after);
+    }
+
 module _ (s left line after : List ℕ) (at n : ℕ) (l : LeftAt s left at n) (f : FirstLine left line after) where
   left_width : length left ≡ length s - at
   left_width = ap length l.is ∙ length-drop at s
@@ -130,9 +188,6 @@ module _ (s left line after : List ℕ) (at n : ℕ) (l : LeftAt s left at n) (f
         start = start_next s line at first end n l.start;
       }
 
-  pub left_shorter : length after < length left
-  left_shorter = omega (arith, f.some, ap length f.after, length-drop (length line + 1) left)
-
   -- line by line it is read as w, and passes or is refused
   pub refusal_on : (least a : ℕ) → (read_word least (row_of 2 line)).question ≡ 0 → a ≡ (word_of (row_of 2 line)).address
       → words_refusal s (at + length line + 1) (a + 1) (lines after) ≡ words_refusal s at least (lines left)
@@ -154,6 +209,10 @@ module _ (s left line after : List ℕ) (at n : ℕ) (l : LeftAt s left at n) (f
   unfolding memory_of
   memory_on mem now w e m =
       ap (λ k. memory_of k (words_of (lines after))) (m ∙ ap (placed mem) e) ∙ sym (ap (λ ls. memory_of mem (words_of ls)) left_lines)
+
+pub none_left : (xs : List ℕ) → length xs ≡ 0 → xs ≡ []
+none_left [] e = refl
+none_left (x ∷ xs) e = let z : ⊥ = omega arith in absurd z
 
 pub refusal_off : (s left : List ℕ) (at least : ℕ) → left ≡ [] → words_refusal s at least (lines left) ≡ refusal 0 0
 unfolding words_refusal

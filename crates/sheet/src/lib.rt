@@ -10,12 +10,13 @@ ghost use Rattle.sheet.specs.Words.{word_of, read_word, in_range, words_of, memo
 ghost use Rattle.sheet.specs.Sheet.{refusal_of, whole, foreign as foreign_of, foreign_found, file_refusal, words_refusal, read_sheet, refusal_text};
 
 use memory::bytes::write;
+use model::stop::keep;
 use setup::question::Question;
 use setup::{Setup, read_setup};
-use text::field::{line_at, split_line};
+use text::field::line_at;
 use text::number::is_digit;
 use text::row::{all_wide, read_row};
-use text::scan::rest;
+use text::scan::{front, rest};
 use text::writer::Writer;
 
 // The fields of a word line: address and word.
@@ -30,7 +31,8 @@ pub struct Refusal {
 }
 
 impl Refusal {
-    // "sheet,", the question, the line number and the line's end.
+    // "sheet,", the question, the line number and the line's end. Not `write!`: at most 48 bytes go into a buffer that has room for
+    // them by contract, and fmt would have to answer an error where it is full (text::writer).
     pub fn put(self, w: &mut Writer)
         requires { w.old.at + 48 ≤ length w.old.buffer.now }
         ensures put { Put w.old (refusal_text (question_number self.question) self.lineno) w.new }
@@ -65,21 +67,13 @@ fn foreign(b: u8) -> bool
     !(is_digit(b) || b == b',' || b == b'\n')
 }
 
-// The line of the first byte that no sheet has. The line number runs along, counted by hand, so that each byte is
-// looked at once.
+// The line of the first byte that no sheet has: one more than the line ends before it.
 fn foreign_line(s: &[u8]) -> Option<u64>
     ensures { result ≡ foreign_found s.now }
 {
-    let mut lineno = 1;
-    for &b in s {
-        if foreign(b) {
-            return Some(lineno);
-        }
-        if b == b'\n' {
-            lineno += 1;
-        }
-    }
-    None
+    let at = s.iter().position(|&b| foreign(b))?;
+    let ends = s[..at].iter().filter(|&&b| b == b'\n').count();
+    Some(ends as u64 + 1)
 }
 
 // 30 and 31, of the whole file. Only 31 has a line: that of the first foreign byte.
@@ -109,6 +103,7 @@ fn in_range(w: WordLine) -> bool
 }
 
 // The questions of a word line in their order. Its address is to be at least `least`.
+#[tactic(auto, using(crate::proofs::Laws::word_at), unfolding(crate::specs::Words::read_word))]
 fn read_word(line: &[u8], least: u64) -> Result<WordLine, Question>
     ensures refusal { question_of result ≡ (read_word least (row_of 2 line.now)).question }
     ensures value { IfOk result (λ w. w ≡ word_of (row_of 2 line.now)) }
@@ -118,31 +113,30 @@ fn read_word(line: &[u8], least: u64) -> Result<WordLine, Question>
         address: fields[0].value,
         word: fields[1].value,
     };
-    Question::FieldCount.ask(count == WORD_FIELDS)?;
-    Question::FieldWidth.ask(all_wide(&fields))?;
-    Question::Range.ask(in_range(w))?;
-    Question::Order.ask(least <= w.address)?;
+    keep(count == WORD_FIELDS, Question::FieldCount)?;
+    keep(all_wide(&fields), Question::FieldWidth)?;
+    keep(in_range(w), Question::Range)?;
+    keep(least <= w.address, Question::Order)?;
     Ok(w)
 }
 
 // The word lines, from line 2 on, which begins at a position, and their words placed in memory. Where a line is refused, memory
-// is left free: no refused sheet is run. A position, and not the rest that `split_line` gives, since `words_refusal` names a line by
+// is left free: no refused sheet is run. A position, and not the rest of the text, since `words_refusal` names a line by
 // its position in the whole text.
 fn read_words(s: &[u8], start: usize, mem: &mut [u8]) -> Result<(), Refusal>
     requires { (length mem.old ≡ 65536) × (start ≤ length s.now) × (length s.now ≤ 65536) × (get_or s.now (length s.now - 1) 0 ≡ newline) × LineStart s.now start 2 }
     ensures refusal { refusal_of result ≡ words_refusal s.now start 0 (lines (drop start s.now)) }
     ensures mem_after { OnOk result (mem.new ≡ memory_of mem.old (words_of (lines (drop start s.now)))) }
 {
-    let mut left = rest(s, start);
-    // Counted by hand: a loop of `split_line` is no iterator to enumerate.
-    let mut lineno = 2;
     let mut least = 0;
-    while let Some((line, after)) = split_line(left) {
-        let w = read_word(line, least).map_err(|question| Refusal { question, lineno })?;
+    // Each line comes with its end, which is cut off.
+    for (line, lineno) in rest(s, start).split_inclusive(|&b| b == b'\n').zip(2..) {
+        let w = read_word(front(line, line.len() - 1), least).map_err(|question| Refusal {
+            question,
+            lineno,
+        })?;
         write(mem, w.address, 4, w.word);
         least = w.address + 1;
-        lineno += 1;
-        left = after;
     }
     Ok(())
 }

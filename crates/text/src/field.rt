@@ -20,8 +20,7 @@ pub fn line_at(s: &[u8], at: usize) -> &[u8]
     piece_at(s, at, b'\n')
 }
 
-// The field that begins at a position of a line, without its comma; an empty one past the line. It has no caller now, and stays for its
-// promise.
+// The field that begins at a position of a line, without its comma; an empty one past the line. It has no caller, and stays for its promise.
 pub fn field_at(line: &[u8], at: usize) -> &[u8]
     ensures { result.now ≡ get_or (fields (drop at line.now)) 0 [] }
 {

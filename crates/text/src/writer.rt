@@ -73,6 +73,5 @@ fn digit_byte(d: u64) -> u8
     requires { d < 16 }
     ensures { result ≡ digit_byte d }
 {
-    let b = d as u8;
-    if d < 10 { 48 + b } else { 87 + b }
+    b"0123456789abcdef"[d as usize]
 }

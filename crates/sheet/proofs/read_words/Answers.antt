@@ -1,21 +1,36 @@
 -- A line is refused, or its word is placed and the next line begins past its end.
-use Rattle.std.proofs.Common.{◌≡◌, ◌+◌, length, refl, sym, ap, ◌∙◌, arith, rules}
-use Rattle.text.specs.Split.{lines, row_of}
+use Rattle.std.proofs.Common.{◌≡◌, ◌+◌, length, drop, refl, sym, ap, ◌∙◌, ⊎_elim, arith, rules}
+use borrow.Author.Tests.{tests}
+use Rattle.std.proofs.lemmas.Fn.{always_returns_same}
+use Rattle.text.specs.Scan.{is, newline}
+use Rattle.text.specs.Split.{FirstLine, lines, row_of}
 use Rattle.text.proofs.LineNumbers.{number_le}
 use Rattle.setup.specs.Question.{question_of}
 use Rattle.sheet.specs.Words.{word_of, words_of, read_word, memory_of}
 use Rattle.sheet.specs.Sheet.{refusal, words_refusal}
 use Rattle.sheet.proofs.Naming.{named, named_err, named_ok, handed_on}
-use Rattle.sheet.proofs.Laws.{read_is, word_fits, left_on, left_shorter, refusal_on, refusal_stop, refusal_off, memory_on, memory_off}
+use Rattle.sheet.proofs.Laws.{LeftAt, line_cut, read_is, word_fits, left_on, refusal_on, refusal_stop, refusal_off, memory_on, memory_off, none_left}
 use Rattle.sheet.proofs.read_words.Goals as goal
 
 pub returns-in_err-w-clause-refusal : goal.returns-in_err-w-clause-refusal
 returns-in_err-w-clause-refusal c =
     let l = c.loop-line in
+    let s = c.args.s.now in
+    let all = l.line-iterator.a.rest.now in
+    let line = c.front.result.now in
+    let after = c.next.new.self.a.rest.now in
+    let lineno = c.in-Some.lineno in
+    let steps = c.in-Some.ensures.steps in
+    let left : LeftAt s all l.invariant.1.0 lineno = rw steps.1.0 l.invariant.1.1 in
+    let first : FirstLine all line after =
+    rw c.front.ensures
+    (line_cut s all c.in-Some.line.now after l.invariant.1.0 lineno steps.0.1.0 left c.requires.3 steps.0.0 steps.0.1.1
+    (steps.0.1.2 (is newline) (always_returns_same _ (λ a r. r ≡ is newline a.0.now) l.line-iterator.a.pred (λ a r q k. search (rules, tests)))).1
+    steps.0.2) in
     let r = c.read_word in
-    let name = named r.result c.map_err.result l.lineno _ c.map_err.ensures.cases (λ q e k. search rules) in
-    let no = named_err r.result c.map_err.result l.lineno c.in_err-w.field-0.0 name c.in_err-w.was in
-    let stop = refusal_stop c.args.s.now l.left.now c.in-Some.line.now c.in-Some.after.now l.invariant.1.0 l.lineno l.invariant.1.1 c.in-Some.ensures l.least (question_of r.result) r.ensures.refusal no.2 in
+    let name = named r.result c.map_err.result lineno _ c.map_err.ensures.cases (λ q e k. search rules) in
+    let no = named_err r.result c.map_err.result lineno c.in_err-w.field-0.0 name c.in_err-w.was in
+    let stop = refusal_stop s all line after l.invariant.1.0 lineno left first l.least (question_of r.result) r.ensures.refusal no.2 in
     handed_on c.from_residual.result c.in_err-w.field-0.0 c.from_residual.ensures.1
     ∙ ap (λ q. refusal q c.in_err-w.field-0.0.lineno) no.0
     ∙ ap (refusal (question_of r.result)) no.1
@@ -26,9 +41,9 @@ pub write-requires : goal.write-requires
 write-requires c =
     let l = c.loop-line in
     let r = c.read_word in
-    let row = row_of 2 c.in-Some.line.now in
-    let name = named r.result c.map_err.result l.lineno _ c.map_err.ensures.cases (λ q e k. search rules) in
-    let ok = named_ok r.result c.map_err.result l.lineno c.in_ok-w.w name c.in_ok-w.was in
+    let row = row_of 2 c.front.result.now in
+    let name = named r.result c.map_err.result c.in-Some.lineno _ c.map_err.ensures.cases (λ q e k. search rules) in
+    let ok = named_ok r.result c.map_err.result c.in-Some.lineno c.in_ok-w.w name c.in_ok-w.was in
     let passed : (read_word l.least row).question ≡ 0 = sym r.ensures.refusal ∙ ok.0 in
     let word : c.in_ok-w.w ≡ word_of row = ok.1 (λ w. w ≡ word_of row) r.ensures.value in
     (refl, omega (arith, l.invariant.0, word_fits l.least row passed, (read_is l.least row).0, ap (λ w. w.address) word))
@@ -37,64 +52,72 @@ pub overflow_add-least : goal.overflow_add-least
 overflow_add-least c =
     let l = c.loop-line in
     let r = c.read_word in
-    let row = row_of 2 c.in-Some.line.now in
-    let name = named r.result c.map_err.result l.lineno _ c.map_err.ensures.cases (λ q e k. search rules) in
-    let ok = named_ok r.result c.map_err.result l.lineno c.in_ok-w.w name c.in_ok-w.was in
+    let row = row_of 2 c.front.result.now in
+    let name = named r.result c.map_err.result c.in-Some.lineno _ c.map_err.ensures.cases (λ q e k. search rules) in
+    let ok = named_ok r.result c.map_err.result c.in-Some.lineno c.in_ok-w.w name c.in_ok-w.was in
     let passed : (read_word l.least row).question ≡ 0 = sym r.ensures.refusal ∙ ok.0 in
     let word : c.in_ok-w.w ≡ word_of row = ok.1 (λ w. w ≡ word_of row) r.ensures.value in
     omega (arith, word_fits l.least row passed, (read_is l.least row).0, ap (λ w. w.address) word)
 
-pub overflow_add-lineno : goal.overflow_add-lineno
-overflow_add-lineno c =
-    let left = c.loop-line.invariant.1 in
-    omega (arith, left.1.inside, left.1.start.counted, number_le c.args.s.now left.0)
-
 pub loop-line-preserved : goal.loop-line-preserved
 loop-line-preserved c =
     let l = c.loop-line in
+    let s = c.args.s.now in
+    let all = l.line-iterator.a.rest.now in
+    let line = c.front.result.now in
+    let after = c.next.new.self.a.rest.now in
+    let at = l.invariant.1.0 in
+    let lineno = c.in-Some.lineno in
+    let steps = c.in-Some.ensures.steps in
+    let left : LeftAt s all at lineno = rw steps.1.0 l.invariant.1.1 in
+    let first : FirstLine all line after =
+    rw c.front.ensures
+    (line_cut s all c.in-Some.line.now after at lineno steps.0.1.0 left c.requires.3 steps.0.0 steps.0.1.1
+    (steps.0.1.2 (is newline) (always_returns_same _ (λ a r. r ≡ is newline a.0.now) l.line-iterator.a.pred (λ a r q k. search (rules, tests)))).1
+    steps.0.2) in
     let r = c.read_word in
-    let row = row_of 2 c.in-Some.line.now in
-    let name = named r.result c.map_err.result l.lineno _ c.map_err.ensures.cases (λ q e k. search rules) in
-    let ok = named_ok r.result c.map_err.result l.lineno c.in_ok-w.w name c.in_ok-w.was in
+    let row = row_of 2 line in
+    let name = named r.result c.map_err.result lineno _ c.map_err.ensures.cases (λ q e k. search rules) in
+    let ok = named_ok r.result c.map_err.result lineno c.in_ok-w.w name c.in_ok-w.was in
     let passed : (read_word l.least row).question ≡ 0 = sym r.ensures.refusal ∙ ok.0 in
     let word : c.in_ok-w.w ≡ word_of row = ok.1 (λ w. w ≡ word_of row) r.ensures.value in
-    let s = c.args.s.now in
-    let line = c.in-Some.line.now in
-    let after = c.in-Some.after.now in
-    let at = l.invariant.1.0 in
-    let left = l.invariant.1.1 in
-    let first = c.in-Some.ensures in
-    let on = refusal_on s l.left.now line after at l.lineno left first l.least c.in_ok-w.w.address passed (ap (λ w. w.address) word) in
-    let placed = memory_on s l.left.now line after at l.lineno left first l.mem _ c.in_ok-w.w word c.write.ensures in (
-      search rules,
-      (at + length line + 1, left_on s l.left.now line after at l.lineno left first c.requires.3, on ∙ l.invariant.1.2, placed ∙ l.invariant.1.3),
-    )
-
-pub loop-line-smaller : goal.loop-line-smaller
-loop-line-smaller c =
-    let l = c.loop-line in
-    left_shorter c.args.s.now l.left.now c.in-Some.line.now c.in-Some.after.now l.invariant.1.0 l.lineno l.invariant.1.1 c.in-Some.ensures
+    let next : LeftAt s after (at + length line + 1) c.next.new.self.b.start = rw steps.1.1 (left_on s all line after at lineno left first c.requires.3) in
+    let on = refusal_on s all line after at lineno left first l.least c.in_ok-w.w.address passed (ap (λ w. w.address) word) in
+    let placed = memory_on s all line after at lineno left first l.mem _ c.in_ok-w.w word c.write.ensures in
+    (search rules, (at + length line + 1, next, on ∙ l.invariant.1.2, placed ∙ l.invariant.1.3))
 
 pub loop-line-init : goal.loop-line-init
 loop-line-init c =
     let s = c.args.s.now in
     let start = c.args.start in
-    let is = c.rest-left.ensures.0 in (
+    let gives = c.into_iter-line-iterator.ensures.into_iter_gives in
+    let is : c.into_iter-line-iterator.result.a.rest.now ≡ drop start s =
+    ap (λ z. z.a.rest.now) gives ∙ ap (λ a. a.rest.now) c.zip-line-items.ensures.first ∙ c.split_inclusive.ensures.rest ∙ c.rest.ensures.0 in
+    let two : c.into_iter-line-iterator.result.b.start ≡ 2 = ap (λ z. z.b.start) gives ∙ ap (λ b. b.start) c.zip-line-items.ensures.second in (
       c.requires.0,
       (
         start,
-        record { is = is; inside = c.requires.1; start = c.requires.4 },
+        rw two (record { is = is; inside = c.requires.1; start = c.requires.4 }),
         ap (λ t. words_refusal s start 0 (lines t)) is,
         ap (λ t. memory_of c.args.mem.now (words_of (lines t))) is,
       ),
     )
 
+-- no line is left: the numbers do not end
 pub returns-clause-refusal : goal.returns-clause-refusal
 returns-clause-refusal c =
     let l = c.loop-line in
-    sym (refusal_off c.args.s.now l.left.now l.invariant.1.0 l.least c.in_default.ensures) ∙ l.invariant.1.2
+    let at = l.invariant.1.0 in
+    let left = l.invariant.1.1 in
+    let none : length l.line-iterator.a.rest.now ≡ 0 =
+    ⊎_elim (λ a. a.1.0) (λ b. absurd (omega (arith, b.1.0, left.inside, left.start.counted, number_le c.args.s.now at, c.requires.2))) c.in-None.ensures.steps in
+    sym (refusal_off c.args.s.now l.line-iterator.a.rest.now at l.least (none_left l.line-iterator.a.rest.now none)) ∙ l.invariant.1.2
 
 pub returns-clause-mem_after : goal.returns-clause-mem_after
 returns-clause-mem_after c =
     let l = c.loop-line in
-    sym (memory_off l.left.now l.mem c.in_default.ensures) ∙ l.invariant.1.3
+    let at = l.invariant.1.0 in
+    let left = l.invariant.1.1 in
+    let none : length l.line-iterator.a.rest.now ≡ 0 =
+    ⊎_elim (λ a. a.1.0) (λ b. absurd (omega (arith, b.1.0, left.inside, left.start.counted, number_le c.args.s.now at, c.requires.2))) c.in-None.ensures.steps in
+    sym (memory_off l.line-iterator.a.rest.now l.mem (none_left l.line-iterator.a.rest.now none)) ∙ l.invariant.1.3
