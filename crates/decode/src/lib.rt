@@ -8,9 +8,8 @@ ghost use Rattle.instructions.specs.Decode.{decode_jalr, decode_shift, decode_im
 pub mod word;
 
 use crate::word::Word;
-use instructions::code::Coded;
+use instructions::hfi_table::fields_named;
 use instructions::instruction::{EXPLICIT_REGIONS, Instruction};
-use instructions::kind::HfiKind;
 use instructions::opcode;
 use words::{bits, put};
 
@@ -103,9 +102,11 @@ fn decode_hfi(w: Word) -> Option<Instruction>
     ensures { result ≡ decode_hfi w.fields }
 {
     let f = w.fields;
-    let k = HfiKind::of_code(f.funct7)?;
-    let named = k.fields_named(f.rd, f.rs1, f.rs2);
-    (f.funct3 == 0 && named).then_some(Instruction::Hfi(k, f.rd, f.rs1, f.rs2))
+    if f.funct3 == 0 && fields_named(f.funct7, f.rd, f.rs1, f.rs2) {
+        listing::hfi(f.funct7, f.rd, f.rs1, f.rs2)
+    } else {
+        None
+    }
 }
 
 fn decode_fields(w: Word) -> Option<Instruction>

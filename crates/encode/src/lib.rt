@@ -14,6 +14,7 @@ use crate::format::{
 use crate::h_word::{h_word_in_range, other_field, rs1_field};
 use instructions::code::Coded;
 use instructions::fields::Fields;
+use instructions::hfi_table::fields_named;
 use instructions::instruction::Instruction;
 use instructions::opcode::{
     BRANCH, H_LOAD, H_STORE, HFI, JAL, JALR, LOAD, OP, OP_32, OP_IMM, OP_IMM_32, STORE, SYSTEM,
@@ -61,7 +62,7 @@ fn in_range(i: Instruction) -> bool
         Instruction::Hfi(k, rd, rs1, rs2) => two_registers(
             rd,
             rs1,
-            rs2 < 32 && k.fields_named(rd, rs1, rs2),
+            rs2 < 32 && fields_named(k.code(), rd, rs1, rs2),
         ),
     }
 }

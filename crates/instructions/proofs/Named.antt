@@ -3,7 +3,7 @@
 use mathlib.Core.Path.{◌≡◌, refl, sym, ap, ◌∙◌}
 use mathlib.Core.Bool.{Bool, true, false, cond, not, ◌&&◌, ◌||◌}
 use mathlib.Core.List.{List, [], ◌∷◌}
-use Prim.Native.Nat.{ℕ, zero, suc, ◌+◌, ◌<◌}
+use Prim.Native.Nat.{ℕ, zero, suc, ◌+◌, ◌<◌, ◌≤◌}
 use native.Mathlib.Nat.{add-zero, zero-add, add-suc, suc-add, le_of_suc-le-suc, not-suc-le-zero}
 use lib.Dec.{eqb}
 use lib.ListN.{length, get_or}
@@ -13,11 +13,15 @@ use Rattle.instructions.specs.Decode.{named_at}
 use Rattle.instructions.specs.declared.kind.HfiKind.{HfiKind}
 use Rattle.instructions.specs.declared.hfi_table.Named.{Named}
 use Rattle.instructions.proofs.Tests.{and_both}
-use Rattle.instructions.proofs.Tables.{made_of, code_told, hfi_code_lem}
+use Rattle.instructions.proofs.Tables.{made_of, code_told, code_past, hfi_code_lem}
 
 -- a kind's own row
 pub named_row : (k : HfiKind) (rd rs1 rs2 : ℕ) → named_at (hfi_code k) rd rs1 rs2 ≡ named (hfi_row k) rd rs1 rs2
 named_row k rd rs1 rs2 = made_of (hfi_code_lem k) (λ (j : HfiKind). named (hfi_row j) rd rs1 rs2) false
+
+-- past the table
+pub named_past : (n rd rs1 rs2 : ℕ) → 13 ≤ n → named_at n rd rs1 rs2 ≡ false
+named_past n rd rs1 rs2 h = code_past hfi_code (λ (k : HfiKind). named (hfi_row k) rd rs1 rs2) false hfi_kinds 13 n refl h
 
 -- ---- one check over all rows
 

@@ -1,11 +1,12 @@
 -- Laws of tables: what holds of each row holds of what is found, and each kind is found under its code.
 -- Assumes nothing.
 use mathlib.Core.Path.{◌≡◌, refl, ap, ◌∙◌}
-use mathlib.Core.Bool.{Bool, true, false, cond}
+use mathlib.Core.Bool.{Bool, true, false, cond, ◌&&◌}
 use mathlib.Core.List.{List, [], ◌∷◌}
-use Prim.Native.Nat.{ℕ}
-use lib.Dec.{eqb}
-use borrow.Author.Tests.{eqb-true}
+use Prim.Native.Nat.{ℕ, ◌≤◌}
+use native.Mathlib.Omega.{arith}
+use lib.Dec.{eqb, ltb}
+use borrow.Author.Tests.{eqb-true, ltb-true, ne_eqb}
 use Rattle.std.proofs.Common.{Option, Some, None, rules}
 use Rattle.std.proofs.lemmas.Option.{none-some, same_Some}
 use Rattle.words.specs.Word.{field}
@@ -24,6 +25,7 @@ use Rattle.instructions.specs.declared.kind.RegisterKind.{RegisterKind}
 use Rattle.instructions.specs.declared.kind.RegisterWordKind.{RegisterWordKind}
 use Rattle.instructions.specs.declared.kind.SystemKind.{SystemKind}
 use Rattle.instructions.specs.declared.kind.HfiKind.{HfiKind}
+use Rattle.instructions.proofs.Tests.{and_both}
 
 -- ---- what is found
 
@@ -54,6 +56,11 @@ code_ind P code make none [] n p h = p
 code_ind P code make none (k ∷ ks) n p h =
     cond_ind P (eqb n (code k)) (λ e. h k (eqb-true n (code k) e)) (code_ind P code make none ks n p h)
 
+-- each code is below a bound
+abbrev pub below : {K : Type 0} → (K → ℕ) → ℕ → List K → Bool
+below code bound [] = true
+below code bound (k ∷ ks) = ltb (code k) bound && below code bound ks
+
 -- what is made of the kind that is found is y, where a test tells so and the kind that is found passes it
 pub code_told : {K X : Type 0} (code : K → ℕ) (test : K → Bool) (make : K → X) (none y : X) (ks : List K) (n : ℕ)
     → of_code code test false ks n ≡ true → ((k : K) → test k ≡ true → make k ≡ y) → of_code code make none ks n ≡ y
@@ -64,6 +71,15 @@ code_told code test make none y (k ∷ ks) n t h = go (eqb n (code k)) t (λ u. 
         → (of_code code test false ks n ≡ true → of_code code make none ks n ≡ y) → cond b (make k) (of_code code make none ks n) ≡ y
     go true t f = h k t
     go false t f = f t
+
+-- under a number past every code there is none
+pub code_past : {K X : Type 0} (code : K → ℕ) (make : K → X) (none : X) (ks : List K) (bound n : ℕ)
+    → below code bound ks ≡ true → bound ≤ n → of_code code make none ks n ≡ none
+code_past code make none [] bound n t h = refl
+code_past code make none (k ∷ ks) bound n t h =
+    let p = and_both (ltb (code k) bound) (below code bound ks) t in
+    let l = ltb-true (code k) bound p.0 in
+    rw (ne_eqb n (code k) (λ e. omega arith)) (code_past code make none ks bound n p.1 h)
 
 -- ---- each kind's code fits its field, and finds the kind
 

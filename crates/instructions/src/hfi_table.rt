@@ -1,9 +1,7 @@
-// Document 01's table of opcode 5b: which register fields each row names.
+// Document 01's table of opcode 5b: which register fields each row names. Rows by number and no match by kind, since the document asks for "a constant
+// table by funct7 .. checked once over all rows".
 ghost use Rattle.std.specs.Prelude.{◌≡◌};
-ghost use Rattle.instructions.specs.Kinds.{hfi_row, hfi_code};
 ghost use Rattle.instructions.specs.Decode.{named_at};
-
-use crate::kind::HfiKind;
 
 // Which register fields a row names: these may be non-zero.
 #[derive(Clone, Copy)]
@@ -25,35 +23,28 @@ const RS1: Named = Named { rs1: true, ..NONE };
 
 const RS1_AND_RS2: Named = Named { rs2: true, ..RS1 };
 
-impl HfiKind {
-    fn named(self) -> Named
-        ensures rd { result.rd ≡ (hfi_row self).rd }
-        ensures rs1 { result.rs1 ≡ (hfi_row self).rs1 }
-        ensures rs2 { result.rs2 ≡ (hfi_row self).rs2 }
-    {
-        match self {
-            HfiKind::Enter => RS1,
-            HfiKind::EnterJump => RS1_AND_RS2,
-            HfiKind::Exit => NONE,
-            HfiKind::SelectRegion => RS1,
-            HfiKind::SetBase => RS1,
-            HfiKind::GetBase => RD,
-            HfiKind::SetBound => RS1,
-            HfiKind::GetBound => RD,
-            HfiKind::SetPermission => RS1,
-            HfiKind::GetPermission => RD,
-            HfiKind::SetHandler => RS1,
-            HfiKind::GetHandler => RD,
-            HfiKind::ResetRegions => NONE,
-        }
-    }
+// By funct7.
+const NAMED: [Named; 13] = [
+    RS1, // 0 enter
+    RS1_AND_RS2, // 1 enter with jump
+    NONE, // 2 exit
+    RS1, // 3 select region
+    RS1, // 4 set base
+    RD, // 5 get base
+    RS1, // 6 set bound
+    RD, // 7 get bound
+    RS1, // 8 set permission
+    RD, // 9 get permission
+    RS1, // 10 set handler
+    RD, // 11 get handler
+    NONE, // 12 reset regions
+];
 
-    // Does the row name every register field that is not zero?
-    #[tactic(auto, using(crate::proofs::Named::named_row))]
-    pub fn fields_named(self, rd: u64, rs1: u64, rs2: u64) -> bool
-        ensures { result ≡ named_at (hfi_code self) rd rs1 rs2 }
-    {
-        let may = self.named();
+// Does the row with this funct7 name every register field that is not zero? Without a row nothing is named.
+pub fn fields_named(funct7: u64, rd: u64, rs1: u64, rs2: u64) -> bool
+    ensures { result ≡ named_at funct7 rd rs1 rs2 }
+{
+    NAMED.get(funct7 as usize).is_some_and(|may| {
         (may.rd || rd == 0) && (may.rs1 || rs1 == 0) && (may.rs2 || rs2 == 0)
-    }
+    })
 }
