@@ -11,6 +11,7 @@ use lib.Pow.{pow_pos, pow_mono}
 use borrow.Author.Tests.{lt-ltb, eq-eqb}
 use Rattle.std.proofs.Common.{Some}
 use Rattle.std.proofs.lemmas.Option.{none-some, same_Some}
+use Rattle.std.proofs.lemmas.Bool.{and_from}
 use Rattle.words.specs.Word.{field, sext, fits_signed, width}
 use Rattle.words.proofs.Fields.{field_lt, Fit, Are, lay_lt, lay_read}
 use Rattle.words.proofs.Extend.{sext_field, low_fits, sext_wider}
@@ -19,7 +20,7 @@ use Rattle.instructions.specs.Fields.{word_of}
 use Rattle.instructions.specs.declared.instruction.Instruction.{Instruction}
 use Rattle.instructions.specs.Decode.{decode_word}
 use Rattle.instructions.proofs.RoundTrip.{decode_of_encode}
-use Rattle.instructions.proofs.Tests.{and_of, two_of}
+use Rattle.instructions.proofs.Tests.{two_of}
 use Rattle.compressed.specs.Immediates.{rd, rs2, short, Scattered, pieces_at, pieces, zero_extended, sign_extended, addi4spn, word_offset, double_offset, six_bits, addi16sp, upper, jump_offset, branch_offset, word_from_stack, double_from_stack, word_to_stack, double_to_stack}
 use Rattle.compressed.specs.Table.{Line, takes, table}
 use Rattle.compressed.specs.Expand.{expand_by, expand_half}
@@ -63,7 +64,7 @@ module _ (h : ℕ) where
         let y = sign_extended h s in
         let w : width (pieces h s) ≤ 64 = omega arith in
         let a = lay_read y (pieces h s) fit (sext_field (width (pieces h s)) (zero_extended h s) w bits_lt) in
-        and_of (sign_fits n p l u) (eq-eqb _ 0 (low_zero y s.places s.low a))
+        and_from _ _ (sign_fits n p l u) (eq-eqb _ 0 (low_zero y s.places s.low a))
 
   amount_fits : ltb (zero_extended h six_bits) 64 ≡ true
   amount_fits = lt-ltb (zero_extended h six_bits) 64 (bits_lt six_bits)
@@ -112,7 +113,7 @@ lines_ranged = (
                   (
                     (λ h. two_of x2_lt x2_lt (sign_fits h addi16sp 12 (lit< tt) (lit≤ tt) (lit≤ tt))),
                     (
-                      (λ h. and_of (lt-ltb (rd h) 32 (rd_lt h)) (sign_multiple h upper 32 (lit< tt) (lit≤ tt) (lit≤ tt))),
+                      (λ h. and_from _ _ (lt-ltb (rd h) 32 (rd_lt h)) (sign_multiple h upper 32 (lit< tt) (lit≤ tt) (lit≤ tt))),
                       (
                         (λ h. two_of (short_lt h 7) (short_lt h 7) (amount_fits h)),
                         (
@@ -132,7 +133,7 @@ lines_ranged = (
                                       (
                                         (λ h. three (short_lt h 7) (short_lt h 7) (short_lt h 2)),
                                         (
-                                          (λ h. and_of (lt-ltb 0 32 x0_lt) (sign_multiple h jump_offset 21 (lit< tt) (lit≤ tt) (lit≤ tt))),
+                                          (λ h. and_from _ _ (lt-ltb 0 32 x0_lt) (sign_multiple h jump_offset 21 (lit< tt) (lit≤ tt) (lit≤ tt))),
                                           (
                                             (λ h. two_of (short_lt h 7) x0_lt (sign_multiple h branch_offset 13 (lit< tt) (lit≤ tt) (lit≤ tt))),
                                             (

@@ -9,12 +9,12 @@ use lib.Dec.{eqb}
 use borrow.Author.Tests.{eqb-true, eq-eqb, ne_eqb}
 use Rattle.std.proofs.Common.{Option, Some, None}
 use Rattle.std.proofs.lemmas.Option.{none-some}
+use Rattle.std.proofs.lemmas.Bool.{and_parts}
 use Rattle.words.specs.Word.{field}
 use Rattle.instructions.specs.Table.{lookup}
 use Rattle.instructions.specs.Fields.{fields_of}
 use Rattle.instructions.specs.Decode.{groups, decode_word}
 use Rattle.instructions.specs.declared.instruction.Instruction.{Instruction}
-use Rattle.instructions.proofs.Tests.{and_both}
 use Rattle.instructions.proofs.Tables.{cond_ind}
 use Rattle.compressed.specs.Expand.{expand_half, is_long}
 
@@ -34,7 +34,7 @@ ends_in_ones (r ∷ rs) = eqb (field r.0 0 2) 3 && ends_in_ones rs
 found_low : (rs : List (ℕ × Option Instruction)) (n : ℕ) (i : Instruction) → ends_in_ones rs ≡ true → lookup None rs n ≡ Some i → field n 0 2 ≡ 3
 found_low [] n i t e = absurd (none-some i e)
 found_low (r ∷ rs) n i t e =
-    let p = and_both (eqb (field r.0 0 2) 3) (ends_in_ones rs) t in
+    let p = and_parts (eqb (field r.0 0 2) 3) (ends_in_ones rs) t in
     cond_ind (λ (d : Option Instruction). d ≡ Some i → field n 0 2 ≡ 3) (eqb n r.0)
     (λ u q. ap (λ (k : ℕ). field k 0 2) (eqb-true n r.0 u) ∙ eqb-true _ 3 p.0)
     (found_low rs n i p.1)

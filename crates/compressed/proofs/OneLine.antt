@@ -8,9 +8,9 @@ use lib.Dec.{eqb}
 use borrow.Author.Tests.{eqb-true, eqb-false, eq-eqb, not-true}
 use Rattle.std.proofs.Common.{Some}
 use Rattle.std.proofs.lemmas.Option.{none-some, same_Some}
+use Rattle.std.proofs.lemmas.Bool.{and_from, and_parts}
 use Rattle.words.specs.Word.{field}
 use Rattle.instructions.specs.declared.instruction.Instruction.{Instruction}
-use Rattle.instructions.proofs.Tests.{and_both, and_of}
 use Rattle.compressed.specs.Table.{Bits, matches, matches_one, Line, takes, table}
 use Rattle.compressed.specs.Expand.{expand_by, expand_half}
 
@@ -69,22 +69,22 @@ asked : {P : Type 0} (h : ℕ) (t : Bits → Bool) → ((c : Bits) → t c ≡ t
     → (q : List Bits) → matches h q ≡ true → some t q ≡ true → P
 asked h t f [] m e = absurd (false≢true e)
 asked h t f (c ∷ q) m e =
-    let p = and_both (eqb (field h c.at c.count) c.value) (matches h q) m in
+    let p = and_parts (eqb (field h c.at c.count) c.value) (matches h q) m in
     or_ind (t c) (some t q) (λ u. f c u (eqb-true _ _ p.0)) (asked h t f q p.1) e
 
 same_field_lem : (h : ℕ) (b c : Bits) → same_field b c ≡ true → field h b.at b.count ≡ field h c.at c.count
 same_field_lem h b c e =
-    let p = and_both (eqb b.at c.at) (eqb b.count c.count) e in
+    let p = and_parts (eqb b.at c.at) (eqb b.count c.count) e in
     rw (eqb-true b.at c.at p.0, eqb-true b.count c.count p.1) refl
 
 agreed : (h : ℕ) (b c : Bits) → agree b c ≡ true → Has h c → Has h b
 agreed h b c e g =
-    let p = and_both (same_field b c) (eqb b.value c.value) e in
+    let p = and_parts (same_field b c) (eqb b.value c.value) e in
     same_field_lem h b c p.0 ∙ g ∙ sym (eqb-true b.value c.value p.1)
 
 disagreed : (h : ℕ) (b c : Bits) → disagree b c ≡ true → Has h c → Has h b → ⊥
 disagreed h b c e g f =
-    let p = and_both (same_field b c) (not (eqb b.value c.value)) e in
+    let p = and_parts (same_field b c) (not (eqb b.value c.value)) e in
     eqb-false b.value c.value (not-true _ p.1) (sym f ∙ same_field_lem h b c p.0 ∙ g)
 
 clashed : (h : ℕ) (p q : List Bits) → clash p q ≡ true → matches h p ≡ true → matches h q ≡ true → ⊥
@@ -93,8 +93,8 @@ clashed h p q e m n = asked h (λ b. some (disagree b) q) (λ b u g. asked h (di
 held : (h : ℕ) (p q : List Bits) → within p q ≡ true → matches h q ≡ true → matches h p ≡ true
 held h [] q e n = refl
 held h (b ∷ p) q e n =
-    let s = and_both (some (agree b) q) (within p q) e in
-    and_of (eq-eqb _ _ (asked h (agree b) (agreed h b) q n s.0)) (held h p q s.1 n)
+    let s = and_parts (some (agree b) q) (within p q) e in
+    and_from _ _ (eq-eqb _ _ (asked h (agree b) (agreed h b) q n s.0)) (held h p q s.1 n)
 
 left_out : (h : ℕ) (ps : List (List Bits)) (q : List Bits) → some (λ p. within p q) ps ≡ true → matches h q ≡ true → matches_one h ps ≡ true
 left_out h [] q e n = absurd (false≢true e)
@@ -110,7 +110,7 @@ left_out h (p ∷ ps) q e n =
 
 taken_both : (h : ℕ) (l : Line) → takes h l ≡ true → (matches h l.pattern ≡ true) × (matches_one h l.excluded ≡ false)
 taken_both h l e =
-    let p = and_both (matches h l.pattern) (not (matches_one h l.excluded)) e in
+    let p = and_parts (matches h l.pattern) (not (matches_one h l.excluded)) e in
     (p.0, not-true _ p.1)
 
 apart_lines : (h : ℕ) (l m : Line) → apart l m ≡ true → takes h l ≡ true → takes h m ≡ true → ⊥
@@ -134,13 +134,13 @@ At (m ∷ ms) (suc n) l = At ms n l
 
 each_at : (t : Line → Bool) (ls : List Line) (n : ℕ) (l : Line) → each t ls ≡ true → At ls n l → t l ≡ true
 each_at t [] n l e a = absurd a
-each_at t (m ∷ ms) zero l e a = ap t (sym a) ∙ (and_both (t m) (each t ms) e).0
-each_at t (m ∷ ms) (suc n) l e a = each_at t ms n l (and_both (t m) (each t ms) e).1 a
+each_at t (m ∷ ms) zero l e a = ap t (sym a) ∙ (and_parts (t m) (each t ms) e).0
+each_at t (m ∷ ms) (suc n) l e a = each_at t ms n l (and_parts (t m) (each t ms) e).1 a
 
 -- the first line and a later one
 first_other : (h : ℕ) (m : Line) (ms : List Line) (n : ℕ) (l : Line) → all_apart (m ∷ ms) ≡ true → At ms n l
     → takes h m ≡ true → takes h l ≡ true → ⊥
-first_other h m ms n l e a s t = apart_lines h m l (each_at (apart m) ms n l (and_both (each (apart m) ms) (all_apart ms) e).0 a) s t
+first_other h m ms n l e a s t = apart_lines h m l (each_at (apart m) ms n l (and_parts (each (apart m) ms) (all_apart ms) e).0 a) s t
 
 one_place : (h : ℕ) (ls : List Line) (m n : ℕ) (k l : Line) → all_apart ls ≡ true → At ls m k → At ls n l
     → takes h k ≡ true → takes h l ≡ true → m ≡ n
@@ -149,7 +149,7 @@ one_place h (x ∷ xs) zero zero k l e a b s t = refl
 one_place h (x ∷ xs) zero (suc n) k l e a b s t = absurd (first_other h x xs n l e b (ap (takes h) a ∙ s) t)
 one_place h (x ∷ xs) (suc m) zero k l e a b s t = absurd (first_other h x xs m k e a (ap (takes h) b ∙ t) s)
 one_place h (x ∷ xs) (suc m) (suc n) k l e a b s t =
-    ap suc (one_place h xs m n k l (and_both (each (apart x) xs) (all_apart xs) e).1 a b s t)
+    ap suc (one_place h xs m n k l (and_parts (each (apart x) xs) (all_apart xs) e).1 a b s t)
 
 -- two lines that take one half-word are one line of the table
 pub one_line : (h m n : ℕ) (k l : Line) → At table m k → At table n l → takes h k ≡ true → takes h l ≡ true → m ≡ n
@@ -182,7 +182,7 @@ by_legal : (ls : List Line) (h n : ℕ) (l : Line) → all_apart ls ≡ true →
 by_legal [] h n l e a t = absurd a
 by_legal (m ∷ ms) h zero l e a t = rw (sym a) (rw (ap (takes h) a ∙ t) refl)
 by_legal (m ∷ ms) h (suc n) l e a t =
-    go (takes h m) (λ s. first_other h m ms n l e a s t) (by_legal ms h n l (and_both (each (apart m) ms) (all_apart ms) e).1 a t)
+    go (takes h m) (λ s. first_other h m ms n l e a s t) (by_legal ms h n l (and_parts (each (apart m) ms) (all_apart ms) e).1 a t)
   where
     go : (b : Bool) → (b ≡ true → ⊥) → expand_by ms h ≡ Some (l.expansion h)
         → cond b (Some (m.expansion h)) (expand_by ms h) ≡ Some (l.expansion h)

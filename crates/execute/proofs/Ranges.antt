@@ -2,11 +2,12 @@
 -- is one of 12 bits.
 -- Assumes nothing.
 use Rattle.std.proofs.Common.{◌≡◌, ◌<◌, true, ltb, subst, ltb-true}
+use Rattle.std.proofs.lemmas.Bool.{and_parts}
 use Rattle.words.specs.Word.{fits_signed}
 use Rattle.instructions.specs.Encode.{in_range}
 use Rattle.instructions.specs.declared.instruction.Instruction.{Instruction}
 use Rattle.instructions.specs.declared.instruction.Instruction.TheVariants.{Upper, Jal, Jalr, Branch, Load, Store, Immediate, Shift, Addiw, ShiftWord, Register, RegisterWord, Fence, System, HLoad, HStore, Hfi}
-use Rattle.instructions.proofs.Tests.{and_both, two_all, h_word_two}
+use Rattle.instructions.proofs.Tests.{two_all, h_word_two}
 
 abbrev pub Below : Instruction → Type 0
 Below (Upper k rd imm) = rd < 32
@@ -28,8 +29,8 @@ Below (HStore k region rs1 rs2 imm) = (rs1 < 32) × (rs2 < 32) × (fits_signed 1
 Below (Hfi k rd rs1 rs2) = (rd < 32) × (rs1 < 32) × (rs2 < 32)
 
 registers : (i : Instruction) → in_range i ≡ true → Below i
-registers (Upper k rd imm) h = ltb-true rd 32 (and_both (ltb rd 32) _ h).0
-registers (Jal rd offset) h = ltb-true rd 32 (and_both (ltb rd 32) _ h).0
+registers (Upper k rd imm) h = ltb-true rd 32 (and_parts (ltb rd 32) _ h).0
+registers (Jal rd offset) h = ltb-true rd 32 (and_parts (ltb rd 32) _ h).0
 registers (Jalr rd rs1 imm) h = let t = two_all rd rs1 _ h in (t.0, t.1)
 registers (Branch k rs1 rs2 offset) h = let t = two_all rs1 rs2 _ h in (t.0, t.1)
 registers (Load k rd rs1 imm) h = let t = two_all rd rs1 _ h in (t.0, t.1)
@@ -46,7 +47,7 @@ registers (HLoad k region rd rs1 imm) h = two_all rd rs1 _ (h_word_two region rd
 registers (HStore k region rs1 rs2 imm) h = two_all rs1 rs2 _ (h_word_two region rs1 rs2 _ h)
 registers (Hfi k rd rs1 rs2) h =
     let t = two_all rd rs1 _ h in
-    (t.0, t.1, ltb-true rs2 32 (and_both (ltb rs2 32) _ t.2).0)
+    (t.0, t.1, ltb-true rs2 32 (and_parts (ltb rs2 32) _ t.2).0)
 
 -- of an instruction that is known
 pub below : {i j : Instruction} → i ≡ j → in_range i ≡ true → Below j

@@ -1,11 +1,10 @@
 -- The pieces of an immediate, one more at a time, are the immediate.
 -- Assumes nothing.
 use Rattle.std.proofs.Common.{◌≡◌, ℕ, ◌+◌, ◌*◌, ◌^◌, ◌<◌, ◌≤◌, List, [], ◌∷◌, length, drop, get_or, true, sym, ap, ◌∙◌, pow-add, pow_pos, mul_assoc, add-mul, arith}
-use Rattle.std.proofs.lemmas.Bool.{ltb-true}
+use Rattle.std.proofs.lemmas.Bool.{ltb-true, and_parts}
 use Rattle.std.proofs.lemmas.List.{drop_more, drop_all}
 use Rattle.std.proofs.Math.Nat.{mul-le-mul_left}
 use lib.Pow.{pow-lt}
-use Rattle.instructions.proofs.Tests.{and_both}
 use Rattle.words.specs.Word.{field, width, lay}
 use Rattle.words.proofs.Fields.{Fit, field_lt, lay_lt}
 use Rattle.compressed.specs.Immediates.{pieces_at}
@@ -14,8 +13,8 @@ use Rattle.expand.specs.Rows.{fit}
 pub fit_more : (ps : List (ℕ × ℕ)) (i : ℕ) → i < length ps → fit (drop i ps) ≡ true
     → (((get_or ps i (0, 0)).0 < 64) × ((get_or ps i (0, 0)).1 < 64)) × (fit (drop (i + 1) ps) ≡ true)
 fit_more ps i h e =
-    let parts = and_both _ _ (ap fit (sym (drop_more ps i (0, 0) h)) ∙ e) in
-    let bounds = and_both _ _ parts.0 in
+    let parts = and_parts _ _ (ap fit (sym (drop_more ps i (0, 0) h)) ∙ e) in
+    let bounds = and_parts _ _ parts.0 in
     ((ltb-true _ _ bounds.0, ltb-true _ _ bounds.1), parts.1)
 
 -- f put below x's pieces, w bits still to come

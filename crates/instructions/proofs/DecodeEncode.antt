@@ -7,6 +7,7 @@ use native.Mathlib.Omega.{arith}
 use lib.Dec.{eqb, lit<}
 use borrow.Author.Tests.{ltb-true, eq-eqb}
 use Rattle.std.proofs.Common.{Option, Some, None}
+use Rattle.std.proofs.lemmas.Bool.{and_from}
 use Rattle.words.specs.Word.{field}
 use Rattle.words.proofs.Fields.{field_lt, field_put, field_join}
 use Rattle.instructions.specs.InWord.{InWord}
@@ -29,7 +30,7 @@ use Rattle.instructions.specs.declared.kind.SystemKind.{SystemKind}
 use Rattle.instructions.specs.declared.kind.HfiKind.{HfiKind}
 use Rattle.instructions.specs.declared.instruction.Instruction.{Instruction}
 use Rattle.instructions.specs.declared.instruction.Instruction.TheVariants.{Upper, Jal, Jalr, Branch, Load, Store, Immediate, Shift, Addiw, ShiftWord, Register, RegisterWord, Fence, System, HLoad, HStore, Hfi}
-use Rattle.instructions.proofs.Tests.{and_of, one_all, two_all, amount_range, fence_range, h_load_range, h_store_range}
+use Rattle.instructions.proofs.Tests.{one_all, two_all, amount_range, fence_range, h_load_range, h_store_range}
 use Rattle.instructions.proofs.Named.{named_row}
 use Rattle.instructions.proofs.Tables.{made_of, found_with, upper_code_lem, branch_code_lem, load_code_lem, store_code_lem, immediate_code_lem, shift_code_lem, shift_word_code_lem, register_code_lem, register_word_code_lem, system_code_lem, hfi_code_lem, shift_apart, shift_word_apart}
 use Rattle.instructions.proofs.HWords.{rs1_read, other_read, region_read}
@@ -152,5 +153,5 @@ decode_encode (Hfi k rd rs1 rs2) h =
     let n = (one_all rs2 _ (two_all rd rs1 _ h).2).1 in
     let p = field_put 3 7 {q = 0} (hfi_code_lem k).small (lit< tt) in
     ap (λ (n : ℕ). provided (eqb f.funct3 0 && named_at n rd rs1 rs2) (hfi_at n rd rs1 rs2)) p.0
-    ∙ ap (λ (b : Bool). provided b (hfi_at (hfi_code k) rd rs1 rs2)) (and_of (eq-eqb _ 0 p.1) (named_row k rd rs1 rs2 ∙ n))
+    ∙ ap (λ (b : Bool). provided b (hfi_at (hfi_code k) rd rs1 rs2)) (and_from _ _ (eq-eqb _ 0 p.1) (named_row k rd rs1 rs2 ∙ n))
     ∙ made_of (hfi_code_lem k) (λ (j : HfiKind). Some (Hfi j rd rs1 rs2)) None

@@ -7,6 +7,7 @@ use Prim.Native.Nat.{ℕ}
 use lib.Dec.{eqb, ltb}
 use borrow.Author.Tests.{lt-ltb, eqb-true}
 use Rattle.std.proofs.Common.{Option, Some, None}
+use Rattle.std.proofs.lemmas.Bool.{and_from, and_parts}
 use Rattle.words.specs.Word.{field}
 use Rattle.words.proofs.Fields.{field_lt, field_cut, field_put, field_join}
 use Rattle.instructions.specs.InWord.{InWord}
@@ -29,7 +30,7 @@ use Rattle.instructions.specs.declared.kind.RegisterWordKind.{RegisterWordKind}
 use Rattle.instructions.specs.declared.kind.HfiKind.{HfiKind}
 use Rattle.instructions.specs.declared.instruction.Instruction.{Instruction}
 use Rattle.instructions.specs.declared.instruction.Instruction.TheVariants.{Jalr, Branch, Load, Store, Immediate, Shift, ShiftWord, Register, RegisterWord, Fence, System, HLoad, HStore, Hfi}
-use Rattle.instructions.proofs.Tests.{and_both, and_of, two_of}
+use Rattle.instructions.proofs.Tests.{two_of}
 use Rattle.instructions.proofs.Named.{named_row}
 use Rattle.instructions.proofs.Tables.{◌⊗◌, cond_ind, lookup_ind, code_ind}
 use Rattle.instructions.proofs.Formats.{i_bits_lt, r_back, i_bits_back, i_back, s_back, h_load_back, h_store_back, b_back, u_back, j_back}
@@ -109,7 +110,7 @@ module _ (f : Fields) (r : InWord f) where
       back_provided f (eqb f.funct3 0) (Some (Fence (field b 8 4) (field b 4 4) (field b 0 4) f.rs1 f.rd))
       (λ t. (
         i_bits_back f r o (eqb-true f.funct3 0 t) (field_join b 4 8 (i_bits_lt f r) (field_cut b 4 4 4) refl),
-        two_of r.rd r.rs1 (and_of (nibble 8) (and_of (nibble 4) (nibble 0))),
+        two_of r.rd r.rs1 (and_from _ _ (nibble 8) (and_from _ _ (nibble 4) (nibble 0))),
       ))
 
   back_system : f.opcode ≡ SYSTEM → Back f (decode_system f)
@@ -117,8 +118,8 @@ module _ (f : Fields) (r : InWord f) where
       back_provided f (eqb f.rd 0 && (eqb f.funct3 0 && eqb f.rs1 0))
       (system_at (i_bits f))
       (λ t.
-      let p = and_both (eqb f.rd 0) _ t in
-      let q = and_both (eqb f.funct3 0) _ p.1 in
+      let p = and_parts (eqb f.rd 0) _ t in
+      let q = and_parts (eqb f.funct3 0) _ p.1 in
       back_code f system_code System system_kinds (i_bits f)
       (λ k e. (
         ap₂ (λ (d a : ℕ). i_fields SYSTEM 0 d a (system_code k)) (sym (eqb-true f.rd 0 p.0)) (sym (eqb-true f.rs1 0 q.1))
@@ -142,13 +143,13 @@ module _ (f : Fields) (r : InWord f) where
   back_hfi o =
       back_provided f (eqb f.funct3 0 && named_at f.funct7 f.rd f.rs1 f.rs2) (hfi_at f.funct7 f.rd f.rs1 f.rs2)
       (λ t.
-      let p = and_both (eqb f.funct3 0) _ t in
+      let p = and_parts (eqb f.funct3 0) _ t in
       back_code f hfi_code (λ (k : HfiKind). Hfi k f.rd f.rs1 f.rs2) hfi_kinds f.funct7
       (λ k e.
       let b = r_back f r o (ap₂ functs e (eqb-true f.funct3 0 p.0)) in
       let n : named (hfi_row k) f.rd f.rs1 f.rs2 ≡ true =
       sym (named_row k f.rd f.rs1 f.rs2) ∙ ap (λ (n : ℕ). named_at n f.rd f.rs1 f.rs2) (sym e) ∙ p.1 in
-      (b.0, two_of r.rd r.rs1 (and_of (lt-ltb f.rs2 32 r.rs2) n))))
+      (b.0, two_of r.rd r.rs1 (and_from _ _ (lt-ltb f.rs2 32 r.rs2) n))))
 
   -- every group
   pub back : Back f (decode_fields f)

@@ -6,6 +6,7 @@ use Prim.Native.Nat.{ℕ, ◌^◌, ◌<◌}
 use native.Mathlib.Omega.{arith}
 use lib.Dec.{ltb, lit<, lit≤}
 use borrow.Author.Tests.{lt-ltb, eqb-true, eq-eqb}
+use Rattle.std.proofs.lemmas.Bool.{and_from, and_parts}
 use Rattle.words.specs.Word.{field, fits_signed, lay}
 use Rattle.words.proofs.Fields.{field_lt, field_all, field_cut, field_parts, field_put, field_join, Fit, lay_lt, lay_read, lay_write}
 use Rattle.words.proofs.Extend.{sext_field, sext_fits, fits_sext}
@@ -16,7 +17,7 @@ use Rattle.instructions.specs.HWords.{low_register, chosen_region, rs1_field, ot
 use Rattle.instructions.specs.Encode.{r_fields, i_fields, s_fields, b_fields, u_fields, j_fields, two, h_word, multiple}
 use Rattle.instructions.specs.declared.fields.Fields.{Fields}
 use Rattle.instructions.proofs.Words.{same}
-use Rattle.instructions.proofs.Tests.{and_both, and_of, one_all, two_all, two_of, h_word_all, h_word_of}
+use Rattle.instructions.proofs.Tests.{one_all, two_all, two_of, h_word_all, h_word_of}
 use Rattle.instructions.proofs.HWords.{chosen_explicit, rs1_back, other_back, low_register_lt, rs1_field_lt, other_field_lt}
 
 -- ---- the fields of each format are in their places
@@ -90,7 +91,7 @@ s_read o n a b x h = fits_sext 12 x (field_cut x 0 5 7) h
 
 -- the low bits of a multiple
 low : (k n x : ℕ) → multiple k n x ≡ true → field x 0 n ≡ 0
-low k n x h = eqb-true _ 0 (and_both (fits_signed k x) _ h).1
+low k n x h = eqb-true _ 0 (and_parts (fits_signed k x) _ h).1
 
 pub b_read : (o n a b x : ℕ) → multiple 13 1 x ≡ true → b_immediate (b_fields o n a b x) ≡ x
 b_read o n a b x h =
@@ -98,12 +99,12 @@ b_read o n a b x h =
     let d = field_put 1 4 (field_lt x 1 4) (field_lt x 11 1) in
     fits_sext 13 x
     (lay_write x (b_pieces (b_fields o n a b x)) (sym s.0, (sym d.1, (sym s.1, (sym d.0, (low 13 1 x h, tt))))))
-    (and_both (fits_signed 13 x) _ h).0
+    (and_parts (fits_signed 13 x) _ h).0
 
 pub u_read : (o d x : ℕ) → multiple 32 12 x ≡ true → u_immediate (u_fields o d x) ≡ x
 u_read o d x h =
     fits_sext 32 x (lay_write x (u_pieces (u_fields o d x)) (refl, (refl, (refl, (refl, (low 32 12 x h, tt))))))
-    (and_both (fits_signed 32 x) _ h).0
+    (and_parts (fits_signed 32 x) _ h).0
 
 pub j_read : (o d x : ℕ) → multiple 21 1 x ≡ true → j_immediate (j_fields o d x) ≡ x
 j_read o d x h =
@@ -112,7 +113,7 @@ j_read o d x h =
     fits_sext 21 x
     (lay_write x (j_pieces (j_fields o d x))
     (sym s.0, (refl, (refl, (sym b.1, (sym s.1, (sym b.0, (low 21 1 x h, tt))))))))
-    (and_both (fits_signed 21 x) _ h).0
+    (and_parts (fits_signed 21 x) _ h).0
 
 -- ---- what is read out of the fields puts them back, and is in range
 
@@ -179,7 +180,7 @@ module _ (f : Fields) (r : InWord f) {o : ℕ} (op : f.opcode ≡ o) where
       let w = lay_read (b_immediate f) (b_pieces f) (b_fit f r) (sext_field 13 (lay (b_pieces f)) (lit≤ tt) l) in (
         same (sym op) (field_join f.rd 1 4 r.rd w.1.1.1.0 w.1.0) (sym e) refl refl
             (field_join f.funct7 6 1 r.funct7 w.0 w.1.1.0),
-        two_of r.rs1 r.rs2 (and_of (sext_fits 13 (lay (b_pieces f)) (lit≤ tt) l) (eq-eqb _ 0 w.1.1.1.1.0)),
+        two_of r.rs1 r.rs2 (and_from _ _ (sext_fits 13 (lay (b_pieces f)) (lit≤ tt) l) (eq-eqb _ 0 w.1.1.1.1.0)),
       )
 
   pub u_back : (u_fields o f.rd (u_immediate f) ≡ f) × ((ltb f.rd 32 && multiple 32 12 (u_immediate f)) ≡ true)
@@ -187,7 +188,7 @@ module _ (f : Fields) (r : InWord f) {o : ℕ} (op : f.opcode ≡ o) where
       let l = lay_lt (u_pieces f) (u_fit f r) in
       let w = lay_read (u_immediate f) (u_pieces f) (u_fit f r) (sext_field 32 (lay (u_pieces f)) (lit≤ tt) l) in (
         same (sym op) refl w.1.1.1.0 w.1.1.0 w.1.0 w.0,
-        and_of (lt-ltb f.rd 32 r.rd) (and_of (sext_fits 32 (lay (u_pieces f)) (lit≤ tt) l) (eq-eqb _ 0 w.1.1.1.1.0)),
+        and_from _ _ (lt-ltb f.rd 32 r.rd) (and_from _ _ (sext_fits 32 (lay (u_pieces f)) (lit≤ tt) l) (eq-eqb _ 0 w.1.1.1.1.0)),
       )
 
   pub j_back : (j_fields o f.rd (j_immediate f) ≡ f) × ((ltb f.rd 32 && multiple 21 1 (j_immediate f)) ≡ true)
@@ -197,5 +198,5 @@ module _ (f : Fields) (r : InWord f) {o : ℕ} (op : f.opcode ≡ o) where
       let v = w.1.1.1 in (
         same (sym op) refl w.1.1.0 w.1.0 (field_join f.rs2 1 4 r.rs2 v.1.1.0 v.0)
             (field_join f.funct7 6 1 r.funct7 w.0 v.1.0),
-        and_of (lt-ltb f.rd 32 r.rd) (and_of (sext_fits 21 (lay (j_pieces f)) (lit≤ tt) l) (eq-eqb _ 0 v.1.1.1.0)),
+        and_from _ _ (lt-ltb f.rd 32 r.rd) (and_from _ _ (sext_fits 21 (lay (j_pieces f)) (lit≤ tt) l) (eq-eqb _ 0 v.1.1.1.0)),
       )

@@ -8,10 +8,10 @@ use native.Mathlib.Omega.{arith}
 use lib.Dec.{eqb, lit<, lit≤}
 use lib.ListN.{get_or}
 use borrow.Author.Tests.{eqb-true}
+use Rattle.std.proofs.lemmas.Bool.{and_parts}
 use Rattle.words.specs.Word.{field}
 use Rattle.words.proofs.Fields.{field_lt, field_put, field_join}
 use Rattle.instructions.specs.HWords.{explicit_regions, among, place_in, top_bit, low_register, chosen_region, rs1_field, other_field}
-use Rattle.instructions.proofs.Tests.{and_both}
 use Rattle.instructions.proofs.Named.{every_at}
 
 -- ---- a number among those of a list
@@ -52,7 +52,7 @@ get_place : (choice : ℕ) → choice < 4
     × (among (get_or explicit_regions choice 0) explicit_regions ≡ true)
 get_place choice h =
     let region = get_or explicit_regions choice 0 in
-    let p = and_both (eqb (place_in explicit_regions region) choice) _ (every_at stands explicit_regions 0 refl choice h) in
+    let p = and_parts (eqb (place_in explicit_regions region) choice) _ (every_at stands explicit_regions 0 refl choice h) in
     (eqb-true _ choice p.0, p.1)
 
 -- ---- two fields, and what they stand for

@@ -7,12 +7,12 @@ use Prim.Native.Nat.{ℕ, zero, suc, ◌+◌, ◌<◌, ◌≤◌}
 use native.Mathlib.Nat.{add-zero, zero-add, add-suc, suc-add, le_of_suc-le-suc, not-suc-le-zero}
 use lib.Dec.{eqb}
 use lib.ListN.{length, get_or}
+use Rattle.std.proofs.lemmas.Bool.{and_parts}
 use Rattle.instructions.specs.Table.{of_code}
 use Rattle.instructions.specs.Kinds.{HfiRow, hfi_row, hfi_code, hfi_kinds, named}
 use Rattle.instructions.specs.Decode.{named_at}
 use Rattle.instructions.specs.declared.kind.HfiKind.{HfiKind}
 use Rattle.instructions.specs.declared.hfi_table.Named.{Named}
-use Rattle.instructions.proofs.Tests.{and_both}
 use Rattle.instructions.proofs.Tables.{made_of, code_told, code_past, hfi_code_lem}
 
 -- a kind's own row
@@ -32,10 +32,10 @@ every test i (x ∷ xs) = test i x && every test (suc i) xs
 
 every_from : {X : Type 0} (test : ℕ → X → Bool) (xs : List X) (d : X) (i : ℕ) → every test i xs ≡ true → (k : ℕ) → k < length xs → test (i + k) (get_or xs k d) ≡ true
 every_from test [] d i t k h = absurd (not-suc-le-zero h)
-every_from test (x ∷ xs) d i t zero h = rw (add-zero i) (and_both (test i x) _ t).0
+every_from test (x ∷ xs) d i t zero h = rw (add-zero i) (and_parts (test i x) _ t).0
 every_from test (x ∷ xs) d i t (suc k) h =
     ap (λ (n : ℕ). test n (get_or xs k d)) (add-suc i k ∙ sym (suc-add i k))
-    ∙ every_from test xs d (suc i) (and_both (test i x) _ t).1 k (le_of_suc-le-suc h)
+    ∙ every_from test xs d (suc i) (and_parts (test i x) _ t).1 k (le_of_suc-le-suc h)
 
 pub every_at : {X : Type 0} (test : ℕ → X → Bool) (xs : List X) (d : X) → every test 0 xs ≡ true → (k : ℕ) → k < length xs → test k (get_or xs k d) ≡ true
 every_at test xs d t k h = ap (λ (n : ℕ). test n (get_or xs k d)) (sym (zero-add k)) ∙ every_from test xs d 0 t k h
@@ -63,8 +63,8 @@ named_by x rd rs1 rs2 = (x.rd || eqb rd 0) && ((x.rs1 || eqb rs1 0) && (x.rs2 ||
 
 agrees_named : (r : HfiRow) (x : Named) (rd rs1 rs2 : ℕ) → agrees r x ≡ true → named r rd rs1 rs2 ≡ named_by x rd rs1 rs2
 agrees_named r x rd rs1 rs2 t =
-    let p = and_both (same x.rd r.rd) _ t in
-    let q = and_both (same x.rs1 r.rs1) _ p.1 in
+    let p = and_parts (same x.rd r.rd) _ t in
+    let q = and_parts (same x.rs1 r.rs1) _ p.1 in
     rw (same_true x.rd r.rd p.0, same_true x.rs1 r.rs1 q.0, same_true x.rs2 r.rs2 q.1) refl
 
 -- a table that passes at every row decides as document 01's table does

@@ -9,6 +9,7 @@ use lib.Dec.{eqb, ltb}
 use borrow.Author.Tests.{eqb-true, ltb-true, ne_eqb}
 use Rattle.std.proofs.Common.{Option, Some, None, rules}
 use Rattle.std.proofs.lemmas.Option.{none-some, same_Some}
+use Rattle.std.proofs.lemmas.Bool.{and_parts}
 use Rattle.words.specs.Word.{field}
 use Rattle.instructions.specs.declared.instruction.Instruction.{Instruction}
 use Rattle.instructions.specs.Table.{lookup, of_code, Found}
@@ -25,7 +26,6 @@ use Rattle.instructions.specs.declared.kind.RegisterKind.{RegisterKind}
 use Rattle.instructions.specs.declared.kind.RegisterWordKind.{RegisterWordKind}
 use Rattle.instructions.specs.declared.kind.SystemKind.{SystemKind}
 use Rattle.instructions.specs.declared.kind.HfiKind.{HfiKind}
-use Rattle.instructions.proofs.Tests.{and_both}
 
 -- ---- what is found
 
@@ -77,7 +77,7 @@ pub code_past : {K X : Type 0} (code : K → ℕ) (make : K → X) (none : X) (k
     → below code bound ks ≡ true → bound ≤ n → of_code code make none ks n ≡ none
 code_past code make none [] bound n t h = refl
 code_past code make none (k ∷ ks) bound n t h =
-    let p = and_both (ltb (code k) bound) (below code bound ks) t in
+    let p = and_parts (ltb (code k) bound) (below code bound ks) t in
     let l = ltb-true (code k) bound p.0 in
     rw (ne_eqb n (code k) (λ e. omega arith)) (code_past code make none ks bound n p.1 h)
 

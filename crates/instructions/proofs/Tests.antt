@@ -6,6 +6,7 @@ use Prim.Native.Nat.{ℕ, ◌<◌}
 use native.Mathlib.Omega.{arith}
 use lib.Dec.{ltb}
 use borrow.Author.Tests.{ltb-true, lt-ltb}
+use Rattle.std.proofs.lemmas.Bool.{and_from, and_parts}
 use Rattle.words.specs.Word.{fits_signed}
 use Rattle.instructions.specs.HWords.{explicit_regions, among}
 use Rattle.instructions.specs.Encode.{two, h_word, in_range}
@@ -14,17 +15,9 @@ use Rattle.instructions.specs.declared.kind.StoreKind.{StoreKind}
 use Rattle.instructions.specs.declared.kind.ShiftKind.{ShiftKind}
 use Rattle.instructions.specs.declared.instruction.Instruction.TheVariants.{Shift, Fence, HLoad, HStore}
 
-pub and_both : (a b : Bool) → (a && b) ≡ true → (a ≡ true) × (b ≡ true)
-and_both true b e = (refl, e)
-and_both false true e = (e, refl)
-and_both false false e = (e, e)
-
-pub and_of : {a b : Bool} → a ≡ true → b ≡ true → (a && b) ≡ true
-and_of p q = rw p q
-
 -- a register and the rest, and two
 pub one_all : (a : ℕ) (t : Bool) → (ltb a 32 && t) ≡ true → (a < 32) × (t ≡ true)
-one_all a t h = let p = and_both (ltb a 32) t h in (ltb-true a 32 p.0, p.1)
+one_all a t h = let p = and_parts (ltb a 32) t h in (ltb-true a 32 p.0, p.1)
 
 pub two_all : (a b : ℕ) (t : Bool) → two a b t ≡ true → (a < 32) × (b < 32) × (t ≡ true)
 two_all a b t h =
@@ -33,19 +26,19 @@ two_all a b t h =
     (p.0, q.0, q.1)
 
 pub two_of : {a b : ℕ} {t : Bool} → a < 32 → b < 32 → t ≡ true → two a b t ≡ true
-two_of {a} {b} p q e = and_of (lt-ltb a 32 p) (and_of (lt-ltb b 32 q) e)
+two_of {a} {b} p q e = and_from _ _ (lt-ltb a 32 p) (and_from _ _ (lt-ltb b 32 q) e)
 
 -- an h-word's region, two registers of four bits, and the rest
 pub h_word_all : (region a b : ℕ) (t : Bool) → h_word region a b t ≡ true
     → (among region explicit_regions ≡ true) × (a < 16) × (b < 16) × (t ≡ true)
 h_word_all region a b t h =
-    let p = and_both (among region explicit_regions) _ h in
-    let q = and_both (ltb a 16) _ p.1 in
-    let r = and_both (ltb b 16) t q.1 in
+    let p = and_parts (among region explicit_regions) _ h in
+    let q = and_parts (ltb a 16) _ p.1 in
+    let r = and_parts (ltb b 16) t q.1 in
     (p.0, ltb-true a 16 q.0, ltb-true b 16 r.0, r.1)
 
 pub h_word_of : (region : ℕ) {a b : ℕ} {t : Bool} → among region explicit_regions ≡ true → a < 16 → b < 16 → t ≡ true → h_word region a b t ≡ true
-h_word_of region {a} {b} r p q e = and_of r (and_of (lt-ltb a 16 p) (and_of (lt-ltb b 16 q) e))
+h_word_of region {a} {b} r p q e = and_from _ _ r (and_from _ _ (lt-ltb a 16 p) (and_from _ _ (lt-ltb b 16 q) e))
 
 -- .. whose registers are in the range of any word's
 pub h_word_two : (region a b : ℕ) (t : Bool) → h_word region a b t ≡ true → two a b t ≡ true
@@ -65,6 +58,6 @@ amount_range k rd rs1 amount h = ltb-true amount 64 (two_all rd rs1 _ h).2
 
 pub fence_range : (fm pred succ rs1 rd : ℕ) → in_range (Fence fm pred succ rs1 rd) ≡ true → (fm < 16) × (pred < 16) × (succ < 16)
 fence_range fm pred succ rs1 rd h =
-    let p = and_both (ltb fm 16) _ (two_all rd rs1 _ h).2 in
-    let q = and_both (ltb pred 16) _ p.1 in
+    let p = and_parts (ltb fm 16) _ (two_all rd rs1 _ h).2 in
+    let q = and_parts (ltb pred 16) _ p.1 in
     (ltb-true fm 16 p.0, ltb-true pred 16 q.0, ltb-true succ 16 q.1)

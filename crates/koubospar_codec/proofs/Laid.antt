@@ -8,6 +8,7 @@ use lib.Dec.{eqb}
 use borrow.Author.Tests.{eqb-true, eq-eqb}
 use Rattle.std.proofs.Common.{Option, Some, None}
 use Rattle.std.proofs.lemmas.Option.{cond_some}
+use Rattle.std.proofs.lemmas.Bool.{and_parts}
 use Rattle.instructions.specs.Decode.{decode_word}
 use Rattle.instructions.specs.Encode.{encode_word}
 use Rattle.instructions.specs.declared.kind.UpperKind.{UpperKind}
@@ -23,7 +24,6 @@ use Rattle.instructions.specs.declared.kind.SystemKind.{SystemKind}
 use Rattle.instructions.specs.declared.kind.HfiKind.{HfiKind}
 use Rattle.instructions.specs.declared.instruction.Instruction.{Instruction}
 use Rattle.instructions.specs.declared.instruction.Instruction.TheVariants.{Upper, Jal, Jalr, Branch, Load, Store, Immediate, Shift, Addiw, ShiftWord, Register, RegisterWord, Fence, System, HLoad, HStore, Hfi}
-use Rattle.instructions.proofs.Tests.{and_both}
 use Rattle.instructions.proofs.Tables.{made_of, upper_code_lem, branch_code_lem, load_code_lem, store_code_lem, immediate_code_lem, shift_code_lem, shift_word_code_lem, register_code_lem, register_word_code_lem, system_code_lem, hfi_code_lem}
 use Rattle.instructions.proofs.RoundTrip.{encode_of_decode}
 use Rattle.koubospar_codec.specs.Flat.{flatten, unflatten, same, laid_out, stands_for, encode_decoded, encode_flat}
@@ -70,15 +70,15 @@ same_refl f =
 
 same_equal : (a b : Flat) → same a b ≡ true → a ≡ b
 same_equal a b h =
-    let p = and_both _ _ h in
-    let shape = and_both _ _ p.0 in
-    let q = and_both _ _ p.1 in
-    let registers = and_both _ _ q.0 in
-    let sources = and_both _ _ registers.1 in
-    let r = and_both _ _ q.1 in
-    let s = and_both _ _ r.1 in
-    let fence = and_both _ _ s.0 in
-    let t = and_both _ _ fence.1 in
+    let p = and_parts _ _ h in
+    let shape = and_parts _ _ p.0 in
+    let q = and_parts _ _ p.1 in
+    let registers = and_parts _ _ q.0 in
+    let sources = and_parts _ _ registers.1 in
+    let r = and_parts _ _ q.1 in
+    let s = and_parts _ _ r.1 in
+    let fence = and_parts _ _ s.0 in
+    let t = and_parts _ _ fence.1 in
     λ i. record {
       group = eqb-true a.group b.group shape.0 i;
       kind = eqb-true a.kind b.kind shape.1 i;

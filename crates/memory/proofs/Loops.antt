@@ -1,6 +1,7 @@
 -- What the loops over the bytes of an access find is what the definitions ask.
 -- Assumes nothing.
 use Rattle.std.proofs.Common.{◌≡◌, ℕ, ◌+◌, ◌%◌, ◌^◌, ◌<◌, ◌≤◌, Bool, true, false, Err, cond, ◌&&◌, ◌||◌, eqb, ltb, pos, ◌+ℤ◌, sym, refl, ◌-◌, ◌∙◌, zero-add, arith, le-ltb, lt-ltb}
+use Rattle.std.proofs.Math.Bool.{or-true}
 use Rattle.words.specs.Word.{fits_signed}
 use Rattle.model.specs.Regions.{permits, below, explicit_rule, explicit_grants}
 use Rattle.model.specs.Bytes.{byte_of}
@@ -26,10 +27,6 @@ explicit_asked far mode r wanted v imm i low high f l p q s e =
     (explicit_once (eqb mode 0) (explicit_rule r) (permits wanted r) (ltb v far) (ltb (byte_of ((v + imm) % 2 ^ 64) i) r.bound) (below (offset v imm +ℤ pos i) r.bound)
     (λ t. sym (below_offset far v imm i r.bound low high f (omega arith) (omega (arith, (explicit_ends r t).1)))))
 
-or_true : (b : Bool) → (b || true) ≡ true
-or_true true = refl
-or_true false = refl
-
 -- where the region has all bytes the loop would pass each
 pub explicit_whole : (far mode : ℕ) (r : Region) (wanted v imm n : ℕ) {rule permitted : Bool}
     → 2 ^ 48 + 2 ^ 11 ≤ far → far ≤ 2 ^ 62 → fits_signed 12 imm ≡ true → n ≤ 8
@@ -40,7 +37,7 @@ explicit_whole far mode r wanted v imm n {rule} {permitted} low high f l p q fit
     sym (scan_all _ n 0 (λ j a b. sym (explicit_asked far mode r wanted v imm j low high f (omega arith) p q refl refl) ∙ here j (omega arith)) ∙ zero-add n)
   where
     here : (j : ℕ) → j < n → (eqb mode 0 || (((rule && permitted) && ltb v far) && ltb (byte_of ((v + imm) % 2 ^ 64) j) r.bound)) ≡ true
-    here j h = rw (ok, lt-ltb (byte_of ((v + imm) % 2 ^ 64) j) r.bound (omega (arith, first, last))) (or_true (eqb mode 0))
+    here j h = rw (ok, lt-ltb (byte_of ((v + imm) % 2 ^ 64) j) r.bound (omega (arith, first, last))) (or-true (eqb mode 0))
 
 -- ---- the verdict, from what the loops find
 

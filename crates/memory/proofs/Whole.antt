@@ -6,7 +6,7 @@ use Rattle.std.specs.Option.{unwrap_or, option_map}
 use mathlib.Core.Bool.{false≢true}
 use lib.Bits.{bit_and}
 use borrow.Author.Tests.{lt-leb}
-use Rattle.instructions.proofs.Tests.{and_both}
+use Rattle.std.proofs.lemmas.Bool.{and_parts}
 use Rattle.model.specs.Machine.{region}
 use Rattle.model.specs.Regions.{execute, code_regions, permits, mask_zeros, implicit_rule, matches, first_match, implicit_grants}
 use Rattle.model.specs.Bytes.{byte_of}
@@ -98,13 +98,13 @@ whole_granted rs (m ∷ ms) wanted a n i z l s h g =
     last = byte_of a (n - 1)
 
     p : (ltb 0 m ≡ true) × (numbered ms ≡ true)
-    p = and_both (ltb 0 m) (numbered ms) z
+    p = and_parts (ltb 0 m) (numbered ms) z
 
     has : has_whole r wanted a last ≡ true → implicit_grants rs (m ∷ ms) wanted (byte_of a i) ≡ true
     has w =
         let q = asked _ (implicit_rule r) w in
-        let u = and_both (eqb (bit_and a r.bound) r.base) _ q.0 in
-        let v = and_both (eqb (bit_and last r.bound) r.base) (permits wanted r) u.1 in
+        let u = and_parts (eqb (bit_and a r.bound) r.base) _ q.0 in
+        let v = and_parts (eqb (bit_and last r.bound) r.base) (permits wanted r) u.1 in
         let f : matches r a ≡ true = rw q.1 u.0 in
         let g : matches r last ≡ true = rw q.1 v.0 in
         granted_first rs m ms wanted (byte_of a i) p.0 (between r a n i l s h f g q.1) v.1

@@ -9,12 +9,12 @@ use Prim.Native.Nat.{ℕ}
 use lib.Dec.{eqb}
 use borrow.Author.Tests.{eqb-true}
 use Rattle.std.proofs.Common.{Option, Some, None}
+use Rattle.std.proofs.lemmas.Bool.{and_parts}
 use Rattle.instructions.specs.Decode.{decode_word}
 use Rattle.instructions.specs.Fields.{word_of}
 use Rattle.instructions.specs.Encode.{in_range, encode_fields}
 use Rattle.instructions.specs.declared.instruction.Instruction.{Instruction}
 use Rattle.instructions.proofs.RoundTrip.{one_instruction}
-use Rattle.instructions.proofs.Tests.{and_both}
 use Rattle.model.specs.declared.Region.{Region}
 use Rattle.model.specs.declared.Fault.{Fault}
 use Rattle.model.specs.declared.HfiState.{HfiState}
@@ -82,7 +82,7 @@ same_numbers [] [] e = refl
 same_numbers [] (b ∷ ys) e = absurd (false≢true e)
 same_numbers (a ∷ xs) [] e = absurd (false≢true e)
 same_numbers (a ∷ xs) (b ∷ ys) e =
-    let p = and_both (eqb a b) _ e in
+    let p = and_parts (eqb a b) _ e in
     let q = eqb-true a b p.0 in
     let r = same_numbers xs ys p.1 in
     cc
@@ -103,16 +103,16 @@ same_regions [] [] e = refl
 same_regions [] (s ∷ ss) e = absurd (false≢true e)
 same_regions (r ∷ rs) [] e = absurd (false≢true e)
 same_regions (r ∷ rs) (s ∷ ss) e =
-    let p = and_both (eqb r.base s.base) _ e in
-    let q = and_both (eqb r.bound s.bound) _ p.1 in
-    let t = and_both (eqb r.permission s.permission) _ q.1 in
+    let p = and_parts (eqb r.base s.base) _ e in
+    let q = and_parts (eqb r.bound s.bound) _ p.1 in
+    let t = and_parts (eqb r.permission s.permission) _ q.1 in
     cons_of (region_of_lem (eqb-true _ _ p.0) (eqb-true _ _ q.0) (eqb-true _ _ t.0)) (same_regions rs ss t.1)
 
 same_faults : (f g : Fault) → alike_faults f g ≡ true → f ≡ g
 same_faults f g e =
-    let p = and_both (eqb f.occurred g.occurred) _ e in
-    let q = and_both (eqb f.region g.region) _ p.1 in
-    let t = and_both (eqb f.op g.op) _ q.1 in
+    let p = and_parts (eqb f.occurred g.occurred) _ e in
+    let q = and_parts (eqb f.region g.region) _ p.1 in
+    let t = and_parts (eqb f.op g.op) _ q.1 in
     fault_of (eqb-true _ _ p.0) (eqb-true _ _ q.0) (eqb-true _ _ t.0) (eqb-true _ _ t.1)
 
 state_of_lem : {a b c d e f g h i j k l : ℕ} {rs ss : List Region} {u v : Fault} → a ≡ g → b ≡ h → c ≡ i → d ≡ j → e ≡ k → f ≡ l → rs ≡ ss → u ≡ v
@@ -122,13 +122,13 @@ state_of_lem p q r s t u v w = cc
 
 same_states : (h k : HfiState) → alike_states h k ≡ true → h ≡ k
 same_states h k e =
-    let p = and_both (eqb h.mode k.mode) _ e in
-    let q = and_both (eqb h.reason k.reason) _ p.1 in
-    let r = and_both (eqb h.epc k.epc) _ q.1 in
-    let s = and_both (eqb h.options k.options) _ r.1 in
-    let t = and_both (eqb h.handler k.handler) _ s.1 in
-    let u = and_both (eqb h.selector k.selector) _ t.1 in
-    let v = and_both (alike_regions h.regions k.regions) _ u.1 in
+    let p = and_parts (eqb h.mode k.mode) _ e in
+    let q = and_parts (eqb h.reason k.reason) _ p.1 in
+    let r = and_parts (eqb h.epc k.epc) _ q.1 in
+    let s = and_parts (eqb h.options k.options) _ r.1 in
+    let t = and_parts (eqb h.handler k.handler) _ s.1 in
+    let u = and_parts (eqb h.selector k.selector) _ t.1 in
+    let v = and_parts (alike_regions h.regions k.regions) _ u.1 in
     state_of_lem (eqb-true _ _ p.0) (eqb-true _ _ q.0) (eqb-true _ _ r.0) (eqb-true _ _ s.0) (eqb-true _ _ t.0) (eqb-true _ _ u.0)
     (same_regions _ _ v.0) (same_faults _ _ v.1)
 
@@ -138,14 +138,14 @@ machine_of_lem p q r = cc
 
 same_machines : (m n : Machine) → alike_machines m n ≡ true → m ≡ n
 same_machines m n e =
-    let p = and_both (alike_numbers m.x n.x) _ e in
-    let q = and_both (eqb m.pc n.pc) _ p.1 in
+    let p = and_parts (alike_numbers m.x n.x) _ e in
+    let q = and_parts (eqb m.pc n.pc) _ p.1 in
     machine_of_lem (same_numbers _ _ p.0) (eqb-true _ _ q.0) (same_states _ _ q.1)
 
 same_decoded : (d e : Option Instruction) → alike_decoded d e ≡ true → d ≡ e
 same_decoded (Some i) (Some j) e =
-    let p = and_both (in_range i) _ e in
-    let q = and_both (in_range j) _ p.1 in
+    let p = and_parts (in_range i) _ e in
+    let q = and_parts (in_range j) _ p.1 in
     let w = eqb-true (word_of (encode_fields i)) (word_of (encode_fields j)) q.1 in
     ap Some (one_instruction (word_of (encode_fields i)) i j (encodes i p.0) (ap decode_word w ∙ encodes j q.0))
 same_decoded (Some i) None e = absurd (false≢true e)
@@ -170,15 +170,15 @@ same_answers (told b) (gave s c a m mem) e = absurd (false≢true e)
 same_answers (gave s c a m mem) (decoded d) e = absurd (false≢true e)
 same_answers (gave s c a m mem) (told b) e = absurd (false≢true e)
 same_answers (gave s c a m mem) (gave t d b n men) e =
-    let p = and_both (eqb s t) _ e in
-    let q = and_both (eqb c d) _ p.1 in
-    let r = and_both (eqb a b) _ q.1 in
-    let u = and_both (alike_machines m n) _ r.1 in
+    let p = and_parts (eqb s t) _ e in
+    let q = and_parts (eqb c d) _ p.1 in
+    let r = and_parts (eqb a b) _ q.1 in
+    let u = and_parts (alike_machines m n) _ r.1 in
     gave_of (eqb-true s t p.0) (eqb-true c d q.0) (eqb-true a b r.0) (same_machines m n u.0) (same_numbers mem men u.1)
 
 -- the table holds: what the definitions answer is what it says
 pub held : (rs : List Row) → holds rs ≡ true → found rs ≡ stated rs
 held [] e = refl
 held (r ∷ rs) e =
-    let p = and_both (alike (answered r.0) r.1) _ e in
+    let p = and_parts (alike (answered r.0) r.1) _ e in
     cons_of (same_answers (answered r.0) r.1 p.0) (held rs p.1)

@@ -12,7 +12,7 @@ use lib.Dec.{eqb, leb, ltb}
 use lib.ListN.{length, get_or}
 use borrow.Author.Tests.{eqb-true, eqb-false, eq-eqb, ne_eqb, leb-false, lt-leb, ltb-true, lt-ltb, ltb-false, le-ltb, not-true}
 use Rattle.std.proofs.Common.{Option, Some, None}
-use Rattle.std.proofs.lemmas.Bool.{both_ways}
+use Rattle.std.proofs.lemmas.Bool.{both_ways, and_parts}
 use Rattle.words.specs.Word.{field}
 use Rattle.instructions.specs.Decode.{decode_word}
 use Rattle.instructions.specs.declared.kind.LoadKind.{LoadKind}
@@ -25,7 +25,6 @@ use Rattle.instructions.specs.declared.instruction.Instruction.TheVariants.{Uppe
 use Rattle.instructions.proofs.RoundTrip.{decoded_range}
 use Rattle.compressed.specs.Expand.{expand_half, is_long}
 use Rattle.compressed.proofs.InRange.{expanded_range}
-use Rattle.instructions.proofs.Tests.{and_both}
 use Rattle.model.specs.Machine.{bit, sum, reg, fetch_op, largest_options, inside, locked, entered, last_region}
 use Rattle.instructions.specs.HWords.{among}
 use Rattle.model.specs.Regions.{region_kind}
@@ -126,7 +125,7 @@ begins_exposed h a l w = rw (eq-eqb (field a 0 1) 1 l) (code_tested h.regions w)
 
 exposed_begins : (h : HfiState) (a : ℕ) → exposes_code (entered h a) ≡ true → (field a 0 1 ≡ 1) × WritableCode h.regions
 unfolding exposes_code
-exposed_begins h a t = let p = and_both (bit 0 a) (writable_code h.regions) t in (eqb-true _ _ p.0, tested_code h.regions p.1)
+exposed_begins h a t = let p = and_parts (bit 0 a) (writable_code h.regions) t in (eqb-true _ _ p.0, tested_code h.regions p.1)
 
 pub rule_number : (m : Machine) (i : Instruction) (n : ℕ) → Breaks m i n → hfi_stop m i ≡ n
 unfolding hfi_stop

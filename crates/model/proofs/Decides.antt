@@ -8,7 +8,7 @@ use mathlib.Core.Logic.{◌⊎◌, inl, inr}
 use Prim.Native.Nat.{ℕ}
 use lib.Dec.{eqb}
 use borrow.Author.Tests.{eqb-false, ne_eqb, not-true}
-use Rattle.instructions.proofs.Tests.{and_both}
+use Rattle.std.proofs.lemmas.Bool.{and_parts}
 use Rattle.instructions.proofs.HWords.{Each}
 use Rattle.model.specs.Machine.{region}
 use Rattle.model.specs.Regions.{permits, matches, first_match, implicit_grants}
@@ -84,7 +84,7 @@ module _ (rs : List Region) (ns : List ℕ) (p a : ℕ) where
       n = first_match rs ns a
 
       h : (not (eqb n 0) ≡ true) × (permits p (region rs n) ≡ true)
-      h = and_both (not (eqb n 0)) (permits p (region rs n)) g
+      h = and_parts (not (eqb n 0)) (permits p (region rs n)) g
 
       counts : n ≡ 0 → ⊥
       counts = eqb-false n 0 (not-true (eqb n 0) h.0)

@@ -9,8 +9,7 @@ use native.Mathlib.Omega.{arith}
 use lib.Dec.{ltb}
 use lib.ListN.{length}
 use borrow.Author.Tests.{ltb-false, lt-ltb, le-ltb}
-use Rattle.std.proofs.lemmas.Bool.{both_ways}
-use Rattle.instructions.proofs.Tests.{and_both}
+use Rattle.std.proofs.lemmas.Bool.{both_ways, and_parts}
 use Rattle.model.specs.Machine.{inside, locked}
 use Rattle.model.specs.WellFormed.{well_formed}
 use Rattle.model.specs.WritableCode.{WritableCode, writable_code, exposes_code}
@@ -32,7 +31,7 @@ pub record Exposed (m : Machine) : Type 0 where
 pub exposed : (m : Machine) → exposes_code m.hfi ≡ true → Exposed m
 unfolding exposes_code
 exposed m t =
-    let p = and_both (locked m.hfi) (writable_code m.hfi.regions) t in
+    let p = and_parts (locked m.hfi) (writable_code m.hfi.regions) t in
     record { lock = locked_is m p.0; code = tested_code m.hfi.regions p.1 }
 
 pub exposes : (m : Machine) → Exposed m → exposes_code m.hfi ≡ true

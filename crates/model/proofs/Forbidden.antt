@@ -7,11 +7,11 @@ use mathlib.Core.List.{List, [], ◌∷◌}
 use Prim.Native.Nat.{ℕ}
 use lib.Dec.{eqb}
 use borrow.Author.Tests.{eqb-true, not-true}
+use Rattle.std.proofs.lemmas.Bool.{and_parts}
 use Rattle.instructions.specs.declared.kind.HfiKind.{HfiKind}
 use Rattle.instructions.specs.declared.kind.HfiKind.TheVariants.{Enter, EnterJump, Exit, SelectRegion, SetBase, GetBase, SetBound, GetBound, SetPermission, GetPermission, SetHandler, GetHandler, ResetRegions}
 use Rattle.instructions.specs.declared.instruction.Instruction.{Instruction}
 use Rattle.instructions.specs.declared.instruction.Instruction.TheVariants.{Upper, Jal, Jalr, Branch, Load, Store, Immediate, Shift, Addiw, ShiftWord, Register, RegisterWord, Fence, System, HLoad, HStore, Hfi}
-use Rattle.instructions.proofs.Tests.{and_both}
 use Rattle.instructions.specs.HWords.{among}
 use Rattle.model.specs.Hfi.{first_broken, word_rules, rules, hfi_stop}
 use Rattle.model.specs.declared.HfiState.{HfiState}
@@ -27,7 +27,7 @@ every p (a ∷ rest) = p a && every p rest
 pub of_each : (p : ℕ → Bool) (ns : List ℕ) (n : ℕ) → every p ns ≡ true → among n ns ≡ true → p n ≡ true
 of_each p [] n h e = absurd (false≢true e)
 of_each p (a ∷ ns) n h e =
-    let q = and_both (p a) (every p ns) h in
+    let q = and_parts (p a) (every p ns) h in
     go (eqb n a) refl q.0 (λ u. of_each p ns n q.1 u) e
   where
     go : (b : Bool) → eqb n a ≡ b → p a ≡ true → (among n ns ≡ true → p n ≡ true) → cond b true (among n ns) ≡ true → p n ≡ true
@@ -90,7 +90,7 @@ breaks_none = every (λ rule. not rule.0)
 
 unbroken : (rs : List (Bool × ℕ)) → listed rs ≡ true → eqb (first_broken rs) 0 ≡ true → breaks_none rs ≡ true
 unbroken [] h e = refl
-unbroken (r ∷ rs) h e = let p = and_both (is_hfi_stop r.1) (listed rs) h in go r.0 p.0 (λ u. unbroken rs p.1 u) e
+unbroken (r ∷ rs) h e = let p = and_parts (is_hfi_stop r.1) (listed rs) h in go r.0 p.0 (λ u. unbroken rs p.1 u) e
   where
     go : (b : Bool) → is_hfi_stop r.1 ≡ true → (eqb (first_broken rs) 0 ≡ true → breaks_none rs ≡ true)
         → eqb (cond b r.1 (first_broken rs)) 0 ≡ true → (not b && breaks_none rs) ≡ true
@@ -99,7 +99,7 @@ unbroken (r ∷ rs) h e = let p = and_both (is_hfi_stop r.1) (listed rs) h in go
 
 first_listed : (rs : List (Bool × ℕ)) → listed rs ≡ true → eqb (first_broken rs) 0 ≡ false → is_hfi_stop (first_broken rs) ≡ true
 first_listed [] h e = sym e
-first_listed (r ∷ rs) h e = let p = and_both (is_hfi_stop r.1) (listed rs) h in go r.0 p.0 (λ u. first_listed rs p.1 u) e
+first_listed (r ∷ rs) h e = let p = and_parts (is_hfi_stop r.1) (listed rs) h in go r.0 p.0 (λ u. first_listed rs p.1 u) e
   where
     go : (b : Bool) → is_hfi_stop r.1 ≡ true → (eqb (first_broken rs) 0 ≡ false → is_hfi_stop (first_broken rs) ≡ true)
         → eqb (cond b r.1 (first_broken rs)) 0 ≡ false → is_hfi_stop (cond b r.1 (first_broken rs)) ≡ true

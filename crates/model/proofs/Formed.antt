@@ -10,7 +10,7 @@ use lib.ListN.{get_or, set}
 use lib.Seq.{get_or-set_other}
 use lib.Bits.{and_high, and_zero_l}
 use borrow.Author.Tests.{eqb-true, eqb-false, eq-eqb, le-leb, ltb-false}
-use Rattle.instructions.proofs.Tests.{and_both}
+use Rattle.std.proofs.lemmas.Bool.{and_parts}
 use Rattle.model.specs.Machine.{reg, set_reg, fetch_op, largest_options, no_region, entered, exited, with_handler, with_selector, with_regions, with_fault, last_region}
 use Rattle.model.specs.Regions.{permission_fits, permission_bits, region_kind}
 use Rattle.model.specs.WellFormed.{clear_handler, permissions_fit, fault_fits, state_fits, well_formed}
@@ -32,12 +32,12 @@ pub record Fits (h : HfiState) : Type 0 where
 fits : (h : HfiState) → state_fits h ≡ true → Fits h
 unfolding state_fits
 fits h t =
-    let a = and_both (leb h.mode 1) _ t in
-    let b = and_both (leb h.reason 2) _ a.1 in
-    let c = and_both (leb h.options largest_options) _ b.1 in
-    let d = and_both (eqb (clear_handler h.handler) h.handler) _ c.1 in
-    let e = and_both (leb h.selector last_region) _ d.1 in
-    let f = and_both (permissions_fit 1 h.regions) (fault_fits h.fault) e.1 in
+    let a = and_parts (leb h.mode 1) _ t in
+    let b = and_parts (leb h.reason 2) _ a.1 in
+    let c = and_parts (leb h.options largest_options) _ b.1 in
+    let d = and_parts (eqb (clear_handler h.handler) h.handler) _ c.1 in
+    let e = and_parts (leb h.selector last_region) _ d.1 in
+    let f = and_parts (permissions_fit 1 h.regions) (fault_fits h.fault) e.1 in
     record { mode = a.0; reason = b.0; options = c.0; handler = d.0; selector = e.0; permissions = f.0; fault = f.1 }
 
 fitted : (h : HfiState) → Fits h → state_fits h ≡ true
@@ -50,7 +50,7 @@ pub record Good (m : Machine) : Type 0 where
 
 pub good : (m : Machine) → well_formed m ≡ true → Good m
 unfolding well_formed
-good m t = let a = and_both (eqb (reg m.x 0) 0) (state_fits m.hfi) t in record { zero = eqb-true _ _ a.0; state = fits m.hfi a.1 }
+good m t = let a = and_parts (eqb (reg m.x 0) 0) (state_fits m.hfi) t in record { zero = eqb-true _ _ a.0; state = fits m.hfi a.1 }
 
 pub formed : (m : Machine) → Good m → well_formed m ≡ true
 unfolding well_formed
@@ -78,9 +78,9 @@ permissions_set : (rs : List Region) (n k : ℕ) (r : Region) → permissions_fi
 permissions_set [] n k r h f = h
 permissions_set (q ∷ rs) n zero r h f =
     let e : n + 0 ≡ n = omega arith in
-    rw (rw e at f) (and_both (permission_fits n q.permission) (permissions_fit (suc n) rs) h).1
+    rw (rw e at f) (and_parts (permission_fits n q.permission) (permissions_fit (suc n) rs) h).1
 permissions_set (q ∷ rs) n (suc k) r h f =
-    let b = and_both (permission_fits n q.permission) (permissions_fit (suc n) rs) h in
+    let b = and_parts (permission_fits n q.permission) (permissions_fit (suc n) rs) h in
     let e : n + suc k ≡ suc n + k = omega arith in
     rw b.0 (permissions_set rs (suc n) k r b.1 (rw e at f))
 
@@ -89,10 +89,10 @@ permission_at : (rs : List Region) (n k : ℕ) → permissions_fit n rs ≡ true
 permission_at [] n k h = eq-eqb _ _ (and_zero_l (permission_bits (region_kind (n + k))))
 permission_at (q ∷ rs) n zero h =
     let e : n + 0 ≡ n = omega arith in
-    rw e (and_both (permission_fits n q.permission) (permissions_fit (suc n) rs) h).0
+    rw e (and_parts (permission_fits n q.permission) (permissions_fit (suc n) rs) h).0
 permission_at (q ∷ rs) n (suc k) h =
     let e : n + suc k ≡ suc n + k = omega arith in
-    rw e (permission_at rs (suc n) k (and_both (permission_fits n q.permission) (permissions_fit (suc n) rs) h).1)
+    rw e (permission_at rs (suc n) k (and_parts (permission_fits n q.permission) (permissions_fit (suc n) rs) h).1)
 
 -- the state after a word of opcode 5b
 module _ (h : HfiState) (f : Fits h) where
@@ -125,7 +125,7 @@ module _ (h : HfiState) (f : Fits h) where
         handler = f.handler;
         selector = f.selector;
         permissions = f.permissions;
-        fault = (and_both (leb h.fault.occurred 1) _ f.fault).1;
+        fault = (and_parts (leb h.fault.occurred 1) _ f.fault).1;
       }
 
   pub exited_fits : (reason pc : ℕ) → leb reason 2 ≡ true → Fits (exited h reason pc)

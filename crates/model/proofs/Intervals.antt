@@ -13,8 +13,8 @@ use lib.Count.{count_trailing_zeros, trailing_of_zero}
 use lib.IntN.{ℤ, pos, ◌+ℤ◌}
 use borrow.Author.Tests.{leb-true, le-leb, lt-ltb, eqb-true, eqb-false, eq-eqb, not-true}
 use Rattle.std.proofs.lemmas.Nat.Bits.{and_high_mask}
+use Rattle.std.proofs.lemmas.Bool.{and_parts}
 use Rattle.words.specs.Word.{word}
-use Rattle.instructions.proofs.Tests.{and_both}
 use Rattle.model.specs.Regions.{mask_zeros, implicit_rule, implicit_rule_at, large, permits, small_rule, large_rule, explicit_rule, matches, below, explicit_grants}
 use Rattle.model.specs.Bytes.{byte_of}
 use Rattle.model.specs.declared.Region.{Region}
@@ -35,9 +35,9 @@ implicit_kept r h =
     let shape = eqb r.bound (2 ^ 64 - 2 ^ k) in
     let aligned = eqb (r.base % 2 ^ k) 0 in
     let low = leb (r.base + 2 ^ k) (2 ^ 48) in
-    let p = and_both (leb k 48) (shape && (aligned && low)) h in
-    let q = and_both shape (aligned && low) p.1 in
-    let s = and_both aligned low q.1 in
+    let p = and_parts (leb k 48) (shape && (aligned && low)) h in
+    let q = and_parts shape (aligned && low) p.1 in
+    let s = and_parts aligned low q.1 in
     record {
       small = leb-true k 48 p.0;
       shape = eqb-true r.bound (2 ^ 64 - 2 ^ k) q.0;
@@ -62,7 +62,7 @@ pub matches_inside : (r : Region) (a : ℕ) → a < 2 ^ 64 → matches r a ≡ t
     → (r.base ≤ a) × (a < r.base + 2 ^ mask_zeros r.bound)
 unfolding matches
 matches_inside r a l h =
-    let p = and_both (implicit_rule r) (eqb (bit_and a r.bound) r.base) h in
+    let p = and_parts (implicit_rule r) (eqb (bit_and a r.bound) r.base) h in
     let e = sym (region_masked r a (implicit_kept r p.0) l) ∙ eqb-true (bit_and a r.bound) r.base p.1 in
     omega (arith, e, split a (mask_zeros r.bound), mod-lt a (pow_pos (mask_zeros r.bound)))
 
@@ -78,7 +78,7 @@ inside_matches r a h p q =
 pub matches_low : (r : Region) (a : ℕ) → a < 2 ^ 64 → matches r a ≡ true → a < 2 ^ 48
 unfolding matches
 matches_low r a l h =
-    let p = and_both (implicit_rule r) (eqb (bit_and a r.bound) r.base) h in
+    let p = and_parts (implicit_rule r) (eqb (bit_and a r.bound) r.base) h in
     omega (arith, (implicit_kept r p.0).low, (matches_inside r a l h).1)
 
 -- a region that breaks its rule matches nothing
@@ -127,17 +127,17 @@ small_ends : (r : Region) → small_rule r ≡ true → (0 < r.bound) × (r.base
 small_ends r h =
     let shared = eqb (r.base / 2 ^ 32) ((r.base + r.bound - 1) / 2 ^ 32) in
     let low = leb (r.base + r.bound) (2 ^ 48) in
-    let p = and_both (leb 1 r.bound) (leb r.bound (2 ^ 32) && (shared && low)) h in
-    let q = and_both (leb r.bound (2 ^ 32)) (shared && low) p.1 in
-    (omega (arith, leb-true 1 r.bound p.0), leb-true (r.base + r.bound) (2 ^ 48) (and_both shared low q.1).1)
+    let p = and_parts (leb 1 r.bound) (leb r.bound (2 ^ 32) && (shared && low)) h in
+    let q = and_parts (leb r.bound (2 ^ 32)) (shared && low) p.1 in
+    (omega (arith, leb-true 1 r.bound p.0), leb-true (r.base + r.bound) (2 ^ 48) (and_parts shared low q.1).1)
 
 large_ends : (r : Region) → large_rule r ≡ true → (0 < r.bound) × (r.base + r.bound ≤ 2 ^ 48)
 large_ends r h =
     let even = eqb (r.bound % 65536) 0 in
     let some = not (eqb r.bound 0) in
     let low = leb (r.base + r.bound) (2 ^ 48) in
-    let p = and_both (eqb (r.base % 65536) 0) (even && (some && low)) h in
-    let q = and_both some low (and_both even (some && low) p.1).1 in
+    let p = and_parts (eqb (r.base % 65536) 0) (even && (some && low)) h in
+    let q = and_parts some low (and_parts even (some && low) p.1).1 in
     let n = eqb-false r.bound 0 (not-true (eqb r.bound 0) q.0) in
     (omega (arith, n), leb-true (r.base + r.bound) (2 ^ 48) q.1)
 
@@ -155,8 +155,8 @@ pub granted_inside : (r : Region) (p : ℕ) (offset : ℤ) (i : ℕ) → explici
     → (r.base ≤ byte_of (word 64 (pos r.base +ℤ offset)) i) × (byte_of (word 64 (pos r.base +ℤ offset)) i < r.base + r.bound)
 unfolding explicit_grants
 granted_inside r p offset i g =
-    let h = and_both (explicit_rule r) (permits p r && below (offset +ℤ pos i) r.bound) g in
-    let q = and_both (permits p r) (below (offset +ℤ pos i) r.bound) h.1 in
+    let h = and_parts (explicit_rule r) (permits p r && below (offset +ℤ pos i) r.bound) g in
+    let q = and_parts (permits p r) (below (offset +ℤ pos i) r.bound) h.1 in
     below_inside r.base r.bound i offset (omega (arith, (explicit_ends r h.0).1)) q.1
 
 -- and, of a region that keeps its rule and has the permission, each byte that lies in it is granted at its distance from base

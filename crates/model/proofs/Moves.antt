@@ -13,7 +13,7 @@ use lib.Dec.{eqb, leb, ltb}
 use lib.ListN.{length}
 use borrow.Author.Tests.{not-true, not-false, le-leb}
 use Rattle.std.proofs.Common.{Option, Some, None}
-use Rattle.std.proofs.lemmas.Bool.{both_ways, or_right}
+use Rattle.std.proofs.lemmas.Bool.{both_ways, or_right, and_parts}
 use Rattle.instructions.specs.Kinds.{hfi_code}
 use Rattle.instructions.specs.Decode.{decode_word}
 use Rattle.instructions.specs.Encode.{in_range}
@@ -27,7 +27,6 @@ use Rattle.instructions.specs.declared.instruction.Instruction.TheVariants.{Uppe
 use Rattle.instructions.proofs.RoundTrip.{decoded_range}
 use Rattle.compressed.specs.Expand.{expand_half, is_long}
 use Rattle.compressed.proofs.InRange.{expanded_range}
-use Rattle.instructions.proofs.Tests.{and_both}
 use Rattle.model.specs.Machine.{sum, reg, set_reg, load_op, store_op, fetch_op, largest_options, inside, locked, redirects_calls, region, zero_regions, entered, exited, machine, last_region}
 use Rattle.instructions.specs.HWords.{explicit_regions, among}
 use Rattle.instructions.proofs.HWords.{explicit_bounds}
@@ -182,7 +181,7 @@ match_numbered : (rs : List Region) (ns : List ℕ) (a : ℕ) → region_numbers
 unfolding first_match
 match_numbered rs [] a h = refl
 match_numbered rs (n ∷ ns) a h =
-    let p = and_both (leb n last_region) (region_numbers ns) h in
+    let p = and_parts (leb n last_region) (region_numbers ns) h in
     go (matches (region rs n) a) p.0 (match_numbered rs ns a p.1)
   where
     go : (b : Bool) → leb n last_region ≡ true → leb (first_match rs ns a) last_region ≡ true → leb (cond b n (first_match rs ns a)) last_region ≡ true
@@ -242,7 +241,7 @@ module _ (m : Machine) where
 
 -- where no rule of a list is broken the first is not, nor any of the rest
 unbroken_first : (b c : Bool) → (not b && c) ≡ true → (b ≡ false) × (c ≡ true)
-unbroken_first b c e = let p = and_both (not b) c e in (not-true b p.0, p.1)
+unbroken_first b c e = let p = and_parts (not b) c e in (not-true b p.0, p.1)
 
 module _ (m : Machine) where
   -- a word that changes the state outside a lock: mode and options are as they were
@@ -326,7 +325,7 @@ module _ (m : Machine) where
       let a = reg m.x rs1 in
       let p = unbroken_first _ _ e in
       unlocked next _ p.0 refl refl
-      (λ g. record { zero = g.zero; state = regions_fit m.hfi g.state a m.hfi.regions (and_both (leb 1 a) (leb a last_region) (not-false _ (unbroken_first _ true p.1).0)).1 g.state.permissions })
+      (λ g. record { zero = g.zero; state = regions_fit m.hfi g.state a m.hfi.regions (and_parts (leb 1 a) (leb a last_region) (not-false _ (unbroken_first _ true p.1).0)).1 g.state.permissions })
   hfi_moves next SetBase rd rs1 rs2 e = set_moves next _ e (λ g s. selected_fits m.hfi g.state s)
   hfi_moves next GetBase rd rs1 rs2 e = assigns m next rd _
   hfi_moves next SetBound rd rs1 rs2 e = set_moves next _ e (λ g s. selected_fits m.hfi g.state s)
@@ -490,7 +489,7 @@ module _ (m : Machine) (mem : List ℕ) where
 
   -- an instruction that HFI allows is stopped by its own later questions alone
   pub perform_stop : (next : ℕ) (i : Instruction) → in_range i ≡ true → eqb (hfi_stop m i) 0 ≡ true → one_of (later_stops i) (perform m mem next i).result.stop ≡ true
-  perform_stop next i h e = (and_both (one_of (later_stops i) (perform m mem next i).result.stop) _ (does (perform_moves m next i h e)).stop).0
+  perform_stop next i h e = (and_parts (one_of (later_stops i) (perform m mem next i).result.stop) _ (does (perform_moves m next i h e)).stop).0
 
   -- so by none of question 8's
   pub perform_other : (next : ℕ) (i : Instruction) → in_range i ≡ true → eqb (hfi_stop m i) 0 ≡ true → is_other (perform m mem next i).result.stop ≡ true
@@ -498,7 +497,7 @@ module _ (m : Machine) (mem : List ℕ) where
 
   any_stop : (ns : List ℕ) {o : Outcome} → every is_other ns ≡ true → Does (one_of ns) m mem o → Does is_stop m mem o
   any_stop ns {o} h d =
-      let p = and_both (one_of ns o.result.stop) _ d.stop in
+      let p = and_parts (one_of ns o.result.stop) _ d.stop in
       record { kept = d.kept; stop = rw (of_each is_other (0 ∷ ns) o.result.stop h p.0) p.1; memory = d.memory }
 
   executed_does : {f : List ℕ → Outcome} → Executed m f → Does is_stop m mem (f mem)

@@ -10,10 +10,10 @@ use native.Mathlib.Omega.{arith}
 use lib.Dec.{leb, ltb, lit≤}
 use lib.IntN.{ℤ, pos, negsuc, ◌+ℤ◌, +ℤ_idl}
 use borrow.Author.Tests.{ltb-true, ltb-false, lt-ltb, le-ltb, le-leb, eqb-true}
+use Rattle.std.proofs.lemmas.Bool.{and_parts}
 use Rattle.words.specs.Word.{field, signed, word, fits_signed}
 use Rattle.words.proofs.Extend.{sext_low_half, sext_high_half}
 use Rattle.words.proofs.Fields.{field_lt}
-use Rattle.instructions.proofs.Tests.{and_both}
 use Rattle.words.proofs.Residues.{word_signed}
 use Rattle.model.specs.Machine.{reg}
 use Rattle.model.specs.Bytes.{byte_of}
@@ -45,7 +45,7 @@ offset_of_x0 x imm e = ap (λ (n : ℕ). offset n imm) e ∙ +ℤ_idl (signed 64
 -- ---- bytes below the bound
 
 below_pos : (n bound : ℕ) → below (pos n) bound ≡ true → n < bound
-below_pos n bound e = ltb-true n bound (and_both (leb 0 n) (ltb n bound) e).1
+below_pos n bound e = ltb-true n bound (and_parts (leb 0 n) (ltb n bound) e).1
 
 -- a byte below the bound lies in its region, which ends at 2^64 or before
 pub below_inside : (base bound i : ℕ) (z : ℤ) → base + bound ≤ 2 ^ 64 → below (z +ℤ pos i) bound ≡ true

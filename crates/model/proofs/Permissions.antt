@@ -8,7 +8,7 @@ use native.Mathlib.Omega.{arith}
 use lib.Dec.{eqb, leb, lit≤}
 use lib.Bits.{bit_and, and_le_r}
 use borrow.Author.Tests.{eqb-true, eqb-false, ne_eqb, leb-true, leb-false, not-true}
-use Rattle.instructions.proofs.Tests.{and_both}
+use Rattle.std.proofs.lemmas.Bool.{and_parts}
 use Rattle.instructions.specs.HWords.{among}
 use Rattle.model.specs.Regions.{RegionKind, explicit, implicit_data, implicit_code, region_kind, permission_bits, permission_fits}
 use Rattle.model.proofs.Forbidden.{every, of_each}
@@ -27,7 +27,7 @@ all_below (suc n) t = t n && all_below n t
 below : (n : ℕ) (t : ℕ → Bool) → all_below n t ≡ true → (p : ℕ) → p < n → t p ≡ true
 below zero t h p l = absurd (omega (arith, l))
 below (suc n) t h p l =
-    let q = and_both (t n) (all_below n t) h in
+    let q = and_parts (t n) (all_below n t) h in
     go (eqb p n) refl q.0 (λ k. below n t q.1 p k)
   where
     go : (b : Bool) → eqb p n ≡ b → t n ≡ true → (p < n → t p ≡ true) → t p ≡ true

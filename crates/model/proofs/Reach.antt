@@ -11,6 +11,7 @@ use lib.ListN.{set, replicate}
 use lib.Seq.{get_or-set_same}
 use lib.IntN.{ℤ, pos, ◌+ℤ◌}
 use Rattle.std.proofs.Common.{Some}
+use Rattle.std.proofs.lemmas.Bool.{and_parts}
 use Rattle.instructions.specs.Decode.{decode_word}
 use Rattle.instructions.specs.Encode.{in_range, encode_fields, encode_word}
 use Rattle.instructions.specs.Fields.{word_of}
@@ -21,7 +22,6 @@ use Rattle.instructions.specs.declared.kind.StoreKind.TheVariants.{Sb, Sh, Sw, S
 use Rattle.instructions.specs.declared.instruction.Instruction.{Instruction}
 use Rattle.instructions.specs.HWords.{explicit_regions, among}
 use Rattle.instructions.proofs.RoundTrip.{decode_of_encode}
-use Rattle.instructions.proofs.Tests.{and_both}
 use Rattle.instructions.proofs.HWords.{Each}
 use Rattle.model.specs.Machine.{reg, region}
 use Rattle.model.specs.Regions.{permits, below, data_regions, matches, first_match, granting, implicit_grants, explicit_rule, explicit_grants}
@@ -86,11 +86,11 @@ pub explicit_there : (rs : List Region) (n p : ℕ) (z : ℤ) (k b : ℕ) → Pa
 unfolding explicit_grants
 explicit_there rs n p z k b h =
     let r = region rs n in
-    let g = and_both (explicit_rule r) (permits p r && below (z +ℤ pos h.index) r.bound) h.passes in
+    let g = and_parts (explicit_rule r) (permits p r && below (z +ℤ pos h.index) r.bound) h.passes in
     let q = granted_inside r p z h.index h.passes in
     record {
       rule = g.0;
-      permitted = (and_both (permits p r) (below (z +ℤ pos h.index) r.bound) g.1).0;
+      permitted = (and_parts (permits p r) (below (z +ℤ pos h.index) r.bound) g.1).0;
       start = rw h.there q.0;
       end = rw h.there q.1;
     }
@@ -140,5 +140,5 @@ granted_by rs (n ∷ ns) p b X h g = go (matches (region rs n) b) refl g (grante
   where
     go : (t : Bool) → matches (region rs n) b ≡ t → granting rs p (cond t n (first_match rs ns b)) ≡ true
         → (granting rs p (first_match rs ns b) ≡ true → X) → X
-    go true e g k = h.0 e (and_both (not (eqb n 0)) (permits p (region rs n)) g).1
+    go true e g k = h.0 e (and_parts (not (eqb n 0)) (permits p (region rs n)) g).1
     go false e g k = k g

@@ -9,8 +9,7 @@ use native.Mathlib.Omega.{arith}
 use lib.Dec.{eqb, leb, ltb, lit≤}
 use lib.ListN.{length, get_or}
 use borrow.Author.Tests.{eqb-true, eq-eqb, ne_eqb, eqb-false, leb-true, ltb-true, not-true}
-use Rattle.std.proofs.lemmas.Bool.{both_ways, or_cases}
-use Rattle.instructions.proofs.Tests.{and_both}
+use Rattle.std.proofs.lemmas.Bool.{both_ways, or_cases, and_parts}
 use Rattle.model.specs.Machine.{inside, locked}
 use Rattle.model.specs.WellFormed.{well_formed}
 use Rattle.model.specs.WritableCode.{writable_code, exposes_code}
@@ -128,7 +127,7 @@ module _ (m : Machine) (mem : List ℕ) where
   stop = (step m mem).result.stop
 
   proper_parts : (is_stop stop ≡ true) × (is_address stop (step m mem).result.address ≡ true)
-  proper_parts = and_both (is_stop stop) _ (step_does m mem).stop
+  proper_parts = and_parts (is_stop stop) _ (step_does m mem).stop
 
   -- it is of question 8 or of another; so what holds of all those numbers holds of it
   of_its_own : (p : ℕ → Bool) → every p other_stops ≡ true → every p hfi_stops ≡ true → p stop ≡ true
@@ -142,7 +141,7 @@ module _ (m : Machine) (mem : List ℕ) where
   step_number = first (or_cases (eqb stop 0) _ (of_its_own (λ n. eqb n 0 || ((leb 10 n && leb n 19) || (leb 22 n && leb n 25))) refl refl))
     where
       within : (a b : ℕ) → (leb a stop && leb stop b) ≡ true → (a ≤ stop) × (stop ≤ b)
-      within a b t = let u = and_both (leb a stop) (leb stop b) t in (leb-true a stop u.0, leb-true stop b u.1)
+      within a b t = let u = and_parts (leb a stop) (leb stop b) t in (leb-true a stop u.0, leb-true stop b u.1)
 
       second : ((leb 10 stop && leb stop 19) ≡ true) ⊎ ((leb 22 stop && leb stop 25) ≡ true) → ((10 ≤ stop) × (stop ≤ 19)) ⊎ ((22 ≤ stop) × (stop ≤ 25))
       second (inl t) = inl (within 10 19 t)

@@ -13,8 +13,7 @@ use lib.ListN.{get_or}
 use lib.Count.{count_trailing_zeros}
 use borrow.Author.Tests.{leb-true, le-leb, ltb-true, lt-ltb, eqb-true, eqb-false, eq-eqb}
 use Rattle.std.specs.Cmp.{both_ways}
-use Rattle.std.proofs.lemmas.Bool.{or_cases, or_left, or_right}
-use Rattle.instructions.proofs.Tests.{and_both}
+use Rattle.std.proofs.lemmas.Bool.{or_cases, or_left, or_right, and_parts}
 use Rattle.model.specs.Machine.{no_region, region}
 use Rattle.instructions.specs.HWords.{explicit_regions, among}
 use Rattle.instructions.proofs.HWords.{Each}
@@ -58,12 +57,12 @@ slide_inside : (s e a : ℕ) → (suc a ≡ s → ⊥) → (suc a ≡ e → ⊥)
 slide_inside s e a p q =
     both_ways _ _
     (λ h.
-    let t = and_both (leb s (suc a)) (ltb (suc a) e) h in
+    let t = and_parts (leb s (suc a)) (ltb (suc a) e) h in
     let l = leb-true s (suc a) t.0 in
     let u = ltb-true (suc a) e t.1 in
     rw (le-leb s a (omega (arith, l, p)), lt-ltb a e (omega (arith, u))) refl)
     (λ h.
-    let t = and_both (leb s a) (ltb a e) h in
+    let t = and_parts (leb s a) (ltb a e) h in
     let l = leb-true s a t.0 in
     let u = ltb-true a e t.1 in
     rw (le-leb s (suc a) (omega (arith, l)), lt-ltb (suc a) e (omega (arith, u, q))) refl)
@@ -119,7 +118,7 @@ module _ (rs : List Region) (es ds cs bs : List ℕ) (wanted wants : ℕ)
     none_at_zero h t =
         granted_by rs cs wants 0 _
         (each_map (λ n k m p. from_zero (region rs n) k m) cs (codes 0 h))
-        (and_both (implicit_grants rs cs wants 0) _ t).0
+        (and_parts (implicit_grants rs cs wants 0) _ t).0
       where
         from_zero : (r : Region) → NoEdge implicit_data 0 r → matches r 0 ≡ true → ⊥
         from_zero r k m = go (implicit_rule r) refl
@@ -205,8 +204,8 @@ no_edges : (rs : List Region) (k : RegionKind) (ns : List ℕ) (b : ℕ) → of_
     → Each (λ n. NoEdge k b (region rs n)) ns
 no_edges rs k [] b h t = tt
 no_edges rs k (n ∷ ns) b h t =
-    let p = and_both (ltb 0 n && same_kind (region_kind n) k) _ h in
-    let q = and_both (ltb 0 n) _ p.0 in
+    let p = and_parts (ltb 0 n && same_kind (region_kind n) k) _ h in
+    let q = and_parts (ltb 0 n) _ p.0 in
     let e : 1 + (n - 1) ≡ n = omega (arith, ltb-true 0 n q.0) in (
       subst (λ (j : RegionKind). NoEdge j b (region rs n)) (ap region_kind e ∙ same_kind_lem (region_kind n) k q.1) (no_edge rs 1 (n - 1) b t),
       no_edges rs k ns b p.1 t,
@@ -261,9 +260,9 @@ covered_by rs (n ∷ ns) p b t = go (or_cases (covers p b (region rs n)) (explic
         later false e = e
     go (inl y) f =
         let r = region rs n in
-        let i = and_both (explicit_rule r) _ y in
-        let j = and_both (permits p r) _ i.1 in
-        let k = and_both (leb r.base b) (ltb b (r.base + r.bound)) j.1 in
+        let i = and_parts (explicit_rule r) _ y in
+        let j = and_parts (permits p r) _ i.1 in
+        let k = and_parts (leb r.base b) (ltb b (r.base + r.bound)) j.1 in
         record {
           chosen = n;
           listed = rw (eq-eqb n n refl) refl;
@@ -319,7 +318,7 @@ pub tested_code : (rs : List Region) → writable_code rs ≡ true → WritableC
 unfolding writable_code
 tested_code rs t =
     let e = some_edge (both_at rs) rs 1 t in
-    let p = and_both (executable_at rs e.at) (writable_at rs e.at) e.passes in
+    let p = and_parts (executable_at rs e.at) (writable_at rs e.at) e.passes in
     let i : InImplicit rs code_regions execute e.at = record { granted = p.0; address = omega (arith, e.low) } in
     record {
       at = e.at;

@@ -7,8 +7,7 @@ use Prim.Native.Nat.{ℕ, zero, suc, ◌+◌, ◌-◌, ◌<◌, ◌≤◌}
 use native.Mathlib.Omega.{arith}
 use lib.Dec.{leb, ltb}
 use borrow.Author.Tests.{leb-true, leb-false, ltb-true, ltb-false, le-leb}
-use Rattle.std.proofs.lemmas.Bool.{both_ways}
-use Rattle.instructions.proofs.Tests.{and_both}
+use Rattle.std.proofs.lemmas.Bool.{both_ways, and_parts}
 use Rattle.scheduler.specs.Turn.{within, slot, stopped, place_in, following, first_unstopped}
 use Rattle.scheduler.specs.declared.Slot.{Slot}
 
@@ -181,7 +180,7 @@ found_unstopped ds count (suc k) m p n = go (stopped (slot ds m)) refl (found_un
 -- ---- the place
 
 pub within_numbered : (count n : ℕ) → within count n ≡ true → Numbered count n
-within_numbered count n e = let t = and_both (leb 1 n) (leb n count) e in record { low = leb-true 1 n t.0; high = leb-true n count t.1 }
+within_numbered count n e = let t = and_parts (leb 1 n) (leb n count) e in record { low = leb-true 1 n t.0; high = leb-true n count t.1 }
 
 pub numbered_within : (count n : ℕ) → Numbered count n → within count n ≡ true
 numbered_within count n p = rw (le-leb 1 n p.low) (le-leb n count p.high)

@@ -8,11 +8,12 @@ use native.Mathlib.Omega.{arith}
 use lib.Dec.{eqb, leb}
 use lib.ListN.{length, get_or, take}
 use borrow.Author.Tests.{eqb-true, ne_eqb, leb-true}
+use Rattle.std.proofs.lemmas.Bool.{and_parts}
 use Rattle.text.specs.Ascii.{ascii}
 use Rattle.text.specs.Scan.{comma, count}
 use Rattle.text.specs.Number.{number, spelled}
 use Rattle.text.specs.Split.{Row, fields, wide, all_wide}
-use Rattle.text.proofs.Asking.{first_half, second_half, yes_at}
+use Rattle.text.proofs.Asking.{yes_at}
 use Rattle.text.proofs.Numbers.{nil_without}
 use Rattle.text.proofs.Rows.{row_count, row_widths, wide_at}
 use Rattle.model.specs.Machine.{last_region}
@@ -43,12 +44,12 @@ default_read before f h w v = by (counted (length (fields before) + 1)) refl
     written = read_setup (setup_row (before ++ (comma ∷ f)))
 
     some : length f ≡ 0 → ⊥
-    some e = omega (arith, e, leb-true 1 (length f) (first_half (leb 1 (length f)) (leb (length f) 16) w))
+    some e = omega (arith, e, leb-true 1 (length f) ((and_parts (leb 1 (length f)) (leb (length f) 16) w).0))
 
     by : (t : Bool) → counted (length (fields before) + 1) ≡ t → ReadAlike empty written
     by true e =
         let budget : default_budget ≡ cond (eqb (length f) 0) default_budget (number 16 f) = rw (ne_eqb (length f) 0 some) (sym v) in
-        let narrow : true ≡ leb (length f) 16 = sym (second_half (leb 1 (length f)) (leb (length f) 16) w) in
+        let narrow : true ≡ leb (length f) 16 = sym ((and_parts (leb 1 (length f)) (leb (length f) 16) w).1) in
         let n = regions_given (length (fields before) + 1) in
         let alike = read_same n (map (number 16) (fields before)) (map length (fields before)) (number 16 []) 0 (number 16 f) (length f) budget narrow in
         let same : empty ≡ written = read_then before [] none e ∙ alike ∙ sym (read_then before f h e) in
@@ -115,7 +116,7 @@ module _ (line : List ℕ) (z : (read_setup (setup_row line)).question ≡ 0) wh
   -- no field before the last is empty: each is 1 to 16 bytes wide
   pub others_wide : (i : ℕ) → i < length (fields line) - 1 → wide (length (get_or (fields line) i [])) ≡ true
   others_wide i h =
-      let wides = first_half (all_wide (take (budget_field n) row.widths)) (leb (get_or row.widths (budget_field n) 0) 16) widths_pass in
+      let wides = (and_parts (all_wide (take (budget_field n) row.widths)) (leb (get_or row.widths (budget_field n) 0) 16) widths_pass).0 in
       let slots : i < length row.widths = omega (arith, last, given_few row.count, row_widths (setup_fields last_region) line) in
       rw (width_at line count_passes i (omega arith)) at (wide_at row.widths (budget_field n) i (omega (arith, last)) slots wides)
 
@@ -124,10 +125,10 @@ module _ (line : List ℕ) (z : (read_setup (setup_row line)).question ≡ 0) wh
   unfolding read_setup
   budget_fits =
       let here : length (fields line) - 1 < length (fields line) = omega (arith, count_given (length (fields line)) count_passes) in
-      let narrow = second_half (all_wide (take (budget_field n) row.widths)) (leb (get_or row.widths (budget_field n) 0) 16) widths_pass in
+      let narrow = (and_parts (all_wide (take (budget_field n) row.widths)) (leb (get_or row.widths (budget_field n) 0) 16) widths_pass).1 in
       let low = leb (setup_of n row).budget 0xffffffff in
-      let range = second_half (leb (setup_of n row).options 0xff) (permissions_in_range (setup_of n row).regions && low) values_pass in
-      let most = leb-true (setup_of n row).budget 0xffffffff (second_half (permissions_in_range (setup_of n row).regions) low range) in (
+      let range = (and_parts (leb (setup_of n row).options 0xff) (permissions_in_range (setup_of n row).regions && low) values_pass).1 in
+      let most = leb-true (setup_of n row).budget 0xffffffff ((and_parts (permissions_in_range (setup_of n row).regions) low range).1) in (
         leb-true _ 16 (rw (last, width_at line count_passes (length (fields line) - 1) here) at narrow),
         rw (budget_is line count_passes) at most,
       )

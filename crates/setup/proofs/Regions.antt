@@ -8,7 +8,7 @@ use lib.Dec.{leb}
 use lib.ListN.{length, get_or, take, drop, set, replicate, length-replicate}
 use lib.Seq.{sets, sets-eq}
 use Rattle.std.specs.Simd.{first_chunks}
-use Rattle.std.proofs.lemmas.List.{get_or-take, get_or-drop, length-take-le, length-drop}
+use Rattle.std.proofs.lemmas.List.{get_or-take, get_or-drop, length-take-le, length-drop, drop-replicate}
 use Rattle.std.specs.List.{list_all}
 use Rattle.std.proofs.lemmas.List.Recursion.{same_from_clauses}
 use Rattle.model.specs.Machine.{last_region, no_region, regions_from}
@@ -16,16 +16,11 @@ use Rattle.model.specs.declared.Region.{Region}
 use Rattle.setup.specs.Setup.{permissions_in_range}
 
 -- ---- storing a list over the first of equal elements leaves the others
-drop_replicate : {A : Type 0} (k m : ℕ) (a : A) → drop k (replicate m a) ≡ replicate (m - k) a
-drop_replicate zero m a = let e : m ≡ m - 0 = omega arith in ap (λ j. replicate j a) e
-drop_replicate (suc k) zero a = let e : 0 ≡ 0 - suc k = omega arith in ap (λ j. replicate j a) e
-drop_replicate (suc k) (suc m) a = let e : m - k ≡ suc m - suc k = omega arith in drop_replicate k m a ∙ ap (λ j. replicate j a) e
-
 pub sets_over : {A : Type 0} (m : ℕ) (a : A) (l : List A) → length l ≤ m → sets (replicate m a) 0 l ≡ l ++ replicate (m - length l) a
 sets_over m a l h =
     let fits : 0 + length l ≤ length (replicate m a) = omega (arith, length-replicate m a) in
     let all : 0 + length l ≡ length l = omega arith in
-    sets-eq l (replicate m a) 0 fits ∙ ap (λ k. l ++ drop k (replicate m a)) all ∙ ap (λ k. l ++ k) (drop_replicate (length l) m a)
+    sets-eq l (replicate m a) 0 fits ∙ ap (λ k. l ++ drop k (replicate m a)) all ∙ ap (λ k. l ++ k) (drop-replicate (length l) m a)
 
 regions_length : (vs : List ℕ) (k n : ℕ) → length (regions_from vs k n) ≡ n
 regions_length vs k zero = refl

@@ -8,10 +8,11 @@ use lib.Dec.{eqb, leb, ltb}
 use lib.ListN.{length, get_or, drop, take, get_or-map, length-drop}
 use lib.Seq.{drop-drop}
 use borrow.Author.Tests.{leb-true, ltb-true, ltb-false, eqb-true, eq-eqb, ne_eqb}
+use Rattle.std.proofs.lemmas.Bool.{and_parts}
 use Rattle.text.specs.Scan.{newline, is, count, first_that, line_number, LineStart}
 use Rattle.text.specs.declared.row.Field.{Field}
 use Rattle.text.specs.Split.{FirstLine, lines, Row, row_as, row_of}
-use Rattle.text.proofs.Asking.{first_half, second_half, yes_at}
+use Rattle.text.proofs.Asking.{yes_at}
 use Rattle.std.specs.Prelude.{Option, Some, None}
 use Rattle.std.specs.List.{position_or_len, count_by, AllWithin, IsFirstMatchOrLen}
 use Rattle.std.proofs.lemmas.List.{take-append-le, length-take-le, get_or-drop}
@@ -45,8 +46,8 @@ unfolding read_word
 word_fits least r e =
     let w = word_of r in
     let range = yes_at 2 (word_questions least r w) refl e in
-    let top = second_half (eqb (w.address % 4) 0) (leb w.address 0xfffc && leb w.word 0xffffffff) range in
-    leb-true w.address 0xfffc (first_half (leb w.address 0xfffc) (leb w.word 0xffffffff) top)
+    let top = (and_parts (eqb (w.address % 4) 0) (leb w.address 0xfffc && leb w.word 0xffffffff) range).1 in
+    leb-true w.address 0xfffc ((and_parts (leb w.address 0xfffc) (leb w.word 0xffffffff) top).0)
 
 -- ---- what a passed file gives
 pub whole_parts : (s : List ℕ) → whole s ≡ true → (1 ≤ length s) × (length s ≤ 65536) × (get_or s (length s - 1) 0 ≡ newline)
@@ -54,10 +55,10 @@ whole_parts s all =
     let some = leb 1 (length s) in
     let few = leb (length s) 65536 in
     let ended = eqb (get_or s (length s - 1) 0) newline in
-    let most = second_half some (few && ended) all in (
-      leb-true 1 (length s) (first_half some (few && ended) all),
-      leb-true (length s) 65536 (first_half few ended most),
-      eqb-true (get_or s (length s - 1) 0) newline (second_half few ended most),
+    let most = (and_parts some (few && ended) all).1 in (
+      leb-true 1 (length s) ((and_parts some (few && ended) all).0),
+      leb-true (length s) 65536 ((and_parts few ended most).0),
+      eqb-true (get_or s (length s - 1) 0) newline ((and_parts few ended most).1),
     )
 
 pub file_whole : (s : List ℕ) → file_no s ≡ 0 → (1 ≤ length s) × (length s ≤ 65536) × (get_or s (length s - 1) 0 ≡ newline)

@@ -1,25 +1,13 @@
 -- Where the first no is 0, every question of the list was answered yes.
 use mathlib.Core.Path.{◌≡◌, refl}
-use mathlib.Core.Bool.{Bool, true, false, not, ◌&&◌}
+use mathlib.Core.Bool.{Bool, true, false, not, ◌&&◌, false≢true}
 use mathlib.Core.List.{List, [], ◌∷◌}
 use Prim.Native.Nat.{ℕ, zero, suc}
 use native.Mathlib.Omega.{arith}
 use lib.Dec.{eqb}
 use borrow.Author.Tests.{eq-eqb}
+use Rattle.std.proofs.lemmas.Bool.{and_parts}
 use Rattle.text.specs.Questions.{first_no}
-
--- false is not true
-no_way : {A : Type 0} → false ≡ true → A
-no_way e = let z : ◌≡◌ {A = ℕ} 0 1 = cc in let y : ⊥ = omega arith in absurd y
-
--- the two halves of a test
-pub first_half : (a b : Bool) → a && b ≡ true → a ≡ true
-first_half true b e = refl
-first_half false b e = no_way e
-
-pub second_half : (a b : Bool) → a && b ≡ true → b ≡ true
-second_half true b e = e
-second_half false b e = no_way e
 
 -- the test of question k, from 0 on
 abbrev pub test_at : ℕ → List (Bool × ℕ) → Bool
@@ -34,12 +22,12 @@ proper (q ∷ qs) = not (eqb q.1 0) && proper qs
 
 pub yes_at : (k : ℕ) (qs : List (Bool × ℕ)) → proper qs ≡ true → first_no qs ≡ 0 → test_at k qs ≡ true
 yes_at k [] p e = refl
-yes_at k (q ∷ qs) p e = by q.0 refl k (λ j u. yes_at j qs (second_half (not (eqb q.1 0)) (proper qs) p) u)
+yes_at k (q ∷ qs) p e = by q.0 refl k (λ j u. yes_at j qs ((and_parts (not (eqb q.1 0)) (proper qs) p).1) u)
   where
     by : (t : Bool) → q.0 ≡ t → (j : ℕ) → ((i : ℕ) → first_no qs ≡ 0 → test_at i qs ≡ true) → test_at j (q ∷ qs) ≡ true
     by true f zero g = f
     by true f (suc j) g = g j (rw f at e)
     by false f j g =
         let z : q.1 ≡ 0 = rw f at e in
-        let y : not (eqb q.1 0) ≡ true = first_half (not (eqb q.1 0)) (proper qs) p in
-        no_way (rw (eq-eqb q.1 0 z) at y)
+        let y : not (eqb q.1 0) ≡ true = (and_parts (not (eqb q.1 0)) (proper qs) p).0 in
+        absurd (false≢true (rw (eq-eqb q.1 0 z) at y))

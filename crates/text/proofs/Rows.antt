@@ -10,12 +10,12 @@ use lib.Seq.{sets, sets-eq, length-sets}
 use Rattle.std.proofs.lemmas.List.{map-set}
 use Rattle.std.specs.List.{list_all, slice_split, onto_first}
 use Rattle.std.proofs.lemmas.List.Recursion.{same_from_clauses}
+use Rattle.std.proofs.lemmas.Bool.{and_parts}
 use Rattle.text.specs.Number.{number}
 use Rattle.text.specs.declared.row.Field.{Field}
 use Rattle.text.specs.Scan.{is, comma}
 use Rattle.text.specs.Split.{push, split, values_of, widths_of, fields, Row, row_with, row_as, row_over, row_of, wide, all_wide}
 use Rattle.text.proofs.Writing.{stores_append}
-use Rattle.text.proofs.Asking.{first_half, second_half}
 
 -- the pieces that std cuts a line into are its fields
 pushed : (b : ℕ) (ps : List (List ℕ)) → onto_first b ps ≡ push b ps
@@ -60,8 +60,8 @@ pub wide_at : (ws : List ℕ) (n i : ℕ) → i < n → i < length ws → all_wi
 unfolding all_wide
 wide_at [] n i h k e = let z : ⊥ = omega arith in absurd z
 wide_at (w ∷ ws) zero i h k e = let z : ⊥ = omega arith in absurd z
-wide_at (w ∷ ws) (suc n) zero h k e = first_half (wide w) (all_wide (take n ws)) e
-wide_at (w ∷ ws) (suc n) (suc i) h k e = wide_at ws n i (omega arith) (omega arith) (second_half (wide w) (all_wide (take n ws)) e)
+wide_at (w ∷ ws) (suc n) zero h k e = (and_parts (wide w) (all_wide (take n ws)) e).0
+wide_at (w ∷ ws) (suc n) (suc i) h k e = wide_at ws n i (omega arith) (omega arith) ((and_parts (wide w) (all_wide (take n ws)) e).1)
 
 -- ---- a row in slots of 0
 sets_all : (l vs : List ℕ) → length l ≡ length vs → sets l 0 vs ≡ vs

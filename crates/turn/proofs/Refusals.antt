@@ -1,7 +1,7 @@
 -- No refusal has the number 0; and the slots that are asked.
 -- Assumes nothing.
 use Rattle.std.proofs.Common.{◌≡◌, List, [], ◌∷◌, ℕ, zero, suc, ◌+◌, ◌-◌, ◌<◌, ◌≤◌, length, refl, sym, ap, ◌∙◌, arith}
-use Rattle.std.proofs.lemmas.List.{get_or-take}
+use Rattle.std.proofs.lemmas.List.{get_or-take, get_or_default}
 use lib.ListN.{get_or, take}
 use Rattle.scheduler.specs.Turn.{refusal_number, slot, no_slot}
 use Rattle.scheduler.specs.declared.Slot.{Slot}
@@ -18,13 +18,8 @@ never_zero (CallRefused WritableCode) e = absurd (omega (arith, e))
 never_zero Unlocked e = absurd (omega (arith, e))
 
 -- a slot that is there, whatever is read where there is none
-read_alike : (ds : List Slot) (i : ℕ) (d e : Slot) → i < length ds → get_or ds i d ≡ get_or ds i e
-read_alike [] i d e h = absurd (omega (arith, h))
-read_alike (s ∷ ds) zero d e h = refl
-read_alike (s ∷ ds) (suc i) d e h = read_alike ds i d e (omega (arith, h))
-
 -- a slot of the first k, by its place, whatever is read where there is none
 pub taken_slot : (ds : List Slot) (k i : ℕ) (e : Slot) → i < k → k ≤ length ds → get_or (take k ds) i e ≡ slot ds (i + 1)
 taken_slot ds k i e l h =
     let back : i + 1 - 1 ≡ i = omega arith in
-    get_or-take k ds i e l ∙ read_alike ds i e no_slot (omega (arith, l, h)) ∙ ap (λ j. get_or ds j no_slot) (sym back)
+    get_or-take k ds i e l ∙ get_or_default ds i e no_slot (omega (arith, l, h)) ∙ ap (λ j. get_or ds j no_slot) (sym back)

@@ -4,8 +4,8 @@ use Rattle.std.proofs.Common.{◌≡◌, ℕ, suc, ◌+◌, ◌-◌, ◌*◌, �
 use native.Mathlib.Nat.{add-mul-mod_self_right}
 use lib.Pow.{pow-lt, high_ones}
 use lib.Bits.{bit_xor, xor_comm, xor_shifted, xor_block, xor_zero_r}
+use Rattle.std.proofs.lemmas.Nat.{one_shl}
 use Rattle.words.specs.Word.{field, sext, fits_signed}
-use Rattle.words.proofs.Shifts.{one_shl}
 
 -- k bits are two halves
 pub halves : (k : ℕ) → 0 < k → 2 ^ k ≡ 2 ^ (k - 1) + 2 ^ (k - 1)
@@ -93,7 +93,7 @@ xor_set j x l u =
 -- `(x ^ sign) - sign` of k bits, wrapping
 pub flip_law : (k x : ℕ) → 0 < k → k < 64 → x < 2 ^ k
     → (bit_xor x (1 * 2 ^ (k - 1) % 2 ^ 64) + (2 ^ 64 - 1 * 2 ^ (k - 1) % 2 ^ 64)) % 2 ^ 64 ≡ sext k x
-flip_law k x h u l = rw (one_shl (k - 1) (omega arith)) (go (ltb x (2 ^ (k - 1))) refl (omega arith))
+flip_law k x h u l = rw (one_shl (k - 1) 64 (omega arith)) (go (ltb x (2 ^ (k - 1))) refl (omega arith))
   where
     go : (b : Bool) → ltb x (2 ^ (k - 1)) ≡ b → k - 1 < 63 → (bit_xor x (2 ^ (k - 1)) + (2 ^ 64 - 2 ^ (k - 1))) % 2 ^ 64 ≡ sext k x
     go true t j =

@@ -4,10 +4,6 @@ use Rattle.std.proofs.Common.{◌≡◌, ℕ, ◌+◌, ◌*◌, ◌%◌, ◌^◌
 use lib.Pow.{pow-lt}
 use lib.Bits.{bit_or, or_shifted_r}
 
--- `1 << k`
-pub one_shl : (k : ℕ) → k < 64 → 1 * 2 ^ k % 2 ^ 64 ≡ 2 ^ k
-one_shl k h = rw one-mul (mod-eq_of_lt (pow-lt h))
-
 -- `low | (high << k)`
 pub or_above : (low high k : ℕ) → low < 2 ^ k → high * 2 ^ k < 2 ^ 64 → bit_or low (high * 2 ^ k % 2 ^ 64) ≡ high * 2 ^ k + low
 or_above low high k h fits = ap (bit_or low) (mod-eq_of_lt fits) ∙ or_shifted_r high k low h
