@@ -13,7 +13,7 @@ use instructions::instruction::Instruction;
 use std::io;
 use std::rt::Files;
 
-// Document 01's number. There are these two, and an enum for them would have this same match.
+// Document 01's number: 0 of a legal word, 13 of another. (`model` has the second as that of a stop; this program is built on decoder and encoder alone.)
 fn number_of(d: Option<Instruction>) -> u64
     ensures { result ≡ decode_number d }
 {

@@ -24,15 +24,10 @@ impl From<Result<(), Stop>> for StepStop {
     ghost from_gives = { λ r s. s ≡ record { stop = number_of r; address = address_of r } };
 
     fn from(r: Result<(), Stop>) -> StepStop {
-        match r {
-            Ok(()) => StepStop {
-                stop: 0,
-                address: 0,
-            },
-            Err(stop) => StepStop {
-                stop: stop.number(),
-                address: stop.address(),
-            },
+        let stop = r.err();
+        StepStop {
+            stop: stop.map_or(0, Stop::number),
+            address: stop.map_or(0, Stop::address),
         }
     }
 }
