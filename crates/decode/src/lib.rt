@@ -9,7 +9,7 @@ pub mod word;
 
 use crate::word::Word;
 use instructions::hfi_table::fields_named;
-use instructions::instruction::{EXPLICIT_REGIONS, Instruction};
+use instructions::instruction::Instruction;
 use instructions::opcode;
 use words::{bits, put};
 
@@ -69,12 +69,18 @@ fn decode_system(w: Word) -> Option<Instruction>
     }
 }
 
-// The explicit region that rs1's field and the other, rd's or rs2's, choose by their top bits.
+// The explicit region that rs1's field and the other, rd's or rs2's, choose by their top bits. No `EXPLICIT_REGIONS[..]`: with it the guest
+// program `copy` takes 201 instructions a step, more than plain C with the same checks (187); with the match MATCH.
 fn chosen_region(rs1: u64, other: u64) -> u64
     ensures { result ≡ chosen_region rs1 other }
 {
     let choice = put(bits(other, 4, 1), bits(rs1, 4, 1), 1);
-    EXPLICIT_REGIONS[choice as usize]
+    match choice {
+        0 => 1,
+        1 => 4,
+        2 => 5,
+        _ => 6,
+    }
 }
 
 // A load and a store stay two: they are of two formats, and choose their region by two other fields.
