@@ -30,7 +30,8 @@ fn outside(h: &HfiState) -> bool
     h.mode == 0
 }
 
-// The lowest-numbered implicit region that matches the byte at `a`, or 0: the fault record's own number for none.
+// The lowest-numbered implicit region that matches the byte at `a`, or 0: the fault record's own number for none. An Option would be no plainer: any `ns`
+// may be asked, and of one with a 0 in it the 0 can match, so `grants` would write `first_match(..).is_some_and(|n| n != 0 && ..)` and turn it away all the same.
 pub fn first_match(rs: &[Region; REGIONS], ns: &[u64], a: u64) -> u64
     ensures { result ≡ first_match rs.now ns.now a }
 {
@@ -49,8 +50,10 @@ pub fn grants(rs: &[Region; REGIONS], ns: &[u64], wanted: Permission, a: u64) ->
     (n != 0) & permits(wanted, region_at(rs, n))
 }
 
-// The first of the `n` bytes of an access that does not pass, or `n`, the place past the last, as the definition answers it. Document 01 asks for
-// this loop over the bytes, left by break with the refused place.
+// The first of the `n` bytes of an access that does not pass, or `n`, the place past the last. Document 01 asks for this loop over the bytes, left by break
+// with the refused place. An Option would be no plainer: the definitions (`scan`, `first_refused`, `first_absent`) answer n for none, and each contract is
+// one equation with them. Of an Option it would be two clauses, `unwrap_or result n ≡ scan ok 0 n` and that a Some is less than n, and a caller's
+// `if i < n` would be `if let Some(i) = ..`, no shorter.
 #[tactic(auto, using(model::proofs::Scan::scan_next, model::proofs::Scan::scan_here, model::proofs::Scan::scan_end))]
 fn first_failing<F: Fn(u64) -> bool>(n: u64, passes: F) -> u64
     requires { (i : ℕ) → i < n → F.pre passes i }
@@ -68,7 +71,7 @@ fn first_failing<F: Fn(u64) -> bool>(n: u64, passes: F) -> u64
     }
 }
 
-// The first byte that is not granted, or `n`.
+// The first byte that is not granted, or the count (no Option: see `first_failing`).
 fn first_refused_implicit(h: &HfiState, access: Access) -> u64
     ensures { result ≡ first_refused h.now.mode (implicit_access h.now.regions access.entry.regions.now (permission_bit access.entry.wanted) access.entry.first access.entry.count) }
 {
@@ -132,7 +135,7 @@ fn grants_whole(rs: &[Region; REGIONS], access: Access) -> bool
 // below, the sum is the offset as a signed number of 64 bits, and one before the region's start wraps far beyond the bound.
 const FAR: u64 = 0x4000_0000_0000_0000;
 
-// The first byte that the explicit region does not grant, or `n`.
+// The first byte that the explicit region does not grant, or `n` (no Option: see `first_failing`).
 #[inline(always)]
 fn first_refused_explicit(
     h: &HfiState,
@@ -156,7 +159,8 @@ fn first_refused_explicit(
     )
 }
 
-// The first byte that is not in a memory of `len` bytes, or `n`: memory is one piece from 0 on, so it is byte 0 or the one at the end.
+// The first byte that is not in a memory of `len` bytes, or `n` (no Option: see `first_failing`): memory is one piece from 0 on, so it is byte 0 or the
+// one at the end.
 #[tactic(auto, using(crate::proofs::Absent::absent_past, crate::proofs::Absent::absent_first))]
 fn first_absent(len: u64, a: u64, n: u64) -> u64
     ensures { result ≡ first_absent len a n }

@@ -17,7 +17,7 @@ pub fn permits(wanted: Permission, r: Region) -> bool
 pub fn mask_zeros(mask: u64) -> u64
     ensures { result ≡ mask_zeros mask }
 {
-    u64::trailing_zeros(mask) as u64
+    mask.trailing_zeros() as u64
 }
 
 // Does an implicit region keep its rule?
