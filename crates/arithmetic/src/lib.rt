@@ -5,7 +5,7 @@ ghost use Rattle.std.specs.Prelude.{◌≡◌, ◌*◌, ◌^◌, ◌<◌};
 ghost use Rattle.instructions.specs.declared.kind.RegisterKind.TheVariants.{Add};
 ghost use Rattle.model.specs.Access.{load_width};
 ghost use Rattle.model.specs.Step.{jalr_target};
-ghost use Rattle.model.specs.Arithmetic.{flag as flag_of, operate as operate_at, operate_word, of_register_word, of_immediate, of_shift, of_shift_word, taken as is_taken, extended as extended_of};
+ghost use Rattle.model.specs.Arithmetic.{operate as operate_at, operate_word, of_register_word, of_immediate, of_shift, of_shift_word, taken as is_taken, extended as extended_of};
 
 use instructions::kind::{
     BranchKind, ImmediateKind, LoadKind, RegisterKind, RegisterWordKind, ShiftKind, ShiftWordKind,
@@ -16,13 +16,6 @@ use words::integer::{
 };
 use words::{bits, shift_right_signed, sign_extend, signed_less};
 
-// What a comparison puts into rd. Named as the definition is, and no plainer written out each time.
-fn flag(t: bool) -> u64
-    ensures { result ≡ flag_of t }
-{
-    t as u64
-}
-
 // An operation on 64 bits.
 pub fn operate(k: RegisterKind, a: u64, b: u64) -> u64
     ensures { result ≡ operate_at 64 k a b }
@@ -31,8 +24,8 @@ pub fn operate(k: RegisterKind, a: u64, b: u64) -> u64
         RegisterKind::Add => a.wrapping_add(b),
         RegisterKind::Sub => a.wrapping_sub(b),
         RegisterKind::Sll => a << (b % 64),
-        RegisterKind::Slt => flag(signed_less(a, b)),
-        RegisterKind::Sltu => flag(a < b),
+        RegisterKind::Slt => u64::from(signed_less(a, b)),
+        RegisterKind::Sltu => u64::from(a < b),
         RegisterKind::Xor => a ^ b,
         RegisterKind::Srl => a >> (b % 64),
         RegisterKind::Sra => shift_right_signed(a, 64, b % 64),
@@ -49,14 +42,15 @@ pub fn operate(k: RegisterKind, a: u64, b: u64) -> u64
     }
 }
 
-// The same with an immediate, or an amount. `operate` has one caller without them, and stays part of the run's loop.
+// The same with an immediate, or an amount. `operate` has one caller without them, and stays part of the run's loop: with these as calls of it, crc-32
+// took 141.6 instructions a step, where plain C takes 132.9, and so 132.2 (bench/README.md).
 pub fn operate_immediate(k: ImmediateKind, a: u64, imm: u64) -> u64
     ensures { result ≡ operate_at 64 (of_immediate k) a imm }
 {
     match k {
         ImmediateKind::Addi => a.wrapping_add(imm),
-        ImmediateKind::Slti => flag(signed_less(a, imm)),
-        ImmediateKind::Sltiu => flag(a < imm),
+        ImmediateKind::Slti => u64::from(signed_less(a, imm)),
+        ImmediateKind::Sltiu => u64::from(a < imm),
         ImmediateKind::Xori => a ^ imm,
         ImmediateKind::Ori => a | imm,
         ImmediateKind::Andi => a & imm,
@@ -74,22 +68,21 @@ pub fn operate_shift(k: ShiftKind, a: u64, amount: u64) -> u64
 }
 
 // An operation on 32 bits, of the kinds that have a word form.
-#[tactic(auto, using(words::proofs::Quotients::quotient_lt, words::proofs::Quotients::remainder_lt, words::proofs::Products::low_signed, crate::proofs::Word::narrow))]
-fn operate_32(k: RegisterWordKind, a: u64, b: u64) -> u64
-    requires { (a < 2 ^ 32) × (b < 2 ^ 32) }
-    ensures { (result ≡ operate_at 32 (of_register_word k) a b) × (result < 2 ^ 32) }
+#[tactic(auto, using(words::proofs::Residues::word_lt, words::proofs::Quotients::quotient_lt, words::proofs::Quotients::remainder_lt, words::proofs::Products::low_signed, crate::proofs::Word::narrow))]
+fn operate_32(k: RegisterWordKind, a: u32, b: u32) -> u32
+    ensures { result ≡ operate_at 32 (of_register_word k) a b }
 {
     match k {
-        RegisterWordKind::Addw => bits(a + b, 0, 32),
-        RegisterWordKind::Subw => bits(a + (0x1_0000_0000 - b), 0, 32),
-        RegisterWordKind::Sllw => bits(a << (b % 32), 0, 32),
+        RegisterWordKind::Addw => a.wrapping_add(b),
+        RegisterWordKind::Subw => a.wrapping_sub(b),
+        RegisterWordKind::Sllw => a << (b % 32),
         RegisterWordKind::Srlw => a >> (b % 32),
-        RegisterWordKind::Sraw => shift_right_signed(a, 32, b % 32),
-        RegisterWordKind::Mulw => bits(a * b, 0, 32),
-        RegisterWordKind::Divw => divide_signed(a, b, 32),
-        RegisterWordKind::Divuw => divide(a, b, 32),
-        RegisterWordKind::Remw => remainder_signed(a, b, 32),
-        RegisterWordKind::Remuw => remainder(a, b),
+        RegisterWordKind::Sraw => shift_right_signed(a as u64, 32, b as u64 % 32) as u32,
+        RegisterWordKind::Mulw => a.wrapping_mul(b),
+        RegisterWordKind::Divw => divide_signed(a as u64, b as u64, 32) as u32,
+        RegisterWordKind::Divuw => divide(a as u64, b as u64, 32) as u32,
+        RegisterWordKind::Remw => remainder_signed(a as u64, b as u64, 32) as u32,
+        RegisterWordKind::Remuw => remainder(a as u64, b as u64) as u32,
     }
 }
 
@@ -97,10 +90,12 @@ fn operate_32(k: RegisterWordKind, a: u64, b: u64) -> u64
 pub fn operate_word(k: RegisterWordKind, a: u64, b: u64) -> u64
     ensures { result ≡ operate_word (of_register_word k) a b }
 {
-    sign_extend(operate_32(k, bits(a, 0, 32), bits(b, 0, 32)), 32)
+    let low = operate_32(k, bits(a, 0, 32) as u32, bits(b, 0, 32) as u32);
+    sign_extend(low as u64, 32)
 }
 
-// ADDIW: the word form of ADD with an immediate. Apart from `operate_word`, which is no part of the run's loop, as this is.
+// ADDIW: the word form of ADD with an immediate. Apart from `operate_word`, which is no part of the run's loop, as this is: with `operate_word` in the
+// loop too, crc-32 took 135.8 instructions a step, where plain C takes 132.9, and so 132.2 (bench/README.md).
 pub fn add_word(a: u64, imm: u64) -> u64
     ensures { result ≡ operate_word Add a imm }
 {
@@ -135,7 +130,7 @@ pub fn taken(k: BranchKind, a: u64, b: u64) -> bool
         BranchKind::Blt => signed_less(a, b),
         BranchKind::Bge => !signed_less(a, b),
         BranchKind::Bltu => a < b,
-        BranchKind::Bgeu => !(a < b),
+        BranchKind::Bgeu => a >= b,
     }
 }
 
@@ -148,9 +143,6 @@ pub fn extended(k: LoadKind, v: u64) -> u64
         LoadKind::Lb => sign_extend(v, 8),
         LoadKind::Lh => sign_extend(v, 16),
         LoadKind::Lw => sign_extend(v, 32),
-        LoadKind::Ld => v,
-        LoadKind::Lbu => v,
-        LoadKind::Lhu => v,
-        LoadKind::Lwu => v,
+        LoadKind::Ld | LoadKind::Lbu | LoadKind::Lhu | LoadKind::Lwu => v,
     }
 }

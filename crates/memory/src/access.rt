@@ -30,7 +30,8 @@ fn outside(h: &HfiState) -> bool
     h.mode == 0
 }
 
-// The lowest-numbered implicit region that matches the byte at `a`, or 0: the fault record's own number for none.
+// The lowest-numbered implicit region that matches the byte at `a`, or 0: the fault record's own number for none. An Option would be no plainer: any `ns`
+// may be asked, and of one with a 0 in it the 0 can match, so `grants` would write `first_match(..).is_some_and(|n| n != 0 && ..)` and turn it away all the same.
 pub fn first_match(rs: &[Region; REGIONS], ns: &[u64], a: u64) -> u64
     ensures { result ≡ first_match rs.now ns.now a }
 {
@@ -46,11 +47,13 @@ pub fn grants(rs: &[Region; REGIONS], ns: &[u64], wanted: Permission, a: u64) ->
     ensures { result ≡ implicit_grants rs.now ns.now (permission_bit wanted) a }
 {
     let n = first_match(rs, ns, a);
-    (n != 0) & permits(wanted, region_at(rs, n))
+    n != 0 && permits(wanted, region_at(rs, n))
 }
 
-// The first of the `n` bytes of an access that does not pass, or `n`, the place past the last, as the definition answers it. Document 01 asks for
-// this loop over the bytes, left by break with the refused place.
+// The first of the `n` bytes of an access that does not pass, or `n`, the place past the last. Document 01 asks for this loop over the bytes, left by break
+// with the refused place. An Option would be no plainer: the definitions (`scan`, `first_refused`, `first_absent`) answer n for none, and each contract is
+// one equation with them. Of an Option it would be two clauses, `unwrap_or result n ≡ scan ok 0 n` and that a Some is less than n, and a caller's
+// `if i < n` would be `if let Some(i) = ..`, no shorter.
 #[tactic(auto, using(model::proofs::Scan::scan_next, model::proofs::Scan::scan_here, model::proofs::Scan::scan_end))]
 fn first_failing<F: Fn(u64) -> bool>(n: u64, passes: F) -> u64
     requires { (i : ℕ) → i < n → F.pre passes i }
@@ -68,7 +71,7 @@ fn first_failing<F: Fn(u64) -> bool>(n: u64, passes: F) -> u64
     }
 }
 
-// The first byte that is not granted, or `n`.
+// The first byte that is not granted, or the count (no Option: see `first_failing`).
 fn first_refused_implicit(h: &HfiState, access: Access) -> u64
     ensures { result ≡ first_refused h.now.mode (implicit_access h.now.regions access.entry.regions.now (permission_bit access.entry.wanted) access.entry.first access.entry.count) }
 {
@@ -88,11 +91,7 @@ fn first_refused_implicit(h: &HfiState, access: Access) -> u64
 fn has_whole(r: Region, wanted: Permission, a: u64, last: u64) -> bool
     ensures { result ≡ has_whole r (permission_bit wanted) a last }
 {
-    if ((a & r.bound) == r.base) & (((last & r.bound) == r.base) & permits(wanted, r)) {
-        implicit_rule(r)
-    } else {
-        false
-    }
+    (a & r.bound) == r.base && (last & r.bound) == r.base && permits(wanted, r) && implicit_rule(r)
 }
 
 // Does it keep its rule and have one of the `n` bytes that end with `last`? Counted from base on, and round from 2^64 to 0, `last` is
@@ -101,11 +100,7 @@ fn touches(r: Region, last: u64, n: u64) -> bool
     requires { 0 < n }
     ensures { result ≡ is_touched r last n }
 {
-    if last.wrapping_sub(r.base) <= (!r.bound).wrapping_add(n - 1) {
-        implicit_rule(r)
-    } else {
-        false
-    }
+    last.wrapping_sub(r.base) <= (!r.bound).wrapping_add(n - 1) && implicit_rule(r)
 }
 
 // Does the first region that has a byte of the access have all of them, with the permission? Then it decides each of them. A rule is
@@ -132,7 +127,7 @@ fn grants_whole(rs: &[Region; REGIONS], access: Access) -> bool
 // below, the sum is the offset as a signed number of 64 bits, and one before the region's start wraps far beyond the bound.
 const FAR: u64 = 0x4000_0000_0000_0000;
 
-// The first byte that the explicit region does not grant, or `n`.
+// The first byte that the explicit region does not grant, or `n` (no Option: see `first_failing`).
 #[inline(always)]
 fn first_refused_explicit(
     h: &HfiState,
@@ -156,7 +151,8 @@ fn first_refused_explicit(
     )
 }
 
-// The first byte that is not in a memory of `len` bytes, or `n`: memory is one piece from 0 on, so it is byte 0 or the one at the end.
+// The first byte that is not in a memory of `len` bytes, or `n` (no Option: see `first_failing`): memory is one piece from 0 on, so it is byte 0 or the
+// one at the end.
 #[tactic(auto, using(crate::proofs::Absent::absent_past, crate::proofs::Absent::absent_first))]
 fn first_absent(len: u64, a: u64, n: u64) -> u64
     ensures { result ≡ first_absent len a n }
@@ -189,7 +185,8 @@ fn check_bytes(h: &HfiState, len: u64, access: Access) -> Result<(), Denied>
     presence(len, access.first, access.count)
 }
 
-// Is no byte refused, as the mode or one region tells? Part of its callers, as `grants_whole` is: a call of it costs some 50 instructions a step.
+// Is no byte refused, as the mode or one region tells? Part of its callers, as `grants_whole` is: a call of it costs some 50 instructions a step, where
+// sieve takes 147.0 with it so, and plain C 149.4.
 #[inline(always)]
 fn passes_whole(h: &HfiState, access: Access) -> bool
     ensures { result ≡ passes_whole h.now.mode h.now.regions access.entry.regions.now (permission_bit access.entry.wanted) access.entry.first access.entry.count }
@@ -201,17 +198,13 @@ fn passes_whole(h: &HfiState, access: Access) -> bool
 pub fn fetches_whole(h: &HfiState, len: u64, pc: u64) -> bool
     ensures { result ≡ fetches_whole h.now.mode h.now.regions len pc }
 {
-    if (pc < len) & (4 <= len.wrapping_sub(pc)) {
-        let word = Access {
-            regions: &CODE_REGIONS,
-            wanted: Permission::Execute,
-            first: pc,
-            count: 4,
-        };
-        passes_whole(h, word)
-    } else {
-        false
-    }
+    let word = Access {
+        regions: &CODE_REGIONS,
+        wanted: Permission::Execute,
+        first: pc,
+        count: 4,
+    };
+    pc < len && 4 <= len - pc && passes_whole(h, word)
 }
 
 // Questions 5 and 6 of the two bytes at `a`.

@@ -17,7 +17,7 @@ pub fn permits(wanted: Permission, r: Region) -> bool
 pub fn mask_zeros(mask: u64) -> u64
     ensures { result ≡ mask_zeros mask }
 {
-    u64::trailing_zeros(mask) as u64
+    mask.trailing_zeros() as u64
 }
 
 // Does an implicit region keep its rule?
@@ -29,6 +29,7 @@ pub fn implicit_rule(r: Region) -> bool
         return false;
     }
     let low = (1u64 << k) - 1;
+    // By `&`, since the law of the rule is one equation of all three tests: with `&&` it was tried, and two goals stayed open, of what is left after each test.
     (r.bound == !low) & (((r.base & low) == 0) & (r.base <= 0x1_0000_0000_0000 - (low + 1)))
 }
 
@@ -42,11 +43,10 @@ fn ends_low(r: Region) -> bool
 fn small_rule(r: Region) -> bool
     ensures { result ≡ small_rule r }
 {
-    if (1 <= r.bound) & ((r.bound <= 0x1_0000_0000) & ends_low(r)) {
-        (r.base >> 32) == ((r.base + (r.bound - 1)) >> 32)
-    } else {
-        false
-    }
+    1 <= r.bound
+        && r.bound <= 0x1_0000_0000
+        && ends_low(r)
+        && (r.base >> 32) == ((r.base + (r.bound - 1)) >> 32)
 }
 
 fn large_rule(r: Region) -> bool
@@ -72,5 +72,5 @@ pub fn explicit_rule(r: Region) -> bool
 pub fn matches(r: Region, a: u64) -> bool
     ensures { result ≡ is_matched r a }
 {
-    implicit_rule(r) & ((a & r.bound) == r.base)
+    implicit_rule(r) && (a & r.bound) == r.base
 }

@@ -8,13 +8,10 @@ pub fn load_width(k: LoadKind) -> u64
     ensures { result ≡ load_width k }
 {
     match k {
-        LoadKind::Lb => 1,
-        LoadKind::Lh => 2,
-        LoadKind::Lw => 4,
+        LoadKind::Lb | LoadKind::Lbu => 1,
+        LoadKind::Lh | LoadKind::Lhu => 2,
+        LoadKind::Lw | LoadKind::Lwu => 4,
         LoadKind::Ld => 8,
-        LoadKind::Lbu => 1,
-        LoadKind::Lhu => 2,
-        LoadKind::Lwu => 4,
     }
 }
 

@@ -1,6 +1,7 @@
 -- Quotients and remainders over the width, by magnitudes and signs.
 -- Assumes nothing.
-use Rattle.std.proofs.Common.{◌≡◌, ℕ, suc, ◌+◌, ◌-◌, ◌/◌, ◌%◌, ◌^◌, ◌<◌, Bool, true, false, cond, not, ◌&&◌, eqb, ℤ, pos, negsuc, neg_ℤ, nat_abs, sym, refl, ap, ◌∙◌, true≢false, lt_of_lt_of_le, lt_of_le_of_lt, lt_irrefl, mod-eq_of_lt, div-le_self, arith, pow_pos, lt-ltb, eq-eqb, ne_eqb, eqb-true}
+use Rattle.std.proofs.Common.{◌≡◌, ℕ, zero, suc, Option, Some, None, ◌+◌, ◌-◌, ◌/◌, ◌%◌, ◌^◌, ◌<◌, Bool, true, false, cond, not, ◌&&◌, eqb, ℤ, pos, negsuc, neg_ℤ, nat_abs, sym, refl, ap, ◌∙◌, true≢false, lt_of_lt_of_le, lt_of_le_of_lt, lt_irrefl, mod-eq_of_lt, div-le_self, arith, pow_pos, lt-ltb, eq-eqb, ne_eqb, eqb-true}
+use Rattle.std.specs.Option.{SomeIff, unwrap_or}
 use mathlib.Core.Bool.{xor}
 use native.Mathlib.Nat.{mod-zero, mod-le, mod_self}
 use lib.Pow.{ones_lt}
@@ -97,6 +98,12 @@ quotient_lt w n d = go (eqb (nat_abs d) 0) refl
 pub quotient_unsigned : (w a b : ℕ) → a < 2 ^ w → (b ≡ 0 → ⊥) → quotient w (pos a) (pos b) ≡ a / b
 quotient_unsigned w a b h e = quotient_word w (pos a) (pos b) e ∙ mod-eq_of_lt (lt_of_le_of_lt (div-le_self a b) h)
 
+-- the checked quotient, and all ones where there is none
+pub quotient_checked : (w a b : ℕ) {t : ℕ} (q : Option ℕ) → a < 2 ^ w → SomeIff q (0 < b) (a / b) → t ≡ 2 ^ w - 1 → unwrap_or q t ≡ quotient w (pos a) (pos b)
+quotient_checked w a zero None h s e = e ∙ sym (quotient_by_zero w (pos a) (pos 0) refl)
+quotient_checked w a (suc b) None h s e = absurd (s (omega arith))
+quotient_checked w a b (Some x) h s e = s.1 ∙ sym (quotient_unsigned w a b h (λ z. omega (arith, s.0, z)))
+
 -- ---- remainders
 
 pub rem_zero : (n d : ℤ) → nat_abs d ≡ 0 → n ≡ rem_z n d
@@ -117,6 +124,12 @@ remainder_lt w n d = rw (remainder_word w n d) (word_lt w (rem_z n d))
 
 pub remainder_unsigned : (w a b : ℕ) → a < 2 ^ w → remainder w (pos a) (pos b) ≡ a % b
 remainder_unsigned w a b h = remainder_word w (pos a) (pos b) ∙ mod-eq_of_lt (lt_of_le_of_lt (mod-le a b) h)
+
+-- the checked remainder, and the dividend where there is none
+pub remainder_checked : (w a b : ℕ) (q : Option ℕ) → a < 2 ^ w → SomeIff q (0 < b) (a % b) → unwrap_or q a ≡ remainder w (pos a) (pos b)
+remainder_checked w a zero None h s = sym (remainder_unsigned w a 0 h ∙ mod-zero a)
+remainder_checked w a (suc b) None h s = absurd (s (omega arith))
+remainder_checked w a b (Some x) h s = s.1 ∙ sym (remainder_unsigned w a b h)
 
 -- ---- signed operands: their magnitudes m and n, and whether they are negative, p and q
 

@@ -1,7 +1,6 @@
 -- Shifts and masks of 64 bits as arithmetic.
 -- Assumes nothing.
-use Rattle.std.proofs.Common.{◌≡◌, ℕ, ◌+◌, ◌*◌, ◌%◌, ◌^◌, ◌<◌, ap, ◌∙◌, mod-eq_of_lt, one-mul}
-use lib.Pow.{pow-lt}
+use Rattle.std.proofs.Common.{◌≡◌, ℕ, ◌+◌, ◌*◌, ◌%◌, ◌^◌, ◌<◌, ap, ◌∙◌, mod-eq_of_lt}
 use lib.Bits.{bit_or, or_shifted_r}
 
 -- `low | (high << k)`

@@ -1,5 +1,7 @@
 // Integer multiplication and division, the specification's chapter "M". Signed high halves are had from the unsigned one, signed
-// quotients and remainders from those of the magnitudes.
+// quotients and remainders from those of the magnitudes. i64's own wrapping_div, wrapping_rem and `>>` (for the root's `shift_right_signed`) are of 64 bits
+// alone: word forms share the facts of the 64-bit ones, shown over the width (document 02, Job 2), so each function here serves 64 bits and 32 by one
+// law over the width. Of i64 and i32 it would be two functions, with a law each from std's definition to this one.
 // A number and its width stay two parameters, with `a < 2 ^ width` at each function: a struct of both, which would carry that, would be made of
 // plain registers at each of the callers' six calls, to be taken apart here at once; and with a const parameter in place of the width the fact would stay.
 ghost use Rattle.std.specs.Prelude.{◌≡◌, ◌^◌, ◌<◌, ◌≤◌, pos, ◌*ℤ◌, neg_ℤ, if◌then◌else◌, unsigned_abs};
@@ -68,19 +70,20 @@ fn magnitude(x: u64, width: u64) -> u64
 }
 
 // The quotient, unsigned.
+#[tactic(auto, using(crate::proofs::Quotients::quotient_checked))]
 pub fn divide(a: u64, b: u64, width: u64) -> u64
     requires { (0 < width) × (width ≤ 64) × (a < 2 ^ width) }
     ensures { result ≡ quotient width (pos a) (pos b) }
 {
-    let top = ones(width);
-    if b == 0 { top } else { a / b }
+    a.checked_div(b).unwrap_or(ones(width))
 }
 
 // The remainder, unsigned.
+#[tactic(auto, using(crate::proofs::Quotients::remainder_checked))]
 pub fn remainder(a: u64, b: u64) -> u64
     ensures { result ≡ remainder_of 64 (pos a) (pos b) }
 {
-    if b == 0 { a } else { a % b }
+    a.checked_rem(b).unwrap_or(a)
 }
 
 // The quotient, signed: that of the magnitudes, negative where the signs differ.

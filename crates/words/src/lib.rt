@@ -57,7 +57,7 @@ pub fn ones(width: u64) -> u64
     requires { (0 < width) × (width ≤ 64) }
     ensures { result ≡ 2 ^ width - 1 }
 {
-    0xffff_ffff_ffff_ffff >> (64 - width)
+    u64::MAX >> (64 - width)
 }
 
 // Do the `width` bits `x` stand for a number below 0?
