@@ -185,8 +185,8 @@ fn check_bytes(h: &HfiState, len: u64, access: Access) -> Result<(), Denied>
     presence(len, access.first, access.count)
 }
 
-// Is no byte refused, as the mode or one region tells? Part of its callers, as `grants_whole` is: a call of it costs some 50 instructions a step, where
-// sieve takes 147.0 with it so, and plain C 149.4.
+// Is no byte refused, as the mode or one region tells? Part of its callers, as `grants_whole` is: as calls they put every guest
+// program past plain C with the same checks (crc-32 took 175 instructions a step, where C takes 133 and this 124).
 #[inline(always)]
 fn passes_whole(h: &HfiState, access: Access) -> bool
     ensures { result ≡ passes_whole h.now.mode h.now.regions access.entry.regions.now (permission_bit access.entry.wanted) access.entry.first access.entry.count }
