@@ -1,12 +1,12 @@
 // The fields of a line as numbers, each field read once.
-ghost use Rattle.std.specs.Prelude.{◌≡◌, set};
+ghost use Rattle.std.specs.Prelude.{◌≡◌, ◌≤◌, set};
 ghost use Rattle.text.specs.Split.{row_as, row_of, row_over, all_wide, values_of, widths_of};
 
 use crate::number::number;
 
 // A field as read: its number, and how many digits it has. A field that a line lacks is as an empty one, all zero: the count of the
 // fields tells them apart.
-#[derive(Clone, Copy)]
+#[derive(Clone, Copy, Default)]
 pub struct Field {
     pub value: u64,
     pub width: u64,
@@ -42,9 +42,17 @@ fn read_into(line: &[u8], slots: &mut [Field]) -> usize
 pub fn read_row<const N: usize>(line: &[u8]) -> (usize, [Field; N])
     ensures { row_as result.0 result.1 ≡ row_of N line.now }
 {
-    let mut slots = [Field { value: 0, width: 0 }; N];
+    let mut slots = [Field::default(); N];
     let count = read_into(line, &mut slots);
     (count, slots)
+}
+
+// The fields' numbers.
+pub fn values<const N: usize>(fields: [Field; N]) -> [u64; N]
+    requires { N ≤ 4096 }
+    ensures { result ≡ values_of fields.entry }
+{
+    fields.map(|f| f.value)
 }
 
 // Has each field 1 to 16 digits?
