@@ -12,7 +12,8 @@ pub struct Field {
     pub width: u64,
 }
 
-// A field in slot k, where there is such a slot. Tried by `get_mut`: the proof did not close.
+// A field in slot k, where there is such a slot. Tried by `get_mut`: the proof did not close, since once that borrow is over a proof
+// knows the slots' number and not what they hold.
 fn fill(slots: &mut [Field], k: usize, f: Field)
     ensures { slots.new ≡ set slots.old k f }
 {
@@ -21,8 +22,9 @@ fn fill(slots: &mut [Field], k: usize, f: Field)
     }
 }
 
-// A line's fields, in as many slots as are lent, and how many fields there are. Counted by hand, since the count
-// is answered too, and `enumerate` drops it at the loop's end.
+// A line's fields, in as many slots as are lent, and how many fields there are. Counted by hand, since the count is answered too:
+// `enumerate` drops it at the loop's end, and `line.split(..).count()` after the loop says the split a second time and looks at each byte
+// again. Tried by `slots.iter_mut().zip(line.split(..))`: the proof did not close, for the reason that `fill` has.
 fn read_into(line: &[u8], slots: &mut [Field]) -> usize
     ensures { row_as result slots.new ≡ row_over (values_of slots.old) (widths_of slots.old) line.now }
 {
@@ -47,7 +49,7 @@ pub fn read_row<const N: usize>(line: &[u8]) -> (usize, [Field; N])
     (count, slots)
 }
 
-// The fields' numbers.
+// The fields' numbers. (The bound is for std's `map`, which asks that room for both arrays fits.)
 pub fn values<const N: usize>(fields: [Field; N]) -> [u64; N]
     requires { N ≤ 4096 }
     ensures { result ≡ values_of fields.entry }
