@@ -147,7 +147,8 @@ pub fn read_setup(line: &[u8]) -> Result<Setup, Question>
     Ok(setup)
 }
 
-// The machine in HFI mode, with the values of line 1; all else is 0.
+// The machine in HFI mode, with the values of line 1; all else is 0. A function, not `From`: `Machine::from(s)` would not say that this is
+// the machine that the definition of this name starts a run from, and the public function would stay beside it.
 pub fn machine_of(s: Setup) -> Machine
     ensures { result ≡ machine_of s }
 {
