@@ -11,7 +11,7 @@ use input::{fail, read_stored};
 use std::io;
 use std::rt::Files;
 use text::number::number;
-use text::scan::{front, position, rest};
+use text::scan::{front, rest, split_byte};
 
 // The n bytes from a position on, fewer where the text ends before.
 pub fn column(s: &[u8], at: usize, n: usize) -> &[u8]
@@ -31,7 +31,7 @@ pub fn hexadecimal_at(s: &[u8], at: usize, n: usize) -> u64
 pub fn unpadded(s: &[u8]) -> &[u8]
     ensures { result.now ≡ take (first_that (is 32) s.now) s.now }
 {
-    front(s, position(s, b' '))
+    split_byte(s, b' ').0
 }
 
 // The bytes of a file, as many as there is room for; none where it cannot be read, which is told on standard error. Which bytes

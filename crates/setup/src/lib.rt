@@ -4,7 +4,7 @@
 pub mod question;
 
 ghost use Rattle.std.specs.Prelude.{◌≡◌, ℕ, ◌++◌, ◌+◌, ◌-◌, ◌*◌, ◌≤◌, length, true, false, replicate, IfOk, MatchOption};
-ghost use Rattle.text.specs.Split.{values_of, row_as};
+ghost use Rattle.text.specs.Split.{row_as};
 ghost use Rattle.model.specs.Machine.{last_region, no_region, regions_from};
 ghost use Rattle.setup.specs.Question.{question_of};
 ghost use Rattle.setup.specs.Setup.{regions_in, regions_given, counted, permissions_in_range, budget_field, digits_in_range, values_in_range, setup_row, setup_of, read_setup, machine_of};
@@ -12,7 +12,7 @@ ghost use Rattle.setup.specs.Setup.{regions_in, regions_given, counted, permissi
 use model::stop::keep;
 use model::{HfiState, Machine, REGIONS, Region};
 use question::Question;
-use text::row::{Field, all_wide, read_row};
+use text::row::{Field, all_wide, read_row, values};
 
 // The regions that a short line 1 gives; a long one gives all.
 const FEW_REGIONS: usize = 3;
@@ -98,23 +98,17 @@ fn permissions_in_range(rs: &[Region; REGIONS]) -> bool
     rs.iter().all(|r| r.permission <= 0xff)
 }
 
-// The fields' numbers.
-fn values(fields: [Field; LONG_FORM]) -> [u64; LONG_FORM]
-    ensures { result ≡ values_of fields }
-{
-    fields.map(|f| f.value)
-}
-
-// The values of a line of a form.
+// The values of a line of a form. How many fields the line has is asked before, so 0 stands for it in the clause.
 fn setup_of(form: Form, fields: &[Field; LONG_FORM]) -> Setup
-    ensures { (count : ℕ) → result ≡ setup_of (regions_in form) (row_as count fields.now) }
+    ensures { result ≡ setup_of (regions_in form) (row_as 0 fields.now) }
 {
     let values = values(*fields);
+    let [pc, options, handler, ..] = values;
     let budget = fields[form.budget_field()];
     Setup {
-        pc: values[0],
-        options: values[1],
-        handler: values[2],
+        pc,
+        options,
+        handler,
         regions: regions_from(&values, 3, form.regions()),
         budget: if budget.width == 0 {
             DEFAULT_BUDGET
@@ -124,9 +118,9 @@ fn setup_of(form: Form, fields: &[Field; LONG_FORM]) -> Setup
     }
 }
 
-// Has each field before the budget 1 to 16 digits, and the budget at most 16?
+// Has each field before the budget 1 to 16 digits, and the budget at most 16? (0 in the clause as above.)
 fn digits_in_range(form: Form, fields: &[Field; LONG_FORM]) -> bool
-    ensures { (count : ℕ) → result ≡ digits_in_range (regions_in form) (row_as count fields.now) }
+    ensures { result ≡ digits_in_range (regions_in form) (row_as 0 fields.now) }
 {
     let last = form.budget_field();
     all_wide(&fields[..last]) && fields[last].width <= 16
@@ -153,7 +147,8 @@ pub fn read_setup(line: &[u8]) -> Result<Setup, Question>
     Ok(setup)
 }
 
-// The machine in HFI mode, with the values of line 1; all else is 0.
+// The machine in HFI mode, with the values of line 1; all else is 0. A function, not `From`: `Machine::from(s)` would not say that this is
+// the machine that the definition of this name starts a run from, and the public function would stay beside it.
 pub fn machine_of(s: Setup) -> Machine
     ensures { result ≡ machine_of s }
 {

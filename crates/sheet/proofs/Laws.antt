@@ -5,15 +5,14 @@ use mathlib.Core.List.{List, [], ◌∷◌, ◌++◌}
 use Prim.Native.Nat.{ℕ, ◌+◌, ◌-◌, ◌%◌, ◌<◌, ◌≤◌, min}
 use native.Mathlib.Omega.{arith}
 use lib.Dec.{eqb, leb, ltb}
-use lib.ListN.{length, get_or, drop, take, get_or-map, length-drop}
+use lib.ListN.{length, get_or, drop, take, length-drop}
 use lib.Seq.{drop-drop}
 use borrow.Author.Tests.{leb-true, ltb-true, ltb-false, eqb-true, eq-eqb, ne_eqb}
 use Rattle.std.proofs.lemmas.Bool.{and_parts}
 use Rattle.text.specs.Scan.{newline, is, count, first_that, line_number, LineStart}
-use Rattle.text.specs.declared.row.Field.{Field}
-use Rattle.text.specs.Split.{FirstLine, lines, Row, row_as, row_of}
+use Rattle.text.specs.Split.{FirstLine, lines, Row, row_of}
 use Rattle.text.proofs.Asking.{yes_at}
-use Rattle.std.specs.Prelude.{Option, Some, None}
+use Rattle.std.specs.Prelude.{Option, Some, None, Result, Ok, Err, IfOk}
 use Rattle.std.specs.List.{position_or_len, count_by, AllWithin, IsFirstMatchOrLen}
 use Rattle.std.proofs.lemmas.List.{take-append-le, length-take-le, get_or-drop}
 use Rattle.std.proofs.lemmas.List.Sums.{position_or_len_is}
@@ -23,6 +22,9 @@ use Rattle.text.proofs.Scanning.{first_is_position, first_le, first_before}
 use Rattle.text.proofs.Splitting.{split_first, line_more, line_ends, lines_none}
 use Rattle.text.proofs.LineNumbers.{number_first, start_first, start_next}
 use Rattle.model.specs.Bytes.{written}
+use Rattle.setup.specs.declared.question.Question.{Question}
+use Rattle.setup.specs.declared.question.Question.TheVariants.{Whole}
+use Rattle.setup.specs.Question.{question_of}
 use Rattle.setup.specs.Setup.{setup_row, read_setup}
 use Rattle.sheet.specs.declared.WordLine.{WordLine}
 use Rattle.sheet.specs.Words.{word_of, words_of, placed, word_questions, read_word, memory_of}
@@ -33,14 +35,6 @@ pub read_is : (least : ℕ) (r : Row) → ((read_word least r).address ≡ (word
 unfolding read_word
 read_is least r = (refl, refl)
 
--- a word line by its slots
-pub word_at : (n : ℕ) (fs : List Field)
-    → record { address = (get_or fs 0 (record { value = 0; width = 0 })).value; word = (get_or fs 1 (record { value = 0; width = 0 })).value } ≡ word_of (row_as n fs)
-word_at n fs =
-    let none : Field = record { value = 0; width = 0 } in
-    rw (get_or-map (λ f. f.value) fs 0 none, get_or-map (λ f. f.value) fs 1 none)
-
--- where it passes, its word lies in memory
 pub word_fits : (least : ℕ) (r : Row) → (read_word least r).question ≡ 0 → (read_word least r).address ≤ 0xfffc
 unfolding read_word
 word_fits least r e =
@@ -48,6 +42,13 @@ word_fits least r e =
     let range = yes_at 2 (word_questions least r w) refl e in
     let top = (and_parts (eqb (w.address % 4) 0) (leb w.address 0xfffc && leb w.word 0xffffffff) range).1 in
     leb-true w.address 0xfffc ((and_parts (leb w.address 0xfffc) (leb w.word 0xffffffff) top).0)
+
+-- the word line that was let through
+pub word_passed : {w : WordLine} (least : ℕ) (r : Row) (m : Result WordLine Question)
+    → question_of m ≡ (read_word least r).question → IfOk m (λ v. v ≡ word_of r)
+    → (question_of m ≡ 0) × ((Q : WordLine → Type 0) → IfOk m Q → Q w)
+    → ((read_word least r).question ≡ 0) × (w ≡ word_of r)
+word_passed least r m e v f = (sym e ∙ f.0, f.1 (λ w. w ≡ word_of r) v)
 
 -- ---- what a passed file gives
 pub whole_parts : (s : List ℕ) → whole s ≡ true → (1 ≤ length s) × (length s ≤ 65536) × (get_or s (length s - 1) 0 ≡ newline)
@@ -60,6 +61,9 @@ whole_parts s all =
       leb-true (length s) 65536 ((and_parts few ended most).0),
       eqb-true (get_or s (length s - 1) 0) newline ((and_parts few ended most).1),
     )
+
+pub file_ok : (s : List ℕ) → refusal 0 0 ≡ file_refusal s → file_no s ≡ 0
+file_ok s e = sym (ap (λ q. q.question) e)
 
 pub file_whole : (s : List ℕ) → file_no s ≡ 0 → (1 ≤ length s) × (length s ≤ 65536) × (get_or s (length s - 1) 0 ≡ newline)
 unfolding file_no
@@ -106,9 +110,22 @@ module _ (s : List ℕ) where
           rw (eq-eqb (first_that foreign s) (length s) (omega (arith, z, first_le foreign s)))
 
   -- ---- 30 and 31, of the file
-  pub file_not_whole : whole s ≡ false → refusal 30 0 ≡ file_refusal s
-  unfolding file_no
-  file_not_whole e = rw e refl
+  -- question 30 as it is kept
+  module _ (r : Result Unit Question) (kept : r ≡ cond (whole s) (Ok tt) (Err Whole)) where
+    pub file_not_whole : (question_of r ≡ 0 → ⊥) → refusal (question_of r) 0 ≡ file_refusal s
+    unfolding file_no
+    file_not_whole h = by (whole s) refl
+      where
+        by : (t : Bool) → whole s ≡ t → refusal (question_of r) 0 ≡ file_refusal s
+        by true e = let z : question_of r ≡ 0 = ap question_of (rw e at kept) in absurd (h z)
+        by false e = let z : question_of r ≡ 30 = ap question_of (rw e at kept) in rw (e, z) refl
+
+    pub kept_whole : question_of r ≡ 0 → whole s ≡ true
+    kept_whole h = by (whole s) refl
+      where
+        by : (t : Bool) → whole s ≡ t → t ≡ true
+        by true e = refl
+        by false e = let z : question_of r ≡ 30 = ap question_of (rw e at kept) in absurd (omega (arith, h, z))
 
   pub file_foreign : (n : ℕ) → whole s ≡ true → Some n ≡ foreign_found s → refusal 31 n ≡ file_refusal s
   unfolding file_no

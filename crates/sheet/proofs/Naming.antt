@@ -14,7 +14,7 @@ abbrev pub Named : {A : Type 0} → Result A Question → Result A code.Refusal 
 Named r m n = MatchResult r (λ x. m ≡ Ok x) (λ q. m ≡ Err (record { question = q; lineno = n }))
 
 -- as `map_err` names it
-pub named : {A : Type 0} (r : Result A Question) (m : Result A code.Refusal) (n : ℕ) (P : Question → code.Refusal → Type 0)
+named : {A : Type 0} (r : Result A Question) (m : Result A code.Refusal) (n : ℕ) (P : Question → code.Refusal → Type 0)
     → MatchResult r (λ x. m ≡ Ok x) (λ q. IsErrAnd m (P q))
     → ((q : Question) (e : code.Refusal) → P q e → e ≡ record { question = q; lineno = n }) → Named r m n
 named (Ok a) m n P h f = h
@@ -29,14 +29,14 @@ number_some FieldWidth e = omega arith
 number_some Range e = omega arith
 number_some Order e = omega arith
 
-pub named_err : {A : Type 0} (r : Result A Question) (m : Result A code.Refusal) (n : ℕ) (e : code.Refusal) → Named r m n → m ≡ Err e
+named_err : {A : Type 0} (r : Result A Question) (m : Result A code.Refusal) (n : ℕ) (e : code.Refusal) → Named r m n → m ≡ Err e
     → (question_number e.question ≡ question_of r) × (e.lineno ≡ n) × (question_of r ≡ 0 → ⊥)
 named_err (Ok a) m n e h k = cc
 named_err (Err q) m n e h k =
     let same : e ≡ record { question = q; lineno = n } = cc in
     (ap (λ x. question_number x.question) same, ap (λ x. x.lineno) same, number_some q)
 
-pub named_ok : {A : Type 0} (r : Result A Question) (m : Result A code.Refusal) (n : ℕ) (a : A) → Named r m n → m ≡ Ok a
+named_ok : {A : Type 0} (r : Result A Question) (m : Result A code.Refusal) (n : ℕ) (a : A) → Named r m n → m ≡ Ok a
     → (question_of r ≡ 0) × ((P : A → Type 0) → IfOk r P → P a)
 named_ok (Ok b) m n a h k = (refl, λ P p. (let same : a ≡ b = cc in rw same p))
 named_ok (Err q) m n a h k = cc
@@ -49,3 +49,15 @@ refuses e r h z = number_some e.question (ap (λ q. q.question) h ∙ z)
 pub handed_on : {A : Type 0} (r : Result A code.Refusal) (e : code.Refusal) → IsErrAnd r (λ x. x ≡ e) → refusal_of r ≡ refusal (question_number e.question) e.lineno
 handed_on (Ok a) e h = absurd h
 handed_on (Err x) e h = ap (λ k. refusal (question_number k.question) k.lineno) h
+
+-- `map_err` gives a question its line, and `?` hands on what it answers: a refusal, or the value that passed
+module _ {A : Type 0} (r : Result A Question) (m : Result A code.Refusal) (n : ℕ) (P : Question → code.Refusal → Type 0)
+    (h : MatchResult r (λ x. m ≡ Ok x) (λ q. IsErrAnd m (P q))) (f : (q : Question) (e : code.Refusal) → P q e → e ≡ record { question = q; lineno = n }) where
+  pub refused : {B : Type 0} (out : Result B code.Refusal) (e : code.Refusal) → m ≡ Err e → IsErrAnd out (λ x. x ≡ e)
+      → (refusal_of out ≡ refusal (question_of r) n) × (question_of r ≡ 0 → ⊥)
+  refused out e k g =
+      let no = named_err r m n e (named r m n P h f) k in
+      (handed_on out e g ∙ ap (λ q. refusal q e.lineno) no.0 ∙ ap (refusal (question_of r)) no.1, no.2)
+
+  pub passed : (a : A) → m ≡ Ok a → (question_of r ≡ 0) × ((Q : A → Type 0) → IfOk r Q → Q a)
+  passed a k = named_ok r m n a (named r m n P h f) k

@@ -15,7 +15,7 @@ use setup::question::Question;
 use setup::{Setup, read_setup};
 use text::field::line_at;
 use text::number::is_digit;
-use text::row::{all_wide, read_row};
+use text::row::{all_wide, read_row, values};
 use text::scan::{front, rest};
 use text::writer::Writer;
 
@@ -57,7 +57,7 @@ pub struct WordLine {
 fn whole(s: &[u8]) -> bool
     ensures { result ≡ whole s.now }
 {
-    s.len() <= 65536 && s.last() == Some(&b'\n')
+    s.len() <= 65536 && s.ends_with(b"\n")
 }
 
 // Is it a byte that no sheet has?
@@ -80,12 +80,10 @@ fn foreign_line(s: &[u8]) -> Option<u64>
 fn ask_file(s: &[u8]) -> Result<(), Refusal>
     ensures { refusal_of result ≡ file_refusal s.now }
 {
-    if !whole(s) {
-        return Err(Refusal {
-            question: Question::Whole,
-            lineno: 0,
-        });
-    }
+    keep(whole(s), Question::Whole).map_err(|question| Refusal {
+        question,
+        lineno: 0,
+    })?;
     if let Some(lineno) = foreign_line(s) {
         return Err(Refusal {
             question: Question::ForeignByte,
@@ -103,16 +101,14 @@ fn in_range(w: WordLine) -> bool
 }
 
 // The questions of a word line in their order. Its address is to be at least `least`.
-#[tactic(auto, using(crate::proofs::Laws::word_at), unfolding(crate::specs::Words::read_word))]
+#[tactic(auto, unfolding(crate::specs::Words::read_word))]
 fn read_word(line: &[u8], least: u64) -> Result<WordLine, Question>
     ensures refusal { question_of result ≡ (read_word least (row_of 2 line.now)).question }
     ensures value { IfOk result (λ w. w ≡ word_of (row_of 2 line.now)) }
 {
     let (count, fields) = read_row::<WORD_FIELDS>(line);
-    let w = WordLine {
-        address: fields[0].value,
-        word: fields[1].value,
-    };
+    let [address, word] = values(fields);
+    let w = WordLine { address, word };
     keep(count == WORD_FIELDS, Question::FieldCount)?;
     keep(all_wide(&fields), Question::FieldWidth)?;
     keep(in_range(w), Question::Range)?;
@@ -149,6 +145,7 @@ pub fn read_sheet(s: &[u8], mem: &mut [u8]) -> Result<Setup, Refusal>
     ensures mem_after { OnOk result (mem.new ≡ memory_of mem.old (read_sheet s.now).words) }
 {
     ask_file(s)?;
+    // Not `split_line`: it answers none of an empty text, and here would have to answer a refusal that cannot be.
     let line = line_at(s, 0);
     let setup = read_setup(line).map_err(|question| Refusal {
         question,

@@ -41,10 +41,9 @@ fn show_row(rt: &(impl Files + Print + Eprint), row: &[u8]) -> io::Result<()> {
 // Each row of an index is a name of at most 31 bytes, padded with spaces, and the line's end.
 fn show_index(rt: &(impl Files + Print + Eprint), name: &str) -> io::Result<()> {
     let mut room = [0u8; input::ROOM];
-    for row in read_file(rt, name, &mut room).chunks_exact(32) {
-        show_row(rt, row)?;
-    }
-    Ok(())
+    read_file(rt, name, &mut room)
+        .chunks_exact(32)
+        .try_for_each(|row| show_row(rt, row))
 }
 
 // The second index names what cannot be read, so that no answer stands in the stored output.

@@ -74,7 +74,7 @@ map_replicate : {A B : Type 0} (f : A → B) (n : ℕ) (a : A) → map f (replic
 map_replicate f zero a = refl
 map_replicate f (suc n) a = ap (λ l. f a ∷ l) (map_replicate f n a)
 
-abbrev no_field : Field
+abbrev pub no_field : Field
 no_field = record { value = 0; width = 0 }
 
 pub row_in : (n : ℕ) (line : List ℕ) (r : Row) → r ≡ row_over (values_of (replicate n no_field)) (widths_of (replicate n no_field)) line → r ≡ row_of n line

@@ -1,30 +1,21 @@
 // The lines of a text, and the fields of a line: an empty text has no line, and one field.
-ghost use Rattle.std.specs.Prelude.{◌≡◌, [], get_or, drop, take, MatchOption};
-ghost use Rattle.text.specs.Scan.{first_that, is};
+ghost use Rattle.std.specs.Prelude.{◌≡◌, [], get_or, drop, MatchOption};
 ghost use Rattle.text.specs.Split.{FirstLine, lines, fields};
 
-use crate::scan::{front, position, rest};
-
-// What stands from a position on, before the first c there.
-fn piece_at(s: &[u8], at: usize, c: u8) -> &[u8]
-    ensures { result.now ≡ take (first_that (is c) (drop at s.now)) (drop at s.now) }
-{
-    let r = rest(s, at);
-    front(r, position(r, c))
-}
+use crate::scan::{rest, split_byte};
 
 // The line that begins at a position, without its end; an empty one past the text.
 pub fn line_at(s: &[u8], at: usize) -> &[u8]
     ensures { result.now ≡ get_or (lines (drop at s.now)) 0 [] }
 {
-    piece_at(s, at, b'\n')
+    split_byte(rest(s, at), b'\n').0
 }
 
 // The field that begins at a position of a line, without its comma; an empty one past the line. It has no caller, and stays for its promise.
 pub fn field_at(line: &[u8], at: usize) -> &[u8]
     ensures { result.now ≡ get_or (fields (drop at line.now)) 0 [] }
 {
-    piece_at(line, at, b',')
+    split_byte(rest(line, at), b',').0
 }
 
 // The first line of a text, without its end, and what follows its end; none of an empty text.
@@ -34,6 +25,5 @@ pub fn split_line(s: &[u8]) -> Option<(&[u8], &[u8])>
     if s.is_empty() {
         return None;
     }
-    let end = position(s, b'\n');
-    Some((front(s, end), rest(s, end + 1)))
+    Some(split_byte(s, b'\n'))
 }

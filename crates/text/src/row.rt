@@ -1,18 +1,19 @@
 // The fields of a line as numbers, each field read once.
-ghost use Rattle.std.specs.Prelude.{◌≡◌, set};
+ghost use Rattle.std.specs.Prelude.{◌≡◌, ◌≤◌, set};
 ghost use Rattle.text.specs.Split.{row_as, row_of, row_over, all_wide, values_of, widths_of};
 
 use crate::number::number;
 
 // A field as read: its number, and how many digits it has. A field that a line lacks is as an empty one, all zero: the count of the
 // fields tells them apart.
-#[derive(Clone, Copy)]
+#[derive(Clone, Copy, Default)]
 pub struct Field {
     pub value: u64,
     pub width: u64,
 }
 
-// A field in slot k, where there is such a slot. Tried by `get_mut`: the proof did not close.
+// A field in slot k, where there is such a slot. Tried by `get_mut`: the proof did not close, since once that borrow is over a proof
+// knows the slots' number and not what they hold.
 fn fill(slots: &mut [Field], k: usize, f: Field)
     ensures { slots.new ≡ set slots.old k f }
 {
@@ -21,8 +22,9 @@ fn fill(slots: &mut [Field], k: usize, f: Field)
     }
 }
 
-// A line's fields, in as many slots as are lent, and how many fields there are. Counted by hand, since the count
-// is answered too, and `enumerate` drops it at the loop's end.
+// A line's fields, in as many slots as are lent, and how many fields there are. Counted by hand, since the count is answered too:
+// `enumerate` drops it at the loop's end, and `line.split(..).count()` after the loop says the split a second time and looks at each byte
+// again. Tried by `slots.iter_mut().zip(line.split(..))`: the proof did not close, for the reason that `fill` has.
 fn read_into(line: &[u8], slots: &mut [Field]) -> usize
     ensures { row_as result slots.new ≡ row_over (values_of slots.old) (widths_of slots.old) line.now }
 {
@@ -42,9 +44,17 @@ fn read_into(line: &[u8], slots: &mut [Field]) -> usize
 pub fn read_row<const N: usize>(line: &[u8]) -> (usize, [Field; N])
     ensures { row_as result.0 result.1 ≡ row_of N line.now }
 {
-    let mut slots = [Field { value: 0, width: 0 }; N];
+    let mut slots = [Field::default(); N];
     let count = read_into(line, &mut slots);
     (count, slots)
+}
+
+// The fields' numbers. (The bound is for std's `map`, which asks that room for both arrays fits.)
+pub fn values<const N: usize>(fields: [Field; N]) -> [u64; N]
+    requires { N ≤ 4096 }
+    ensures { result ≡ values_of fields.entry }
+{
+    fields.map(|f| f.value)
 }
 
 // Has each field 1 to 16 digits?

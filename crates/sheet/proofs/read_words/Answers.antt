@@ -6,10 +6,10 @@ use Rattle.text.specs.Scan.{is, newline}
 use Rattle.text.specs.Split.{FirstLine, lines, row_of}
 use Rattle.text.proofs.LineNumbers.{number_le}
 use Rattle.setup.specs.Question.{question_of}
-use Rattle.sheet.specs.Words.{word_of, words_of, read_word, memory_of}
-use Rattle.sheet.specs.Sheet.{refusal, words_refusal}
-use Rattle.sheet.proofs.Naming.{named, named_err, named_ok, handed_on}
-use Rattle.sheet.proofs.Laws.{LeftAt, line_cut, read_is, word_fits, left_on, refusal_on, refusal_stop, refusal_off, memory_on, memory_off, none_left}
+use Rattle.sheet.specs.Words.{words_of, memory_of}
+use Rattle.sheet.specs.Sheet.{words_refusal}
+use Rattle.sheet.proofs.Naming.{refused, passed}
+use Rattle.sheet.proofs.Laws.{LeftAt, line_cut, read_is, word_fits, word_passed, left_on, refusal_on, refusal_stop, refusal_off, memory_on, memory_off, none_left}
 use Rattle.sheet.proofs.read_words.Goals as goal
 
 pub returns-in_err-w-clause-refusal : goal.returns-in_err-w-clause-refusal
@@ -28,36 +28,24 @@ returns-in_err-w-clause-refusal c =
     (steps.0.1.2 (is newline) (always_returns_same _ (λ a r. r ≡ is newline a.0.now) l.line-iterator.a.pred (λ a r q k. search (rules, tests)))).1
     steps.0.2) in
     let r = c.read_word in
-    let name = named r.result c.map_err.result lineno _ c.map_err.ensures.cases (λ q e k. search rules) in
-    let no = named_err r.result c.map_err.result lineno c.in_err-w.field-0.0 name c.in_err-w.was in
-    let stop = refusal_stop s all line after l.invariant.1.0 lineno left first l.least (question_of r.result) r.ensures.refusal no.2 in
-    handed_on c.from_residual.result c.in_err-w.field-0.0 c.from_residual.ensures.1
-    ∙ ap (λ q. refusal q c.in_err-w.field-0.0.lineno) no.0
-    ∙ ap (refusal (question_of r.result)) no.1
-    ∙ stop
-    ∙ l.invariant.1.2
+    let no = refused r.result c.map_err.result lineno _ c.map_err.ensures.cases (λ q e k. search rules) c.from_residual.result _ c.in_err-w.was c.from_residual.ensures.1 in
+    no.0 ∙ refusal_stop s all line after l.invariant.1.0 lineno left first l.least (question_of r.result) r.ensures.refusal no.1 ∙ l.invariant.1.2
 
 pub write-requires : goal.write-requires
 write-requires c =
     let l = c.loop-line in
     let r = c.read_word in
     let row = row_of 2 c.front.result.now in
-    let name = named r.result c.map_err.result c.in-Some.lineno _ c.map_err.ensures.cases (λ q e k. search rules) in
-    let ok = named_ok r.result c.map_err.result c.in-Some.lineno c.in_ok-w.w name c.in_ok-w.was in
-    let passed : (read_word l.least row).question ≡ 0 = sym r.ensures.refusal ∙ ok.0 in
-    let word : c.in_ok-w.w ≡ word_of row = ok.1 (λ w. w ≡ word_of row) r.ensures.value in
-    (refl, omega (arith, l.invariant.0, word_fits l.least row passed, (read_is l.least row).0, ap (λ w. w.address) word))
+    let yes = word_passed l.least row r.result r.ensures.refusal r.ensures.value (passed r.result c.map_err.result c.in-Some.lineno _ c.map_err.ensures.cases (λ q e k. search rules) c.in_ok-w.w c.in_ok-w.was) in
+    (refl, omega (arith, l.invariant.0, word_fits l.least row yes.0, (read_is l.least row).0, ap (λ w. w.address) yes.1))
 
 pub overflow_add-least : goal.overflow_add-least
 overflow_add-least c =
     let l = c.loop-line in
     let r = c.read_word in
     let row = row_of 2 c.front.result.now in
-    let name = named r.result c.map_err.result c.in-Some.lineno _ c.map_err.ensures.cases (λ q e k. search rules) in
-    let ok = named_ok r.result c.map_err.result c.in-Some.lineno c.in_ok-w.w name c.in_ok-w.was in
-    let passed : (read_word l.least row).question ≡ 0 = sym r.ensures.refusal ∙ ok.0 in
-    let word : c.in_ok-w.w ≡ word_of row = ok.1 (λ w. w ≡ word_of row) r.ensures.value in
-    omega (arith, word_fits l.least row passed, (read_is l.least row).0, ap (λ w. w.address) word)
+    let yes = word_passed l.least row r.result r.ensures.refusal r.ensures.value (passed r.result c.map_err.result c.in-Some.lineno _ c.map_err.ensures.cases (λ q e k. search rules) c.in_ok-w.w c.in_ok-w.was) in
+    omega (arith, word_fits l.least row yes.0, (read_is l.least row).0, ap (λ w. w.address) yes.1)
 
 pub loop-line-preserved : goal.loop-line-preserved
 loop-line-preserved c =
@@ -77,13 +65,10 @@ loop-line-preserved c =
     steps.0.2) in
     let r = c.read_word in
     let row = row_of 2 line in
-    let name = named r.result c.map_err.result lineno _ c.map_err.ensures.cases (λ q e k. search rules) in
-    let ok = named_ok r.result c.map_err.result lineno c.in_ok-w.w name c.in_ok-w.was in
-    let passed : (read_word l.least row).question ≡ 0 = sym r.ensures.refusal ∙ ok.0 in
-    let word : c.in_ok-w.w ≡ word_of row = ok.1 (λ w. w ≡ word_of row) r.ensures.value in
+    let yes = word_passed l.least row r.result r.ensures.refusal r.ensures.value (passed r.result c.map_err.result lineno _ c.map_err.ensures.cases (λ q e k. search rules) c.in_ok-w.w c.in_ok-w.was) in
     let next : LeftAt s after (at + length line + 1) c.next.new.self.b.start = rw steps.1.1 (left_on s all line after at lineno left first c.requires.3) in
-    let on = refusal_on s all line after at lineno left first l.least c.in_ok-w.w.address passed (ap (λ w. w.address) word) in
-    let placed = memory_on s all line after at lineno left first l.mem _ c.in_ok-w.w word c.write.ensures in
+    let on = refusal_on s all line after at lineno left first l.least c.in_ok-w.w.address yes.0 (ap (λ w. w.address) yes.1) in
+    let placed = memory_on s all line after at lineno left first l.mem _ c.in_ok-w.w yes.1 c.write.ensures in
     (search rules, (at + length line + 1, next, on ∙ l.invariant.1.2, placed ∙ l.invariant.1.3))
 
 pub loop-line-init : goal.loop-line-init

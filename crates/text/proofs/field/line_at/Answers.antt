@@ -5,4 +5,4 @@ use Rattle.text.proofs.Splitting.{split_first}
 use Rattle.text.proofs.field.line_at.Goals as goal
 
 pub returns : goal.returns
-returns c = c.piece_at.ensures ∙ sym (split_first newline [] _ refl)
+returns c = rw c.rest.ensures.0 at c.split_byte.ensures.0 ∙ sym (split_first newline [] _ refl)

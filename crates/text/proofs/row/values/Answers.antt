@@ -4,14 +4,14 @@ use Rattle.std.proofs.lemmas.List.{same_lists, length-map}
 use lib.ListN.{get_or-map}
 use Rattle.text.specs.declared.row.Field.{Field}
 use Rattle.text.specs.Split.{values_of}
-use Rattle.setup.proofs.values.Goals as goal
+use Rattle.text.proofs.row.values.Goals as goal
 
 pub returns : goal.returns
-returns c =
+returns g c =
     let fs = c.args.fields in
     let numbers = c.map.result in
     let map_of = c.map.ensures.items in
-    let long : length fs ≡ 34 = search rules in
+    let long : length fs ≡ g.row.N = search rules in
     same_lists numbers (values_of fs) (omega (arith, map_of.long, length-map fs (λ f. f.value)))
     (λ k d h.
     let none : Field = record { value = d; width = 0 } in
