@@ -9,16 +9,15 @@ use lib.ListN.{length, get_or, drop, take, length-drop}
 use lib.Seq.{drop-drop}
 use borrow.Author.Tests.{leb-true, ltb-true, ltb-false, eqb-true, eq-eqb, ne_eqb}
 use Rattle.std.proofs.lemmas.Bool.{and_parts}
-use Rattle.text.specs.Scan.{newline, is, count, first_that, line_number, LineStart}
+use Rattle.text.specs.Scan.{newline, is, first_that, line_number, LineStart}
 use Rattle.text.specs.Split.{FirstLine, lines, Row, row_of}
 use Rattle.text.proofs.Asking.{yes_at}
-use Rattle.std.specs.Prelude.{Option, Some, None, Result, Ok, Err, IfOk}
-use Rattle.std.specs.List.{position_or_len, count_by, AllWithin, IsFirstMatchOrLen}
+use Rattle.std.specs.Prelude.{Some, None, Result, Ok, Err, IfOk}
+use Rattle.std.specs.List.{AllWithin, IsFirstMatchOrLen}
 use Rattle.std.proofs.lemmas.List.{take-append-le, length-take-le, get_or-drop}
 use Rattle.std.proofs.lemmas.List.Sums.{position_or_len_is}
 use Rattle.std.proofs.Math.Seq.{drop-append_seam}
-use Rattle.std.proofs.lemmas.List.Recursion.{is_count_by}
-use Rattle.text.proofs.Scanning.{first_is_position, first_le, first_before}
+use Rattle.text.proofs.Scanning.{first_is_position, first_before}
 use Rattle.text.proofs.Splitting.{split_first, line_more, line_ends, lines_none}
 use Rattle.text.proofs.LineNumbers.{number_first, start_first, start_next}
 use Rattle.model.specs.Bytes.{written}
@@ -69,14 +68,6 @@ pub file_whole : (s : List ℕ) → file_no s ≡ 0 → (1 ≤ length s) × (len
 unfolding file_no
 file_whole s e = whole_parts s (yes_at 0 (file_questions s) refl e)
 
-count_is : (s : List ℕ) → count newline s ≡ count_by (is newline) s
-unfolding count
-count_is s = is_count_by (count newline) (is newline) refl (λ b bs. by (is newline b) (count newline bs)) s
-  where
-    by : (t : Bool) (n : ℕ) → cond t 1 0 + n ≡ cond t (1 + n) n
-    by true n = refl
-    by false n = omega arith
-
 -- ---- the first foreign byte: its line, or 0; so 31 may ask for the line
 module _ (s : List ℕ) where
   pub foreign_asked : eqb (foreign_line s) 0 ≡ eqb (first_that foreign s) (length s)
@@ -86,28 +77,12 @@ module _ (s : List ℕ) where
       by true = refl
       by false = ne_eqb (line_number s (first_that foreign s)) 0 (λ z. omega (arith, z))
 
-  -- as `position` finds it, and as the 0a bytes before it are counted
-  abbrev Found : Option ℕ → Type 0
-  Found r = r ≡ cond (ltb (position_or_len foreign s) (length s)) (Some (position_or_len foreign s)) None
+  -- it stands at i, or nowhere
+  pub foreign_here : (i : ℕ) → i < length s → first_that foreign s ≡ i → Some (line_number s i) ≡ foreign_found s
+  foreign_here i h e = rw (e, ne_eqb i (length s) (λ z. omega (arith, z)))
 
-  pub foreign_here : (i n : ℕ) → Found (Some i) → n ≡ count_by (is newline) (take i s) → Some (n + 1) ≡ foreign_found s
-  foreign_here i n f e = by (ltb (position_or_len foreign s) (length s)) refl f
-    where
-      by : (t : Bool) → ltb (position_or_len foreign s) (length s) ≡ t → Some i ≡ cond t (Some (position_or_len foreign s)) None → Some (n + 1) ≡ foreign_found s
-      by true g h =
-          let at : first_that foreign s ≡ i = first_is_position foreign s ∙ sym cc in
-          let z : first_that foreign s < length s = rw (first_is_position foreign s) (ltb-true (position_or_len foreign s) (length s) g) in
-          rw (ne_eqb (first_that foreign s) (length s) (λ y. omega (arith, y)), at) (ap (λ k. Some (k + 1)) (e ∙ sym (count_is (take i s))))
-      by false g h = cc
-
-  pub foreign_none : Found None → None ≡ foreign_found s
-  foreign_none f = by (ltb (position_or_len foreign s) (length s)) refl f
-    where
-      by : (t : Bool) → ltb (position_or_len foreign s) (length s) ≡ t → None ≡ cond t (Some (position_or_len foreign s)) None → None ≡ foreign_found s
-      by true g h = cc
-      by false g h =
-          let z : length s ≤ first_that foreign s = rw (first_is_position foreign s) (ltb-false (position_or_len foreign s) (length s) g) in
-          rw (eq-eqb (first_that foreign s) (length s) (omega (arith, z, first_le foreign s)))
+  pub foreign_none : first_that foreign s ≡ length s → None ≡ foreign_found s
+  foreign_none e = rw (eq-eqb (first_that foreign s) (length s) e)
 
   -- ---- 30 and 31, of the file
   -- question 30 as it is kept

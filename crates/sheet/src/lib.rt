@@ -67,13 +67,21 @@ fn foreign(b: u8) -> bool
     !(is_digit(b) || b == b',' || b == b'\n')
 }
 
-// The line of the first byte that no sheet has: one more than the line ends before it.
+// The line of the first byte that no sheet has. The line number runs along, since document 02 asks for that: "carry the line number along as
+// a running value" (Job 3).
 fn foreign_line(s: &[u8]) -> Option<u64>
     ensures { result ≡ foreign_found s.now }
 {
-    let at = s.iter().position(|&b| foreign(b))?;
-    let ends = s[..at].iter().filter(|&&b| b == b'\n').count();
-    Some(ends as u64 + 1)
+    let mut lineno = 1;
+    for &b in s {
+        if foreign(b) {
+            return Some(lineno);
+        }
+        if b == b'\n' {
+            lineno += 1;
+        }
+    }
+    None
 }
 
 // 30 and 31, of the whole file. Only 31 has a line: that of the first foreign byte.
