@@ -6,7 +6,7 @@ use memory::bytes::write;
 use model::{Fault, HfiState, Machine, REGIONS};
 use setup::regions_from;
 use text::number::number;
-use text::row::read_row;
+use text::row::{read_row, values};
 
 // The lines of a call, in their order.
 #[derive(Clone, Copy)]
@@ -51,7 +51,7 @@ pub fn machine(c: &Lines) -> Machine
     ensures { result ≡ machine_of c.now.state.now c.now.x.now }
 {
     let (_, fields) = read_row::<STATE_FIELDS>(c.state);
-    let v = fields.map(|f| f.value);
+    let v = values(fields);
     let [_, pc, mode, reason, epc, options, handler, selector, ..] = v;
     let [.., occurred, region, op, address] = v;
     let hfi = HfiState {
