@@ -68,7 +68,7 @@ pub fn operate_shift(k: ShiftKind, a: u64, amount: u64) -> u64
 }
 
 // An operation on 32 bits, of the kinds that have a word form.
-#[tactic(auto, using(words::proofs::Residues::word_lt, words::proofs::Quotients::quotient_lt, words::proofs::Quotients::remainder_lt, words::proofs::Products::low_signed, crate::proofs::Word::narrow))]
+#[tactic(auto, using(words::proofs::Quotients::quotient_lt, words::proofs::Quotients::remainder_lt, words::proofs::Products::low_signed, crate::proofs::Word::narrow))]
 fn operate_32(k: RegisterWordKind, a: u32, b: u32) -> u32
     ensures { result ≡ operate_at 32 (of_register_word k) a b }
 {

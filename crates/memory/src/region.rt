@@ -29,7 +29,8 @@ pub fn implicit_rule(r: Region) -> bool
         return false;
     }
     let low = (1u64 << k) - 1;
-    // By `&`, since the law of the rule is one equation of all three tests: with `&&` it was tried, and two goals stayed open, of what is left after each test.
+    // By `&`, since the law of the rule is one equation of all three tests: with `&&` it was tried, and two goals
+    // stayed open, where the first two tests hold and where they do not.
     (r.bound == !low) & (((r.base & low) == 0) & (r.base <= 0x1_0000_0000_0000 - (low + 1)))
 }
 
