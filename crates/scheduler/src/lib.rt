@@ -64,6 +64,7 @@ impl From<CallRefusal> for Refusal {
 }
 
 impl Refusal {
+    // A method, as the numbers of `model::stop` are, where `Op::number` says why.
     pub fn number(self) -> u64
         ensures { result ≡ refusal_number self }
     {

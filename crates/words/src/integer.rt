@@ -1,6 +1,6 @@
 // Integer multiplication and division, the specification's chapter "M". Signed high halves are had from the unsigned one, signed
 // quotients and remainders from those of the magnitudes. i64's own wrapping_div, wrapping_rem and `>>` (for the root's `shift_right_signed`) are of 64 bits
-// alone: word forms share the facts of the 64-bit ones, shown over the width (document 02, Job 2), so each function here serves 64 bits and 32 by one
+// alone: word forms share the facts of the 64-bit ones, shown over the width (document 02, Job 2), so each division here serves 64 bits and 32 by one
 // law over the width. Of i64 and i32 it would be two functions, with a law each from std's definition to this one.
 // A number and its width stay two parameters, with `a < 2 ^ width` at each function: a struct of both, which would carry that, would be made of
 // plain registers at each of the callers' six calls, to be taken apart here at once; and with a const parameter in place of the width the fact would stay.
