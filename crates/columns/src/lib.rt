@@ -35,7 +35,8 @@ pub fn unpadded(s: &[u8]) -> &[u8]
 }
 
 // The bytes of a file, as many as there is room for; none where it cannot be read, which is told on standard error. Which bytes
-// they are and how many is left free: no contract can speak of what a file holds.
+// they are and how many is left free: no contract can speak of what a file holds. A program goes through the records by `chunks_exact`: as
+// `each_record(rt, path, &mut room, size, |r| show(rt, r))` it would still make the room, and say the size and the printer.
 pub fn read_file<'a>(rt: &(impl Files + Eprint), path: &str, room: &'a mut [u8]) -> &'a [u8]
     ensures { length result.now ≤ length room.old }
 {

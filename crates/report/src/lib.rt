@@ -14,7 +14,8 @@ use text::writer::Writer;
 
 // Put by hand, not by `write!`: each function asks for the room that its text needs at most, so that nothing here can fail, and fmt
 // would have to answer an error for a full buffer (text::writer). The room is a `requires` of each, since a type that says it would need
-// computed const arguments, as `Writer<{ROOM - 17}>`, which Rattle has not.
+// computed const arguments, as `Writer<{ROOM - 17}>`, which Rattle has not. Each number is another, and a word for the one comparison, as
+// `requires { HasRoom 17 w.old }`, would stand in as many clauses and have to be looked up besides.
 
 // A comma and a number in hexadecimal: a field after the first.
 fn put_field(w: &mut Writer, n: u64)
