@@ -6,7 +6,7 @@ use memory::bytes::write;
 use model::{Fault, HfiState, Machine, REGIONS};
 use setup::regions_from;
 use text::number::number;
-use text::row::{read_row, values};
+use text::row::{self, read_row, values};
 
 // The lines of a call, in their order.
 #[derive(Clone, Copy)]
@@ -18,16 +18,7 @@ pub struct Lines<'a> {
     pub memory: &'a [u8],
 }
 
-// A register of the line, where there is such a register.
-fn set_register(x: &mut [u64; 32], i: u64, v: u64)
-    ensures { x.new ≡ set x.old i v }
-{
-    if i < 32 {
-        x[i as usize] = v;
-    }
-}
-
-// The registers of a line of pairs, number and value; the others are 0. A turn takes two fields: a `for` takes one, or goes through the line
+// The registers of a line of pairs, number and value; the others are 0, and a number that no register has is passed over. A turn takes two fields: a `for` takes one, or goes through the line
 // twice, by `line.split(..).skip(1).step_by(2).zip(line.split(..).skip(2).step_by(2))`. `fill` has the same loop. Tried as one function with
 // a closure: the proof didn't close, since the check refuses its own module `Given` for an invariant of such a loop in a generic function.
 fn registers(line: &[u8]) -> [u64; 32]
@@ -36,7 +27,7 @@ fn registers(line: &[u8]) -> [u64; 32]
     let mut x = [0u64; 32];
     let mut fields = line.split(|&b| b == b',').skip(1);
     while let (Some(i), Some(v)) = (fields.next(), fields.next()) {
-        set_register(&mut x, number(i, 10), number(v, 16));
+        row::fill(&mut x, number(i, 10) as usize, number(v, 16));
     }
     x
 }

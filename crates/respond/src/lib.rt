@@ -31,8 +31,8 @@ fn respond_over(input: &[u8], output: &mut [u8], mem: &mut [u8; 65536]) -> usize
     w.at
 }
 
-// The report of a sheet, over a memory of 65,536 zero bytes. The result is the number of bytes written, no slice: a public signature
-// stays as it is, and `koubospar` and `koubospar_c` hand this number on.
+// The report of a sheet, over a memory of 65,536 zero bytes. The result is the number of bytes written, no slice: C takes
+// the number (koubospar_c), and `Answered` says what the whole buffer is left with.
 // The second clause follows from the first; it is said so that a program's `&output[..r]` needs no proof.
 pub fn respond(input: &[u8], output: &mut [u8; MOST]) -> usize
     ensures answered { Answered output.old (report input.now) output.new result }

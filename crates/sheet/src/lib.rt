@@ -153,7 +153,6 @@ pub fn read_sheet(s: &[u8], mem: &mut [u8]) -> Result<Setup, Refusal>
     ensures mem_after { OnOk result (mem.new ≡ memory_of mem.old (read_sheet s.now).words) }
 {
     ask_file(s)?;
-    // Not `split_line`: it answers none of an empty text, and here would have to answer a refusal that cannot be.
     let line = line_at(s, 0);
     let setup = read_setup(line).map_err(|question| Refusal {
         question,

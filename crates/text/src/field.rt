@@ -1,6 +1,6 @@
 // The lines of a text, and the fields of a line: an empty text has no line, and one field.
-ghost use Rattle.std.specs.Prelude.{◌≡◌, [], get_or, drop, MatchOption};
-ghost use Rattle.text.specs.Split.{FirstLine, lines, fields};
+ghost use Rattle.std.specs.Prelude.{◌≡◌, [], get_or, drop};
+ghost use Rattle.text.specs.Split.{lines, fields};
 
 use crate::scan::{rest, split_byte};
 
@@ -11,19 +11,10 @@ pub fn line_at(s: &[u8], at: usize) -> &[u8]
     split_byte(rest(s, at), b'\n').0
 }
 
-// The field that begins at a position of a line, without its comma; an empty one past the line. It has no caller, and stays for its promise.
+// The field that begins at a position of a line, without its comma; an empty one past the line. Not one function with `line_at`, over the byte: the
+// promises speak of `lines` and of `fields`, which differ on an empty text. It has no caller, and stays for its promise.
 pub fn field_at(line: &[u8], at: usize) -> &[u8]
     ensures { result.now ≡ get_or (fields (drop at line.now)) 0 [] }
 {
     split_byte(rest(line, at), b',').0
-}
-
-// The first line of a text, without its end, and what follows its end; none of an empty text.
-pub fn split_line(s: &[u8]) -> Option<(&[u8], &[u8])>
-    ensures { MatchOption result (s.now ≡ []) (λ parts. FirstLine s.now parts.0.now parts.1.now) }
-{
-    if s.is_empty() {
-        return None;
-    }
-    Some(split_byte(s, b'\n'))
 }

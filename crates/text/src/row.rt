@@ -12,13 +12,13 @@ pub struct Field {
     pub width: u64,
 }
 
-// A field in slot k, where there is such a slot. Tried by `get_mut`: the proof did not close, since once that borrow is over a proof
+// A value in slot k, where there is such a slot. Tried by `get_mut`: the proof did not close, since once that borrow is over a proof
 // knows the slots' number and not what they hold.
-fn fill(slots: &mut [Field], k: usize, f: Field)
-    ensures { slots.new ≡ set slots.old k f }
+pub fn fill<T: Copy>(slots: &mut [T], k: usize, v: T)
+    ensures { slots.new ≡ set slots.old k v }
 {
     if k < slots.len() {
-        slots[k] = f;
+        slots[k] = v;
     }
 }
 

@@ -4,7 +4,7 @@ ghost use Rattle.text.specs.Number.{digit_byte, digits};
 ghost use Rattle.text.specs.Write.{Put};
 
 // A lent buffer, and the position after what was written there. Each method keeps the buffer that it was lent, so that its owner
-// knows what it is left with.
+// knows what it is left with. The room is a clause of each: a type that says how much is left would need const arguments that are computed.
 #[derive(Drop)]
 pub struct Writer<'a> {
     pub buffer: &'a mut [u8],

@@ -22,7 +22,7 @@ pub fn place_words(r: &[u8], from: usize, n: usize, mem: &mut [u8], a: u64)
     requires { (from + 8 * n ≤ 4096) × (a + 4 * n ≤ length mem.old) }
     ensures { mem.new ≡ placed r.now from mem.old a n }
 {
-    // By index: a record may end before its n columns do, and the words past its end are 0; `chunks_exact` would leave them out.
+    // By index: the contract lets a record end before its n columns do, and there the words are 0; `chunks_exact` would leave them out.
     for i in 0..n {
         write(
             mem,
