@@ -1,4 +1,4 @@
--- What a stored record of turns says (README.md has the columns). No promise of the library rests on this file: it serves the program.
+-- What a stored record of turns says (README.md has the columns). No promise rests on this file but that of what the test program reads.
 -- Assumes nothing.
 use Rattle.std.specs.Prelude.{cond, List, ◌++◌, map, ℕ, ◌+◌, ◌*◌, take, drop, get_or, set, replicate}
 use Rattle.model.specs.Machine.{no_region, regions_from}
