@@ -42,18 +42,17 @@ pub fn operate(k: RegisterKind, a: u64, b: u64) -> u64
     }
 }
 
-// The same with an immediate, or an amount. `operate` has one caller without them, and stays part of the run's loop: with these as calls of it, crc-32
-// took 141.6 instructions a step, where plain C takes 132.9, and so 132.2 (bench/README.md).
+// The same with an immediate, or an amount.
 pub fn operate_immediate(k: ImmediateKind, a: u64, imm: u64) -> u64
     ensures { result ≡ operate_at 64 (of_immediate k) a imm }
 {
     match k {
-        ImmediateKind::Addi => a.wrapping_add(imm),
-        ImmediateKind::Slti => u64::from(signed_less(a, imm)),
-        ImmediateKind::Sltiu => u64::from(a < imm),
-        ImmediateKind::Xori => a ^ imm,
-        ImmediateKind::Ori => a | imm,
-        ImmediateKind::Andi => a & imm,
+        ImmediateKind::Addi => operate(RegisterKind::Add, a, imm),
+        ImmediateKind::Slti => operate(RegisterKind::Slt, a, imm),
+        ImmediateKind::Sltiu => operate(RegisterKind::Sltu, a, imm),
+        ImmediateKind::Xori => operate(RegisterKind::Xor, a, imm),
+        ImmediateKind::Ori => operate(RegisterKind::Or, a, imm),
+        ImmediateKind::Andi => operate(RegisterKind::And, a, imm),
     }
 }
 
@@ -61,9 +60,9 @@ pub fn operate_shift(k: ShiftKind, a: u64, amount: u64) -> u64
     ensures { result ≡ operate_at 64 (of_shift k) a amount }
 {
     match k {
-        ShiftKind::Slli => a << (amount % 64),
-        ShiftKind::Srli => a >> (amount % 64),
-        ShiftKind::Srai => shift_right_signed(a, 64, amount % 64),
+        ShiftKind::Slli => operate(RegisterKind::Sll, a, amount),
+        ShiftKind::Srli => operate(RegisterKind::Srl, a, amount),
+        ShiftKind::Srai => operate(RegisterKind::Sra, a, amount),
     }
 }
 
@@ -94,12 +93,11 @@ pub fn operate_word(k: RegisterWordKind, a: u64, b: u64) -> u64
     sign_extend(low as u64, 32)
 }
 
-// ADDIW: the word form of ADD with an immediate. Apart from `operate_word`, which is no part of the run's loop, as this is: with `operate_word` in the
-// loop too, crc-32 took 135.8 instructions a step, where plain C takes 132.9, and so 132.2 (bench/README.md).
+// ADDIW: the word form of ADD with an immediate.
 pub fn add_word(a: u64, imm: u64) -> u64
     ensures { result ≡ operate_word Add a imm }
 {
-    sign_extend(bits(a.wrapping_add(imm), 0, 32), 32)
+    operate_word(RegisterWordKind::Addw, a, imm)
 }
 
 // The operation that each shift of words is a form of. (No From: both kinds are of `instructions`, and which operation it is, is a definition of `model`.)
