@@ -5,5 +5,5 @@ use Rattle.calls.proofs.stored.machine.Goals as goal
 
 pub returns : goal.returns
 returns c =
-    let read : c.values.result ≡ state_values c.args.c.now.state.now = c.values.ensures ∙ ap (λ r. r.values) c.read_row.ensures in
+    let read : c.values-v.result ≡ state_values c.args.c.now.state.now = c.values-v.ensures ∙ ap (λ r. r.values) c.read_row.ensures in
     rw (c.registers.ensures, c.regions_from.ensures, read) refl

@@ -14,7 +14,7 @@ loop-i-init c =
 pub loop-i-preserved : goal.loop-i-preserved
 loop-i-preserved c =
     let more = put_two c.loop-i.invariant c.next.ensures.steps c.next-in-loop-i.ensures.steps c.in-Some-Some.is-0 c.in-Some-Some.is-1 in
-    rw (c.set_register.ensures, c.number.ensures, c.number-in-Some-Some.ensures) more
+    rw (c.fill.ensures, c.number.ensures, c.number-in-Some-Some.ensures) more
 
 pub returns-in_default : goal.returns-in_default
 returns-in_default c = put_one c.loop-i.invariant c.next.ensures.steps c.next-in-loop-i.ensures.steps c.in_default.is-0 c.in_default.is-1
