@@ -51,7 +51,7 @@ pub fn region_at(rs: &[Region; REGIONS], n: u64) -> Region
         .unwrap_or_default()
 }
 
-// `to` as region `n`; past the last there is none.
+// `to` as region `n`; past the last there is none. Tried by `get_mut`: the proof did not close, for the reason that `text::row::fill` has.
 pub fn put_region(rs: &mut [Region; REGIONS], n: u64, to: Region)
     ensures { rs.new ≡ set_region rs.old n to }
 {
