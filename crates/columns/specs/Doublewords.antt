@@ -1,4 +1,4 @@
--- The doublewords of a memory. No promise of the library rests on this file: it serves the programs over stored data. Assumes nothing.
+-- The doublewords of a memory. No promise rests on this file but that of what the test programs print: it serves the programs over stored data. Assumes nothing.
 use Rattle.std.specs.Prelude.{List, [], ℕ, ◌/◌, length, get_or}
 use Rattle.std.specs.Int.{from_le_bytes, w64}
 use Rattle.std.specs.Simd.{first_chunks}

@@ -70,7 +70,7 @@ fn decode_system(w: Word) -> Option<Instruction>
 }
 
 // The explicit region that rs1's field and the other, rd's or rs2's, choose by their top bits. No `EXPLICIT_REGIONS[..]`: with it the guest
-// program `copy` takes 201 instructions a step, more than plain C with the same checks (187); with the match 183.
+// program `copy` took 201 instructions a step in place of 183, more than plain C with the same checks (187).
 fn chosen_region(rs1: u64, other: u64) -> u64
     ensures { result ≡ chosen_region rs1 other }
 {

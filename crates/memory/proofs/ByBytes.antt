@@ -1,6 +1,6 @@
 -- The number of n bytes, and n bytes written, as std's from_le_bytes and to_le_bytes have them.
 -- Assumes nothing.
-use Rattle.std.proofs.Common.{◌≡◌, ℕ, zero, suc, ◌+◌, ◌-◌, ◌*◌, ◌/◌, ◌%◌, ◌^◌, ◌<◌, ◌≤◌, List, [], ◌∷◌, ◌++◌, length, take, drop, replicate, get_or, set, sym, refl, ap, ◌∙◌, mul_assoc, mul_comm, div-one, arith}
+use Rattle.std.proofs.Common.{◌≡◌, ℕ, zero, suc, ◌+◌, ◌-◌, ◌*◌, ◌/◌, ◌%◌, ◌^◌, ◌<◌, ◌≤◌, List, [], ◌∷◌, ◌++◌, length, take, drop, replicate, get_or, set, sym, refl, ap, ◌∙◌, div-one, arith}
 use Rattle.std.specs.Int.{w64, byte_at, bytes_low_first, from_le_bytes, to_le_bytes}
 use Rattle.std.proofs.lemmas.Nat.{pow-add}
 use Rattle.std.proofs.Math.Nat.{pow-suc}
@@ -8,20 +8,7 @@ use Rattle.std.proofs.Math.Seq.{take-suc-set}
 use Rattle.std.proofs.lemmas.List.{append_assoc, drop-drop, drop-set-lt, get_or-append-add, get_or-drop, get_or-take, get_or_append_left, length-drop, length-set, length-take-le, take-append-drop}
 use native.Mathlib.Nat.{pow-succ', div-div-eq-div-mul}
 use Rattle.model.specs.Bytes.{byte_of, value, written}
-
-value_cut : (mem : List ℕ) (a n m i : ℕ) → value mem a i (n + m) ≡ value mem a (i + n) m * 256 ^ n + value mem a i n
-unfolding value
-value_cut mem a zero m i =
-    let e : 0 + m ≡ m = omega arith in
-    let s : i + 0 ≡ i = omega arith in
-    rw (e, s) (omega arith)
-value_cut mem a (suc n) m i =
-    let e : suc n + m ≡ suc (n + m) = omega arith in
-    let s : i + suc n ≡ suc i + n = omega arith in
-    let w = value mem a (suc i + n) m in
-    let q : w * 256 ^ suc n ≡ 256 * (w * 256 ^ n) =
-    ap (λ p. w * p) (pow-succ' 256 n) ∙ sym (mul_assoc w 256 (256 ^ n)) ∙ ap (λ p. p * 256 ^ n) (mul_comm w 256) ∙ mul_assoc 256 w (256 ^ n) in
-    rw (e, s) (omega (arith, q, value_cut mem a n m (suc i)))
+use Rattle.memory.proofs.Halves.{value_cut}
 
 value_same : (xs ys : List ℕ) (a b i n : ℕ) → ((j : ℕ) → i ≤ j → j < i + n → get_or xs (byte_of a j) 0 ≡ get_or ys (byte_of b j) 0)
     → value xs a i n ≡ value ys b i n

@@ -1,5 +1,6 @@
 pub mod Truth
 pub mod Rules
+pub mod Halves
 pub mod ByBytes
 pub mod Absent
 pub mod Widths

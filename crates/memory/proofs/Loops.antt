@@ -1,6 +1,6 @@
 -- What the loops over the bytes of an access find is what the definitions ask.
 -- Assumes nothing.
-use Rattle.std.proofs.Common.{◌≡◌, ℕ, ◌+◌, ◌%◌, ◌^◌, ◌<◌, ◌≤◌, Bool, true, false, Err, cond, ◌&&◌, ◌||◌, eqb, ltb, pos, ◌+ℤ◌, sym, refl, ◌-◌, ◌∙◌, zero-add, arith, le-ltb, lt-ltb}
+use Rattle.std.proofs.Common.{◌≡◌, ℕ, ◌+◌, ◌%◌, ◌^◌, ◌<◌, ◌≤◌, Bool, true, Err, cond, ◌&&◌, ◌||◌, eqb, ltb, pos, ◌+ℤ◌, sym, refl, ◌-◌, ◌∙◌, zero-add, arith, le-ltb, lt-ltb}
 use Rattle.std.proofs.Math.Bool.{or-true}
 use Rattle.words.specs.Word.{fits_signed}
 use Rattle.model.specs.Regions.{permits, below, explicit_rule, explicit_grants}

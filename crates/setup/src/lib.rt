@@ -43,8 +43,8 @@ enum Form {
 }
 
 impl Form {
-    // The form of a line of so many fields, where that is a form. Not TryFrom: its clause speaks of `counted`, and the question that
-    // another count fails stands where it is asked.
+    // The form of a line of so many fields, where that is a form. Not TryFrom: its error would be question 32, which `read_setup`
+    // names where it asks it.
     fn of_count(count: usize) -> Option<Form>
         ensures { MatchOption result (counted count ≡ false) (λ form. (counted count ≡ true) × (regions_in form ≡ regions_given count)) }
     {

@@ -39,6 +39,25 @@ module _ (mode : ℕ) (rs : List Region) (mem : List ℕ) (pc : ℕ) where
       go true = refl
       go false = refl
 
+  -- the first two bytes do not pass
+  pub refused_verdict : {at region : ℕ} → verdict mode (length mem) (fetch_access rs pc) ≡ Err (Refused at region) → Err (Refused at region) ≡ fetch_verdict mode rs mem pc
+  unfolding fetch_verdict
+  refused_verdict e = rw e refl
+
+  pub absent_verdict : {at : ℕ} → verdict mode (length mem) (fetch_access rs pc) ≡ Err (Absent at) → Err (Absent at) ≡ fetch_verdict mode rs mem pc
+  unfolding fetch_verdict
+  absent_verdict e = rw e refl
+
+  -- they do, and are a half-word; or the rest is to be asked
+  pub half_verdict : verdict mode (length mem) (fetch_access rs pc) ≡ passed → is_long (half_at mem pc) ≡ false → passed ≡ fetch_verdict mode rs mem pc
+  unfolding fetch_verdict
+  half_verdict e l = rw (e, l) refl
+
+  pub long_verdict : {v : Verdict} → verdict mode (length mem) (fetch_access rs pc) ≡ passed → is_long (half_at mem pc) ≡ true
+      → v ≡ verdict mode (length mem) (fetch_access rs (sum pc 2)) → v ≡ fetch_verdict mode rs mem pc
+  unfolding fetch_verdict
+  long_verdict e l q = rw (e, l) q
+
   -- ---- what is in memory
 
   module _ (p : pc < 2 ^ 64) (q : length mem < 2 ^ 64) where
