@@ -110,8 +110,8 @@ struct koubospar_machine {
 #define KOUBOSPAR_STACK_PROBE 768
 #define KOUBOSPAR_STACK_PLACE 1408
 
-/* A step call is a run of one step: of a locked machine it costs 1,380 to 2,540 instructions more than a step inside a run, which
- * costs some 110 to 230 on the programs of bench/ (bench/README.md). A turn of four slots costs 6,330 to 12,120 more than its run. Make runs, and steps only where one must look in between. */
+/* A step call is a run of one step: of a locked machine it costs 1,170 to 2,890 instructions more than a step inside a run, which
+ * costs some 120 to 190 on the programs of bench/ (bench/README.md). A turn of four slots costs 3,340 to 11,920 more than its run. Make runs, and steps only where one must look in between. */
 
 /* ---- the calls on a machine ----------------------------------------------------------------------------------- */
 
