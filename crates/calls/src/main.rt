@@ -6,6 +6,7 @@ mod stored;
 
 use answer::Answer;
 use columns::{each_doubleword, each_register, read_file};
+use input::counted;
 use model::Machine;
 use run::run_call;
 use std::io;
@@ -86,7 +87,8 @@ fn show_in(
     name: &str,
     room: &mut [u8; 655360],
 ) -> io::Result<()> {
-    show_all(rt, read_file(rt, name, room))
+    let n = read_file(rt, name, room);
+    show_all(rt, counted(room, n))
 }
 
 // Makes each call of a file.

@@ -9,6 +9,7 @@ use columns::{column, hexadecimal_at, read_file};
 use decode::decode;
 use encode::answer::Encoding;
 use encode::encode;
+use input::counted;
 use instructions::instruction::Instruction;
 use std::io;
 use std::rt::Files;
@@ -42,7 +43,8 @@ fn print_records(
     requires { 0 < record_size }
 {
     let mut room = [0u8; 131072];
-    for r in read_file(rt, path, &mut room).chunks_exact(record_size) {
+    let n = read_file(rt, path, &mut room);
+    for r in counted(&room, n).chunks_exact(record_size) {
         let w = (hexadecimal_at(r, 0, 8) % (1 << 32)) as u32;
         rt.write_all(column(r, 9, 24))?;
         print_word(rt, w)?;

@@ -26,7 +26,7 @@ fn respond_over(input: &[u8], output: &mut [u8], mem: &mut [u8; 65536]) -> usize
             let r = run_call(machine_of(setup), mem, setup.budget);
             put_result(&mut w, r);
         }
-        Err(refusal) => refusal.put(&mut w),
+        Err(e) => e.by.put(&mut w),
     }
     w.at
 }

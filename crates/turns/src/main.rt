@@ -4,6 +4,7 @@
 mod stored;
 
 use columns::{each_doubleword, read_file};
+use input::counted;
 use scheduler::{Refusal, Scheduler, Turned};
 use std::fmt::{self, Display};
 use std::io;
@@ -83,7 +84,8 @@ fn show(rt: &impl Print, r: &Record) -> io::Result<()> {
 
 // Each record of a file. The room is made elsewhere: the prover takes no part of so large an array where it is made.
 fn show_all(rt: &(impl Files + Print + Eprint), room: &mut [u8; 524288]) -> io::Result<()> {
-    for r in read_file(rt, "turns", room).chunks_exact(RECORD) {
+    let n = read_file(rt, "turns", room);
+    for r in counted(room, n).chunks_exact(RECORD) {
         show(rt, &read_record(r))?;
     }
     Ok(())

@@ -16,9 +16,9 @@ returns-clause-answered c =
     elim c.match-read_sheet.branch [
       | in-Ok w ↦
           let read = w.in-Ok.ensures in
-          let printed = report_run mem s w.in-Ok.setup _ _ _ _ read.refusal read.value read.mem_after w.machine_of.ensures w.run_call-r.ensures in
+          let printed = report_run mem s w.in-Ok.setup _ _ _ _ read.refusal_value.0 read.refusal_value.1 read.mem_after w.machine_of.ensures w.run_call-r.ensures in
           rw w.w-is (put_as printed w.put_result.ensures.put, w.put_result.ensures.upper_bound)
-      | in-Err w ↦ rw w.w-is (put_as (report_refused mem s w.in-Err.refusal w.in-Err.ensures.refusal) w.put.ensures.put, omega (arith, w.put.ensures.upper_bound))
+      | in-Err w ↦ rw w.w-is (put_as (report_refused mem s w.in-Err.e.by w.in-Err.ensures.refusal_value.0) w.put.ensures.put, omega (arith, w.put.ensures.upper_bound))
     ] in
     let same = put.0.same_buffer ∙ c.new-w.ensures.same_buffer in
     (answered a.output.now _ _ _ (put_last put.0 c.new-w.ensures.value (search (rules, sym same))) (omega (arith, put.1, c.new-w.ensures.value.1, c.requires))).0
