@@ -52,6 +52,15 @@ pub fn turn_call(
     Ok(Some(took_turn(s, n, r)))
 }
 
+// It has had no turn. It stays a call, so that a machine goes into its slot by way of the stack: from the caller's, which the
+// compiler cannot tell to lie apart from the slots, the copy would be a memmove, and C's host need have memcpy and memset alone.
+#[inline(never)]
+fn begin(slot: &mut Slot)
+    ensures { slot.new ≡ record { machine = slot.old.machine; stop = 0 } }
+{
+    slot.stop = 0;
+}
+
 // A machine put into slot n; a number that no slot has changes nothing. A bool and no Result: there is one way
 // to fail, to which the documents give no number.
 #[tactic(auto, unfolding(scheduler::specs::Turn::put_call))]
@@ -60,10 +69,12 @@ pub fn put_call(s: &mut Scheduler, n: u64, m: Machine) -> bool
 {
     let there = within(MOST_SLOTS, n);
     if there {
-        s.slots[(n - 1) as usize] = Slot {
+        let mut slot = Slot {
             machine: m,
-            stop: 0,
+            ..Slot::default()
         };
+        begin(&mut slot);
+        s.slots[(n - 1) as usize] = slot;
     }
     there
 }
