@@ -14,7 +14,7 @@ use text::scan::front;
 pub const ROOM: usize = 65537;
 
 // Reads up to the end, or until the room is full, and counts the bytes, which stand from the room's start on. (std's own fills a Vec, and
-// no program here asks for memory. A read says only how many bytes came, so where the next are to stand is counted by hand.) A read that
+// the lent room needs no heap. A read says only how many bytes came, so where the next are to stand is counted by hand.) A read that
 // fails is the answer, and nothing is then known of the room. Which of the two answers it is, and the bytes and their number within the
 // room, are left free, since no contract can speak of what a file holds. Not the bytes as a slice of the room: no clause that the check
 // proves would say which part of the room they are, as `counted` does.

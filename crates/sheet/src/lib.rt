@@ -75,7 +75,7 @@ fn whole(s: &[u8]) -> bool
 fn foreign(b: u8) -> bool
     ensures { result ≡ foreign_of b }
 {
-    !(is_digit(b) || b == b',' || b == b'\n')
+    !(is_digit(b) | (b == b',') | (b == b'\n'))
 }
 
 // The line of the first byte that no sheet has. The line number runs along, since document 02 asks for that: "carry the line number along as

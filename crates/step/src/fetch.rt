@@ -36,7 +36,8 @@ pub fn check_word(h: &HfiState, mem: &[u8], pc: u64) -> Result<(), Denied>
     }
 }
 
-// How many bytes the word at `pc` has. Its first two tell: of a long word the others need not be in memory.
+// How many bytes the word at `pc` has. Its first two tell: of a long word the others need not be in memory. It has no caller here, and stays for
+// its promise.
 pub fn size_at(mem: &[u8], pc: u64) -> u64
     requires { pc + 2 ≤ length mem.now }
     ensures { result ≡ size_at mem.now pc }

@@ -41,7 +41,7 @@ pub fn read_into(line: &[u8], slots: &mut [Field]) -> usize
     count
 }
 
-// The same into numbers and widths that stand apart, of which there may be unlike many.
+// The same into numbers and widths that stand apart, of which there may be unlike many. It has no caller here, and stays for its promise.
 pub fn read_over(line: &[u8], values: &mut [u64], widths: &mut [u64]) -> usize
     ensures { row_with result values.new widths.new ≡ row_over values.old widths.old line.now }
 {
