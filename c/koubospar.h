@@ -96,8 +96,8 @@ struct koubospar_machine {
 
 /* The bytes of stack that a call takes, what it is called with included: measured by painting, over every stop and every
  * kind of word, and rounded up. `c/try` measures them again and fails where a call takes more. Measured were 2,904 for a
- * step, 2,360 for a run, 16 for a resumption, 2,392 for a turn, 640 for putting a machine into a slot, 70,360 for a
- * sheet, 304 and 384 for decoding and encoding, 368 for expanding, 608 for the probe and 944 for a place. No call's stack grows with the memory, the budget or the sheet. */
+ * step, 2,360 for a run, 16 for a resumption, 2,376 for a turn, 640 for putting a machine into a slot, 70,360 for a
+ * sheet, 304 and 384 for decoding and encoding, 352 for expanding, 608 for the probe and 944 for a place. No call's stack grows with the memory, the budget or the sheet. */
 #define KOUBOSPAR_STACK_STEP 3072
 #define KOUBOSPAR_STACK_RUN 2560
 #define KOUBOSPAR_STACK_RESUME 768
