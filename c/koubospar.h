@@ -96,19 +96,19 @@ struct koubospar_machine {
 
 /* The bytes of stack that a call takes, what it is called with included: measured by painting, over every stop and every
  * kind of word, and rounded up. `c/try` measures them again and fails where a call takes more. Measured were 2,904 for a
- * step, 2,360 for a run, 16 for a resumption, 2,392 for a turn, 32 for putting a machine into a slot, 71,672 for a
- * sheet, 304 and 384 for decoding and encoding, 368 for expanding, 608 for the probe and 1,216 for a place. No call's stack grows with the memory, the budget or the sheet. */
+ * step, 2,360 for a run, 16 for a resumption, 2,376 for a turn, 640 for putting a machine into a slot, 70,360 for a
+ * sheet, 304 and 384 for decoding and encoding, 352 for expanding, 608 for the probe and 944 for a place. No call's stack grows with the memory, the budget or the sheet. */
 #define KOUBOSPAR_STACK_STEP 3072
 #define KOUBOSPAR_STACK_RUN 2560
 #define KOUBOSPAR_STACK_RESUME 768
 #define KOUBOSPAR_STACK_TURN 3072
-#define KOUBOSPAR_STACK_PUT 256
-#define KOUBOSPAR_STACK_RESPOND 71936
+#define KOUBOSPAR_STACK_PUT 768
+#define KOUBOSPAR_STACK_RESPOND 71168
 #define KOUBOSPAR_STACK_DECODE 512
 #define KOUBOSPAR_STACK_ENCODE 512
 #define KOUBOSPAR_STACK_EXPAND 512
 #define KOUBOSPAR_STACK_PROBE 768
-#define KOUBOSPAR_STACK_PLACE 1408
+#define KOUBOSPAR_STACK_PLACE 1152
 
 /* A step call is a run of one step: of a locked machine it costs 1,170 to 2,890 instructions more than a step inside a run, which
  * costs some 120 to 190 on the programs of bench/ (bench/README.md). A turn of four slots costs 3,340 to 11,920 more than its run. Make runs, and steps only where one must look in between. */

@@ -1,5 +1,5 @@
 -- The fields of a line by twos, as `next` gives them.
-use Rattle.std.proofs.Common.{◌≡◌, List, [], ◌∷◌, ℕ, drop, refl, sym, ap, ◌∙◌, subst, Option, None, Some}
+use Rattle.std.proofs.Common.{◌≡◌, true, false, cond, eqb, List, [], ◌∷◌, ℕ, length, drop, refl, sym, ap, ◌∙◌, subst, Option, None, Some}
 use Rattle.std.specs.List.{slice_split}
 use Rattle.std.proofs.lemmas.Iterator.{YieldsList}
 use denote.Ref.{Bor}
@@ -24,11 +24,10 @@ module _ {S : Type 0} {steps : S → Option (Bor (List ℕ)) → S → Type 0} w
         let second = first.1.1 g u (subst (λ o. steps t o u) d other) in
         (more, rw (first.0, second.0) refl, record { runs = second.1 })
 
-    one_comes : (base : ℕ) (f : Bor (List ℕ)) (fs : List (List ℕ)) → YieldsList steps (λ f. f.now) s fs → steps s p t → steps t q u → p ≡ Some f → q ≡ None → pairs base fs ≡ []
-    unfolding pairs
-    one_comes base f [] all one other e d = refl
-    one_comes base f (a ∷ []) all one other e d = refl
-    one_comes base f (a ∷ b ∷ fs) all one other e d = absurd ((all.runs.1 f t (subst (λ o. steps s o t) e one)).1.0 u (subst (λ o. steps t o u) d other))
+    one_comes : (f : Bor (List ℕ)) (fs : List (List ℕ)) → YieldsList steps (λ f. f.now) s fs → steps s p t → steps t q u → p ≡ Some f → q ≡ None → fs ≡ f.now ∷ []
+    one_comes f [] all one other e d = absurd (all.runs f t (subst (λ o. steps s o t) e one))
+    one_comes f (a ∷ []) all one other e d = let first = all.runs.1 f t (subst (λ o. steps s o t) e one) in rw first.0 refl
+    one_comes f (a ∷ b ∷ fs) all one other e d = absurd ((all.runs.1 f t (subst (λ o. steps s o t) e one)).1.0 u (subst (λ o. steps t o u) d other))
 
   none_comes : {s t : S} {p : Option (Bor (List ℕ))} (base : ℕ) (fs : List (List ℕ)) → YieldsList steps (λ f. f.now) s fs → steps s p t → p ≡ None → pairs base fs ≡ []
   unfolding pairs
@@ -48,9 +47,17 @@ module _ {S : Type 0} {steps : S → Option (Bor (List ℕ)) → S → Type 0} w
           let on = two_come f g still.fields still.come one other e d in
           record { fields = on.0; come = on.2; makes = ap (λ fs. put_all put x (pairs base fs)) (sym on.1) ∙ still.makes }
 
-      pub put_one : {u : S} {q : Option (Bor (List ℕ))} {f : Bor (List ℕ)} → steps t q u → p ≡ Some f → q ≡ None → x ≡ whole
-      unfolding put_all
-      put_one {u} {q} {f} other e d = ap (put_all put x) (sym (one_comes base f still.fields still.come one other e d)) ∙ still.makes
+      -- a last field without another: nothing if it is empty, else a number whose value is 0
+      put_one : {u : S} {q : Option (Bor (List ℕ))} {f : Bor (List ℕ)} → steps t q u → p ≡ Some f → q ≡ None → put_all put x (pairs base (f.now ∷ [])) ≡ whole
+      put_one {u} {q} {f} other e d = ap (λ fs. put_all put x (pairs base fs)) (sym (one_comes f still.fields still.come one other e d)) ∙ still.makes
+
+      pub put_lone : {u : S} {q : Option (Bor (List ℕ))} {f : Bor (List ℕ)} → steps t q u → p ≡ Some f → q ≡ None → eqb (length f.now) 0 ≡ false → put x (number base f.now) 0 ≡ whole
+      unfolding pairs put_all
+      put_lone {u} {q} {f} other e d k = ap (λ b. put_all put x (cond b [] ((number base f.now, 0) ∷ []))) (sym k) ∙ put_one other e d
+
+      pub put_empty : {u : S} {q : Option (Bor (List ℕ))} {f : Bor (List ℕ)} → steps t q u → p ≡ Some f → q ≡ None → eqb (length f.now) 0 ≡ true → x ≡ whole
+      unfolding pairs put_all
+      put_empty {u} {q} {f} other e d k = ap (λ b. put_all put x (cond b [] ((number base f.now, 0) ∷ []))) (sym k) ∙ put_one other e d
 
       pub put_none : p ≡ None → x ≡ whole
       unfolding put_all

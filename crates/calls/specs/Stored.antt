@@ -1,17 +1,18 @@
 -- The machine and the memory that the lines of a stored call describe; README.md has the form. No promise rests on this file: it serves the program `calls`.
--- Machine is declared in model/src/lib.rt. Assumes nothing.
-use Rattle.std.specs.Prelude.{cond, List, [], ◌∷◌, ℕ, ◌+◌, ◌*◌, leb, get_or, set, drop, replicate}
+-- Machine is declared in model/src/lib.rt, Lines in src/stored.rt. Assumes nothing.
+use Rattle.std.specs.Prelude.{◌≡◌, ◌<◌, cond, List, [], ◌∷◌, ℕ, ◌+◌, ◌*◌, eqb, leb, length, get_or, set, drop, replicate}
 use Rattle.text.specs.Number.{number}
-use Rattle.text.specs.Split.{fields, row_of}
+use Rattle.text.specs.Split.{lines, fields, row_of}
 use Rattle.model.specs.Bytes.{written}
 use Rattle.model.specs.Machine.{last_region, regions_from}
 use Rattle.model.specs.declared.HfiState.{HfiState}
 use Rattle.model.specs.declared.Machine.{Machine}
+use Rattle.calls.specs.declared.stored.Lines.{Lines}
 
--- fields by twos: a number in a base, and a hexadecimal one
+-- fields by twos: a number in a base, and a hexadecimal one. A last number without a value has the value 0, and an empty last field is none
 unfoldable pub pairs : ℕ → List (List ℕ) → List (ℕ × ℕ)
 pairs base [] = []
-pairs base (f ∷ []) = []
+pairs base (f ∷ []) = cond (eqb (length f) 0) [] ((number base f, 0) ∷ [])
 pairs base (f ∷ g ∷ fs) = (number base f, number 16 g) ∷ pairs base fs
 
 -- what `put` leaves, of each pair in turn
@@ -75,3 +76,14 @@ machine_of state x =
       pc = get_or (state_values state) 1 0;
       hfi = hfi_of (state_values state);
     }
+
+-- "A call is five lines": a text that is not empty begins with one, of which the lines that the text has no more of are empty
+pub record FirstCall (s : List ℕ) (c : Lines) (left : List ℕ) : Type 0 where
+  pub some : 0 < length s
+  pub name : c.name.now ≡ get_or (lines s) 0 []
+  pub call : c.call.now ≡ get_or (lines s) 1 []
+  pub state : c.state.now ≡ get_or (lines s) 2 []
+  pub x : c.x.now ≡ get_or (lines s) 3 []
+  pub memory : c.memory.now ≡ get_or (lines s) 4 []
+  pub rest : lines left ≡ drop 5 (lines s)
+  pub less : length left < length s

@@ -6,12 +6,13 @@ mod stored;
 
 use answer::Answer;
 use columns::{each_doubleword, each_register, read_file};
+use input::counted;
 use model::Machine;
 use run::run_call;
 use std::io;
 use std::rt::Files;
 use step::call::{resume_call, step_call};
-use stored::{Lines, fill, machine};
+use stored::{Lines, fill, first_call, machine};
 use text::row::read_row;
 
 // What is called, with the budget of a run and the value of a resumption.
@@ -58,24 +59,12 @@ fn show(rt: &impl Print, c: &Lines) -> io::Result<()> {
     println!(rt)
 }
 
-// Makes each call of a text. A call is five lines, so a turn takes five, where a `for` takes one.
+// Makes each call of a text.
 fn show_all(rt: &impl Print, s: &[u8]) -> io::Result<()> {
-    let mut lines = s.split(|&b| b == b'\n');
-    while let (Some(name), Some(call), Some(state), Some(x), Some(memory)) = (
-        lines.next(),
-        lines.next(),
-        lines.next(),
-        lines.next(),
-        lines.next(),
-    ) {
-        let call = Lines {
-            name,
-            call,
-            state,
-            x,
-            memory,
-        };
+    let mut left = s;
+    while let Some((call, after)) = first_call(left) {
         show(rt, &call)?;
+        left = after;
     }
     Ok(())
 }
@@ -86,7 +75,8 @@ fn show_in(
     name: &str,
     room: &mut [u8; 655360],
 ) -> io::Result<()> {
-    show_all(rt, read_file(rt, name, room))
+    let n = read_file(rt, name, room);
+    show_all(rt, counted(room, n))
 }
 
 // Makes each call of a file.

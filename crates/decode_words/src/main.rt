@@ -2,13 +2,14 @@
 // has what LLVM, document 01 and QEMU say of the words. data/README.md has the columns.
 #![tactic(auto)]
 
-ghost use Rattle.std.specs.Prelude.{◌≡◌, ◌<◌};
+ghost use Rattle.std.specs.Prelude.{◌≡◌, ◌<◌, ◌≤◌};
 ghost use Rattle.instructions.specs.Answers.{decode_number};
 
 use columns::{column, hexadecimal_at, read_file};
 use decode::decode;
 use encode::answer::Encoding;
 use encode::encode;
+use input::counted;
 use instructions::instruction::Instruction;
 use std::io;
 use std::rt::Files;
@@ -33,16 +34,17 @@ fn print_word(rt: &impl Print, w: u32) -> io::Result<()> {
     println!(rt)
 }
 
-// A record's word is its first column, and its text, where it has one, the second.
-fn print_records(
+// A record's word is its first column, and its text, where it has one, the second. A file is read as far as its room goes.
+fn print_records<const ROOM: usize>(
     rt: &(impl Files + Print + Eprint),
     path: &str,
     record_size: usize,
 ) -> io::Result<()>
-    requires { 0 < record_size }
+    requires { (0 < record_size) × (ROOM ≤ 131072) }
 {
-    let mut room = [0u8; 131072];
-    for r in read_file(rt, path, &mut room).chunks_exact(record_size) {
+    let mut room = [0u8; ROOM];
+    let n = read_file(rt, path, &mut room);
+    for r in counted(&room, n).chunks_exact(record_size) {
         let w = (hexadecimal_at(r, 0, 8) % (1 << 32)) as u32;
         rt.write_all(column(r, 9, 24))?;
         print_word(rt, w)?;
@@ -52,9 +54,9 @@ fn print_records(
 
 fn main(rt: HostRuntime) -> io::Result<()> {
     println!(rt; "llvm")?;
-    print_records(&rt, "llvm.columns", 45)?;
+    print_records::<16384>(&rt, "llvm.columns", 45)?;
     println!(rt; "document")?;
-    print_records(&rt, "document.columns", 45)?;
+    print_records::<16384>(&rt, "document.columns", 45)?;
     println!(rt; "words")?;
-    print_records(&rt, "words.columns", 9)
+    print_records::<131072>(&rt, "words.columns", 9)
 }

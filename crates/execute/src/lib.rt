@@ -34,7 +34,7 @@ fn system(m: &mut Machine, k: SystemKind) -> Result<(), Stop>
             }
             let pc = m.pc;
             m.pc = m.hfi.handler;
-            exit(&mut m.hfi, Reason::SystemCall, pc);
+            exit(&mut m.hfi, Reason::SystemCall.number(), pc);
             Ok(())
         }
         SystemKind::Ebreak => Err(Stop::Breakpoint),

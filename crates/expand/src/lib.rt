@@ -84,42 +84,59 @@ fn jump_or_add(h: u64) -> Option<Instruction>
     }
 }
 
+// The register fields of a half-word. Each arm below reads those that it uses: read before the match, all of them for every half-word,
+// koubospar_expand took 108 instructions where it takes 93.
+fn rd(h: u64) -> u64
+    ensures { result ≡ field h 7 5 }
+{
+    bits(h, 7, 5)
+}
+
+fn rs2(h: u64) -> u64
+    ensures { result ≡ field h 2 5 }
+{
+    bits(h, 2, 5)
+}
+
 // The instruction of any half-word, by its op and funct3.
 #[tactic(auto, unfolding(compressed::specs::Expand::expand_half))]
 pub fn expand(h: u16) -> Option<Instruction>
     ensures { result ≡ expand_half h }
 {
     let h = h as u64;
-    let (rd, rs2) = (bits(h, 7, 5), bits(h, 2, 5));
-    let (rs1_short, rs2_short) = (short(h, 7), short(h, 2));
     match (bits(h, 0, 2), bits(h, 13, 3)) {
         (0, 0) if bits(h, 5, 8) == 0 => None,
         (0, 0) => Some(Instruction::Immediate(
             ImmediateKind::Addi,
-            rs2_short,
+            short(h, 2),
             2,
             addi4spn_immediate(h),
         )),
-        (0, 2) => Some(Instruction::Load(LoadKind::Lw, rs2_short, rs1_short, word_offset(h))),
-        (0, 3) => Some(Instruction::Load(LoadKind::Ld, rs2_short, rs1_short, double_offset(h))),
-        (0, 6) => Some(Instruction::Store(StoreKind::Sw, rs1_short, rs2_short, word_offset(h))),
-        (0, 7) => Some(Instruction::Store(StoreKind::Sd, rs1_short, rs2_short, double_offset(h))),
-        (1, 0) => Some(Instruction::Immediate(ImmediateKind::Addi, rd, rd, immediate(h))),
-        (1, 1) if rd == 0 => None,
-        (1, 1) => Some(Instruction::Addiw(rd, rd, immediate(h))),
-        (1, 2) => Some(Instruction::Immediate(ImmediateKind::Addi, rd, 0, immediate(h))),
+        (0, 2) => Some(Instruction::Load(LoadKind::Lw, short(h, 2), short(h, 7), word_offset(h))),
+        (0, 3) => Some(Instruction::Load(LoadKind::Ld, short(h, 2), short(h, 7), double_offset(h))),
+        (0, 6) => Some(Instruction::Store(StoreKind::Sw, short(h, 7), short(h, 2), word_offset(h))),
+        (0, 7) => Some(Instruction::Store(
+            StoreKind::Sd,
+            short(h, 7),
+            short(h, 2),
+            double_offset(h),
+        )),
+        (1, 0) => Some(Instruction::Immediate(ImmediateKind::Addi, rd(h), rd(h), immediate(h))),
+        (1, 1) if rd(h) == 0 => None,
+        (1, 1) => Some(Instruction::Addiw(rd(h), rd(h), immediate(h))),
+        (1, 2) => Some(Instruction::Immediate(ImmediateKind::Addi, rd(h), 0, immediate(h))),
         (1, 3) => upper(h),
         (1, 4) => arithmetic(h),
         (1, 5) => Some(Instruction::Jal(0, jump_offset(h))),
-        (1, 6) => Some(Instruction::Branch(BranchKind::Beq, rs1_short, 0, branch_offset(h))),
-        (1, 7) => Some(Instruction::Branch(BranchKind::Bne, rs1_short, 0, branch_offset(h))),
-        (2, 0) => Some(Instruction::Shift(ShiftKind::Slli, rd, rd, amount(h))),
-        (2, 2 | 3) if rd == 0 => None,
-        (2, 2) => Some(Instruction::Load(LoadKind::Lw, rd, 2, word_from_stack(h))),
-        (2, 3) => Some(Instruction::Load(LoadKind::Ld, rd, 2, double_from_stack(h))),
+        (1, 6) => Some(Instruction::Branch(BranchKind::Beq, short(h, 7), 0, branch_offset(h))),
+        (1, 7) => Some(Instruction::Branch(BranchKind::Bne, short(h, 7), 0, branch_offset(h))),
+        (2, 0) => Some(Instruction::Shift(ShiftKind::Slli, rd(h), rd(h), amount(h))),
+        (2, 2 | 3) if rd(h) == 0 => None,
+        (2, 2) => Some(Instruction::Load(LoadKind::Lw, rd(h), 2, word_from_stack(h))),
+        (2, 3) => Some(Instruction::Load(LoadKind::Ld, rd(h), 2, double_from_stack(h))),
         (2, 4) => jump_or_add(h),
-        (2, 6) => Some(Instruction::Store(StoreKind::Sw, 2, rs2, word_to_stack(h))),
-        (2, 7) => Some(Instruction::Store(StoreKind::Sd, 2, rs2, double_to_stack(h))),
+        (2, 6) => Some(Instruction::Store(StoreKind::Sw, 2, rs2(h), word_to_stack(h))),
+        (2, 7) => Some(Instruction::Store(StoreKind::Sd, 2, rs2(h), double_to_stack(h))),
         _ => None,
     }
 }

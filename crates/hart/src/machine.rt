@@ -50,8 +50,13 @@ pub fn denied(m: &mut Machine, op: Op, d: Denied) -> Stop
                 op: op.number(),
                 address,
             };
-            Stop::AccessRefused(op)
+            if op == Op::Fetch {
+                Stop::FetchRefused
+            } else {
+                Stop::AccessRefused
+            }
         }
-        Denied::Absent(at) => Stop::AccessAbsent(op, at),
+        Denied::Absent(at) if op == Op::Fetch => Stop::FetchAbsent(at),
+        Denied::Absent(at) => Stop::AccessAbsent(at),
     }
 }

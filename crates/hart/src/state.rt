@@ -1,11 +1,9 @@
 // Reading and changing the parts of the HFI state.
 ghost use Rattle.std.specs.Prelude.{◌≡◌};
-ghost use Rattle.model.specs.Stops.{reason_number};
 ghost use Rattle.model.specs.Machine.{inside as is_inside, locked as is_locked, redirects_calls, redirects_exits, entered, exited};
 
 use model::HfiState;
 use model::permission::Choice;
-use model::stop::Reason;
 
 // In HFI mode?
 pub fn inside(h: &HfiState) -> bool
@@ -45,11 +43,11 @@ pub fn enter(h: &mut HfiState, options: u64)
     h.fault.occurred = 0;
 }
 
-// Out of HFI mode, for a reason, from this pc.
-pub fn exit(h: &mut HfiState, reason: Reason, pc: u64)
-    ensures { h.new ≡ exited h.old (reason_number reason) pc }
+// Out of HFI mode, for a reason, from this pc. (A number, as the record keeps it: any may be put there, `Reason` names those that have a meaning.)
+pub fn exit(h: &mut HfiState, reason: u64, pc: u64)
+    ensures { h.new ≡ exited h.old reason pc }
 {
     h.mode = 0;
-    h.reason = reason.number();
+    h.reason = reason;
     h.epc = pc;
 }

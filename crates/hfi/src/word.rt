@@ -35,7 +35,7 @@ fn leave(h: &mut HfiState, pc: u64, next: u64) -> u64
     ensures left { h.new ≡ exited h.old 1 pc }
 {
     let after = if redirects_exits(h) { h.handler } else { next };
-    exit(h, Reason::Exit, pc);
+    exit(h, Reason::Exit.number(), pc);
     after
 }
 

@@ -8,6 +8,7 @@ use native.Mathlib.Nat.{add-zero, zero-add, add-suc, suc-add, le_of_suc-le-suc, 
 use lib.Dec.{eqb}
 use lib.ListN.{length, get_or}
 use Rattle.std.proofs.lemmas.Bool.{and_parts}
+use Rattle.words.specs.Word.{field}
 use Rattle.instructions.specs.Table.{of_code}
 use Rattle.instructions.specs.Kinds.{HfiRow, hfi_row, hfi_code, hfi_kinds, named}
 use Rattle.instructions.specs.Decode.{named_at}
@@ -67,10 +68,34 @@ agrees_named r x rd rs1 rs2 t =
     let q = and_parts (same x.rs1 r.rs1) _ p.1 in
     rw (same_true x.rd r.rd p.0, same_true x.rs1 r.rs1 q.0, same_true x.rs2 r.rs2 q.1) refl
 
--- a table that passes at every row decides as document 01's table does
-pub named_rule : (xs : List Named) (d : Named) → every right 0 xs ≡ true → (n rd rs1 rs2 : ℕ) → n < length xs
-    → named_by (get_or xs n d) rd rs1 rs2 ≡ named_at n rd rs1 rs2
-named_rule xs d t n rd rs1 rs2 h =
-    let x = get_or xs n d in
+-- A table that passes at every row decides as document 01's table does. Its entries are of any type, from which is read what they name.
+pub named_rule : {X : Type 0} (reads : X → Named) (xs : List X) (d : X) → every (λ n x. right n (reads x)) 0 xs ≡ true → (n rd rs1 rs2 : ℕ) → n < length xs
+    → named_by (reads (get_or xs n d)) rd rs1 rs2 ≡ named_at n rd rs1 rs2
+named_rule reads xs d t n rd rs1 rs2 h =
+    let x = reads (get_or xs n d) in
     sym (code_told hfi_code (λ (k : HfiKind). agrees (hfi_row k) x) (λ (k : HfiKind). named (hfi_row k) rd rs1 rs2) false
-    (named_by x rd rs1 rs2) hfi_kinds n (every_at right xs d t n h) (λ k e. agrees_named (hfi_row k) x rd rs1 rs2 e))
+    (named_by x rd rs1 rs2) hfi_kinds n (every_at (λ n x. right n (reads x)) xs d t n h) (λ k e. agrees_named (hfi_row k) x rd rs1 rs2 e))
+
+-- ---- a table of rows, as the code's is
+pub named_rule_of_rows : (xs : List Named) (d : Named) → every right 0 xs ≡ true → (n rd rs1 rs2 : ℕ) → n < length xs
+    → named_by (get_or xs n d) rd rs1 rs2 ≡ named_at n rd rs1 rs2
+named_rule_of_rows xs d t = named_rule (λ x. x) xs d t
+
+-- ---- a table of numbers, of which bits 0, 1 and 2 say what a row names
+abbrev pub row_of_bits : ℕ → Named
+row_of_bits x = record { rd = eqb (field x 0 1) 1; rs1 = eqb (field x 1 1) 1; rs2 = eqb (field x 2 1) 1 }
+
+abbrev agrees_bits : HfiRow → ℕ → Bool
+agrees_bits r x = same (eqb (field x 0 1) 1) r.rd && (same (eqb (field x 1 1) 1) r.rs1 && same (eqb (field x 2 1) 1) r.rs2)
+
+-- there is a row with number n, and x agrees with it
+abbrev pub right_bits : ℕ → ℕ → Bool
+right_bits n x = of_code hfi_code (λ (k : HfiKind). agrees_bits (hfi_row k) x) false hfi_kinds n
+
+-- each register field is zero, or its bit in x is set
+abbrev pub named_by_bits : ℕ → ℕ → ℕ → ℕ → Bool
+named_by_bits x rd rs1 rs2 = (eqb (field x 0 1) 1 || eqb rd 0) && ((eqb (field x 1 1) 1 || eqb rs1 0) && (eqb (field x 2 1) 1 || eqb rs2 0))
+
+pub named_rule_of_bits : (xs : List ℕ) → every right_bits 0 xs ≡ true → (n rd rs1 rs2 : ℕ) → n < length xs
+    → named_by_bits (get_or xs n 0) rd rs1 rs2 ≡ named_at n rd rs1 rs2
+named_rule_of_bits xs t = named_rule row_of_bits xs 0 t

@@ -55,10 +55,10 @@ pub fn koubospar_probe() -> Machine
 
 // What stands in place i of the registers, pc and the HFI state before its regions. Here and below 0 for no such place, as the
 // definition has it: with an Option each arm would be a `Some(..)`, which koubospar_place would undo at once by `unwrap_or(0)`.
-fn in_hart(m: &Machine, i: u64) -> u64
-    ensures { result ≡ lookup 0 (in_hart m.now) i }
+fn in_hart(m: Machine, i: u64) -> u64
+    ensures { result ≡ lookup 0 (in_hart m) i }
 {
-    let hfi = &m.hfi;
+    let hfi = m.hfi;
     match i {
         0 => m.x[0],
         31 => m.x[31],
@@ -100,13 +100,14 @@ fn in_fault(f: Fault, i: u64) -> u64
 pub fn koubospar_place(m: Machine, i: u64) -> u64
     ensures { result ≡ at_place m i }
 {
-    let hfi = &m.hfi;
+    // The regions apart: indexed in the record, they would take a copy of the whole record on the stack.
+    let regions = m.hfi.regions;
     if i < FIRST_REGION {
-        return in_hart(&m, i);
+        return in_hart(m, i);
     }
     if i < FIRST_FAULT {
         let k = i - FIRST_REGION;
-        return in_region(hfi.regions[(k / 3) as usize], k % 3);
+        return in_region(regions[(k / 3) as usize], k % 3);
     }
-    in_fault(hfi.fault, i - FIRST_FAULT)
+    in_fault(m.hfi.fault, i - FIRST_FAULT)
 }

@@ -61,7 +61,13 @@ pub fn load(
     requires { rd < 32 }
     ensures { stepped_with (answer_of result m.new) mem.now ≡ load_of m.old mem.now next (data_access m.old.hfi.regions read_bit a (load_width k)) k rd }
 {
-    let verdict = check_data(&m.hfi, Permission::Read, mem.len() as u64, a, load_width(k));
+    let verdict = check_data(
+        &m.hfi,
+        Permission::Read.bit(),
+        mem.len() as u64,
+        a,
+        load_width(k),
+    );
     finish_load(m, mem, next, verdict, k, rd, a)
 }
 
@@ -80,7 +86,14 @@ pub fn hload(
     ensures { stepped_with (answer_of result m.new) mem.now ≡ load_of m.old mem.now next (explicit_access m.old.hfi.regions region read_bit (offset_of offset.operand offset.imm) (load_width k)) k rd }
 {
     let len = mem.len() as u64;
-    let verdict = check_explicit(&m.hfi, region, Permission::Read, len, offset, load_width(k));
+    let verdict = check_explicit(
+        &m.hfi,
+        region,
+        Permission::Read.bit(),
+        len,
+        offset,
+        load_width(k),
+    );
     let first = explicit_address(
         region_at(&m.hfi.regions, region),
         offset.operand,
@@ -125,7 +138,7 @@ pub fn store(
 {
     let verdict = check_data(
         &m.hfi,
-        Permission::Write,
+        Permission::Write.bit(),
         mem.len() as u64,
         a,
         store_width(k),
@@ -150,7 +163,7 @@ pub fn hstore(
     let verdict = check_explicit(
         &m.hfi,
         region,
-        Permission::Write,
+        Permission::Write.bit(),
         len,
         offset,
         store_width(k),

@@ -1,7 +1,7 @@
 // The questions that every byte of an access is asked before any is touched; `len` is the memory's length.
 ghost use Rattle.std.specs.Prelude.{◌≡◌, ◌==◌, ℕ, Bool, ◌<◌, ◌≤◌};
 ghost use Rattle.model.specs.Machine.{region};
-ghost use Rattle.model.specs.Regions.{permission_bit, first_match, implicit_grants};
+ghost use Rattle.model.specs.Regions.{first_match, implicit_grants};
 ghost use Rattle.model.specs.Access.{fetch_access, data_access, implicit_access, explicit_access, offset as offset_of, scan, first_refused, first_absent, verdict};
 ghost use Rattle.memory.specs.Loops.{explicit_refused, presence_of, explicit_first, has_whole, touches as is_touched, grants_whole, passes_whole, fetches_whole};
 
@@ -13,14 +13,15 @@ use model::stop::Denied;
 use model::{CODE_REGIONS, DATA_REGIONS, HfiState, REGIONS, Region};
 
 // An access that the implicit regions numbered `regions` decide, asked in their order: the `count` bytes from `first` on, each with the permission
-// `wanted`.
+// `wanted`, a bit number.
 #[derive(Clone, Copy)]
 struct Access<'a> {
     regions: &'a [u64],
-    wanted: Permission,
+    wanted: u64,
     first: u64,
     count: u64,
     ghost some: { 0 < count },
+    ghost bit: { wanted < 64 },
 }
 
 // Outside HFI mode, where no region is asked. (The mode is a number, as C declares it: with any but 0 they are.)
@@ -43,8 +44,9 @@ pub fn first_match(rs: &[Region; REGIONS], ns: &[u64], a: u64) -> u64
 
 // Does the region that decides grant the byte at `a`?
 #[tactic(auto, unfolding(model::specs::Regions::implicit_grants))]
-pub fn grants(rs: &[Region; REGIONS], ns: &[u64], wanted: Permission, a: u64) -> bool
-    ensures { result ≡ implicit_grants rs.now ns.now (permission_bit wanted) a }
+pub fn grants(rs: &[Region; REGIONS], ns: &[u64], wanted: u64, a: u64) -> bool
+    requires { wanted < 64 }
+    ensures { result ≡ implicit_grants rs.now ns.now wanted a }
 {
     let n = first_match(rs, ns, a);
     n != 0 && permits(wanted, region_at(rs, n))
@@ -73,7 +75,7 @@ fn first_failing<F: Fn(u64) -> bool>(n: u64, passes: F) -> u64
 
 // The first byte that is not granted, or the count (no Option: see `first_failing`).
 fn first_refused_implicit(h: &HfiState, access: Access) -> u64
-    ensures { result ≡ first_refused h.now.mode (implicit_access h.now.regions access.entry.regions.now (permission_bit access.entry.wanted) access.entry.first access.entry.count) }
+    ensures { result ≡ first_refused h.now.mode (implicit_access h.now.regions access.entry.regions.now access.entry.wanted access.entry.first access.entry.count) }
 {
     first_failing(
         access.count,
@@ -88,8 +90,9 @@ fn first_refused_implicit(h: &HfiState, access: Access) -> u64
 }
 
 // Does the implicit region keep its rule and have the bytes at `a` and `last`, with the permission? Then it has those between.
-fn has_whole(r: Region, wanted: Permission, a: u64, last: u64) -> bool
-    ensures { result ≡ has_whole r (permission_bit wanted) a last }
+fn has_whole(r: Region, wanted: u64, a: u64, last: u64) -> bool
+    requires { wanted < 64 }
+    ensures { result ≡ has_whole r wanted a last }
 {
     (a & r.bound) == r.base && (last & r.bound) == r.base && permits(wanted, r) && implicit_rule(r)
 }
@@ -108,7 +111,7 @@ fn touches(r: Region, last: u64, n: u64) -> bool
 #[tactic(auto, using(crate::proofs::Whole::whole_here, crate::proofs::Whole::whole_touched, crate::proofs::Whole::whole_next, crate::proofs::Whole::whole_end))]
 #[inline(always)]
 fn grants_whole(rs: &[Region; REGIONS], access: Access) -> bool
-    ensures { result ≡ grants_whole rs.now access.entry.regions.now (permission_bit access.entry.wanted) access.entry.first access.entry.count }
+    ensures { result ≡ grants_whole rs.now access.entry.regions.now access.entry.wanted access.entry.first access.entry.count }
 {
     let last = access.first.wrapping_add(access.count - 1);
     for &number in access.regions {
@@ -129,15 +132,9 @@ const FAR: u64 = 0x4000_0000_0000_0000;
 
 // The first byte that the explicit region does not grant, or `n` (no Option: see `first_failing`).
 #[inline(always)]
-fn first_refused_explicit(
-    h: &HfiState,
-    r: Region,
-    wanted: Permission,
-    offset: Offset,
-    n: u64,
-) -> u64
-    requires { n ≤ 8 }
-    ensures { result ≡ explicit_refused h.now.mode r (permission_bit wanted) (offset_of offset.operand offset.imm) n }
+fn first_refused_explicit(h: &HfiState, r: Region, wanted: u64, offset: Offset, n: u64) -> u64
+    requires { (wanted < 64) × (n ≤ 8) }
+    ensures { result ≡ explicit_refused h.now.mode r wanted (offset_of offset.operand offset.imm) n }
 {
     let ok = (explicit_rule(r) & permits(wanted, r)) & (offset.operand < FAR);
     let sum = offset.sum();
@@ -175,7 +172,7 @@ fn presence(len: u64, a: u64, n: u64) -> Result<(), Denied>
 #[cold]
 #[tactic(auto, using(crate::proofs::Loops::refused_verdict, crate::proofs::Loops::granted_verdict))]
 fn check_bytes(h: &HfiState, len: u64, access: Access) -> Result<(), Denied>
-    ensures { result ≡ verdict h.now.mode len (implicit_access h.now.regions access.entry.regions.now (permission_bit access.entry.wanted) access.entry.first access.entry.count) }
+    ensures { result ≡ verdict h.now.mode len (implicit_access h.now.regions access.entry.regions.now access.entry.wanted access.entry.first access.entry.count) }
 {
     let i = first_refused_implicit(h, access);
     if i < access.count {
@@ -189,7 +186,7 @@ fn check_bytes(h: &HfiState, len: u64, access: Access) -> Result<(), Denied>
 // program past plain C with the same checks (crc-32 took 175 instructions a step, where C takes 133 and this 123).
 #[inline(always)]
 fn passes_whole(h: &HfiState, access: Access) -> bool
-    ensures { result ≡ passes_whole h.now.mode h.now.regions access.entry.regions.now (permission_bit access.entry.wanted) access.entry.first access.entry.count }
+    ensures { result ≡ passes_whole h.now.mode h.now.regions access.entry.regions.now access.entry.wanted access.entry.first access.entry.count }
 {
     outside(h) || grants_whole(&h.regions, access)
 }
@@ -200,7 +197,7 @@ pub fn fetches_whole(h: &HfiState, len: u64, pc: u64) -> bool
 {
     let word = Access {
         regions: &CODE_REGIONS,
-        wanted: Permission::Execute,
+        wanted: Permission::Execute.bit(),
         first: pc,
         count: 4,
     };
@@ -213,7 +210,7 @@ pub fn check_fetch(h: &HfiState, len: u64, a: u64) -> Result<(), Denied>
 {
     let half_word = Access {
         regions: &CODE_REGIONS,
-        wanted: Permission::Execute,
+        wanted: Permission::Execute.bit(),
         first: a,
         count: 2,
     };
@@ -223,9 +220,9 @@ pub fn check_fetch(h: &HfiState, len: u64, a: u64) -> Result<(), Denied>
 // Questions 10 and 11 of an ordinary load or store. That `n` is at most 8 stays a clause, here and for h-words: a struct would be made of it by the caller and
 // taken apart here, since it is a plain number where it comes from (`width`), where it is counted with, and where it goes (`bytes`).
 #[tactic(auto, using(crate::proofs::Whole::whole_passes, crate::proofs::Loops::granted_verdict))]
-pub fn check_data(h: &HfiState, wanted: Permission, len: u64, a: u64, n: u64) -> Result<(), Denied>
-    requires { (0 < n) × (n ≤ 8) }
-    ensures { result ≡ verdict h.now.mode len (data_access h.now.regions (permission_bit wanted) a n) }
+pub fn check_data(h: &HfiState, wanted: u64, len: u64, a: u64, n: u64) -> Result<(), Denied>
+    requires { (wanted < 64) × (0 < n) × (n ≤ 8) }
+    ensures { result ≡ verdict h.now.mode len (data_access h.now.regions wanted a n) }
 {
     let access = Access {
         regions: &DATA_REGIONS,
@@ -253,13 +250,13 @@ pub fn explicit_address(r: Region, operand: u64, imm: u64) -> u64
 pub fn check_explicit(
     h: &HfiState,
     number: u64,
-    wanted: Permission,
+    wanted: u64,
     len: u64,
     offset: Offset,
     n: u64,
 ) -> Result<(), Denied>
-    requires { n ≤ 8 }
-    ensures { result ≡ verdict h.now.mode len (explicit_access h.now.regions number (permission_bit wanted) (offset_of offset.operand offset.imm) n) }
+    requires { (wanted < 64) × (n ≤ 8) }
+    ensures { result ≡ verdict h.now.mode len (explicit_access h.now.regions number wanted (offset_of offset.operand offset.imm) n) }
 {
     let r = region_at(&h.regions, number);
     let i = first_refused_explicit(h, r, wanted, offset, n);

@@ -1,16 +1,17 @@
 // One region: its rule, its permission and the bytes that it matches.
-ghost use Rattle.std.specs.Prelude.{◌≡◌, ◌+◌, ◌^◌, nat_le};
-ghost use Rattle.model.specs.Regions.{permission_bit, permits as is_permitted, mask_zeros, implicit_rule, small_rule, large_rule, explicit_rule, matches as is_matched};
+ghost use Rattle.std.specs.Prelude.{◌≡◌, ◌+◌, ◌^◌, ◌<◌, nat_le};
+ghost use Rattle.model.specs.Regions.{permits as is_permitted, mask_zeros, implicit_rule, small_rule, large_rule, explicit_rule, matches as is_matched};
 
 use model::Region;
 use model::permission::Permission;
 use words::bits;
 
-// Does region `r` have the permission `wanted`?
-pub fn permits(wanted: Permission, r: Region) -> bool
-    ensures { result ≡ is_permitted (permission_bit wanted) r }
+// Does region `r` have the permission `wanted`, a bit number? (Any bit may be asked, `Permission` names those that have a meaning.)
+pub fn permits(wanted: u64, r: Region) -> bool
+    requires { wanted < 64 }
+    ensures { result ≡ is_permitted wanted r }
 {
-    bits(r.permission, wanted.bit(), 1) == 1
+    bits(r.permission, wanted, 1) == 1
 }
 
 // The count of the mask's trailing zero bits.
@@ -61,7 +62,7 @@ fn large_rule(r: Region) -> bool
 pub fn explicit_rule(r: Region) -> bool
     ensures { result ≡ explicit_rule r }
 {
-    if permits(Permission::Large, r) {
+    if permits(Permission::Large.bit(), r) {
         large_rule(r)
     } else {
         small_rule(r)

@@ -12,7 +12,7 @@ use Rattle.model.specs.declared.stop.CallRefusal.TheVariants.{MemoryTooLong, Not
 use Rattle.model.specs.declared.stop.Rule.{Rule}
 use Rattle.model.specs.declared.stop.Rule.TheVariants.{Operand, WritableCode as EntersWritableCode, AlreadyInside, NotInside, Locked}
 use Rattle.model.specs.declared.stop.Stop.{Stop}
-use Rattle.model.specs.declared.stop.Stop.TheVariants.{CallRefused, BudgetTooLarge, OddPc, AccessRefused, AccessAbsent, IllegalWord, Broken, OddTarget, SystemCall, Breakpoint, LeftSandbox, OutOfBudget}
+use Rattle.model.specs.declared.stop.Stop.TheVariants.{CallRefused, BudgetTooLarge, OddPc, FetchRefused, FetchAbsent, IllegalWord, Broken, OddTarget, AccessRefused, AccessAbsent, SystemCall, Breakpoint, LeftSandbox, OutOfBudget}
 
 -- "0 none, 1 load, 2 store, 3 fetch"
 abbrev pub op_number : Op → ℕ
@@ -55,11 +55,13 @@ abbrev pub stop_number : Stop → ℕ
 stop_number (CallRefused refusal) = call_refusal_number refusal
 stop_number BudgetTooLarge = 2
 stop_number OddPc = 10
-stop_number (AccessRefused op) = refused_number op
-stop_number (AccessAbsent op at) = absent_number op
+stop_number FetchRefused = 11
+stop_number (FetchAbsent at) = 12
 stop_number IllegalWord = 13
 stop_number (Broken rule) = number_of_rule rule
 stop_number OddTarget = 15
+stop_number AccessRefused = 16
+stop_number (AccessAbsent at) = 17
 stop_number SystemCall = 18
 stop_number Breakpoint = 19
 stop_number LeftSandbox = 20
@@ -70,11 +72,13 @@ abbrev pub stop_address : Stop → ℕ
 stop_address (CallRefused refusal) = 0
 stop_address BudgetTooLarge = 0
 stop_address OddPc = 0
-stop_address (AccessRefused op) = 0
-stop_address (AccessAbsent op at) = at
+stop_address FetchRefused = 0
+stop_address (FetchAbsent at) = at
 stop_address IllegalWord = 0
 stop_address (Broken rule) = 0
 stop_address OddTarget = 0
+stop_address AccessRefused = 0
+stop_address (AccessAbsent at) = at
 stop_address SystemCall = 0
 stop_address Breakpoint = 0
 stop_address LeftSandbox = 0

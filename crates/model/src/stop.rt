@@ -1,6 +1,6 @@
 // Why a step or a call ended, by name. specs/Stops.antt gives each the documents' number and address.
 ghost use Rattle.std.specs.Prelude.{◌≡◌, cond, Ok, Err};
-ghost use Rattle.model.specs.Stops.{op_number, reason_number, refused_number, absent_number, call_refusal_number, number_of_rule, stop_number, stop_address};
+ghost use Rattle.model.specs.Stops.{op_number, reason_number, call_refusal_number, number_of_rule, stop_number, stop_address};
 ghost use Rattle.model.specs.declared.stop.Stop.TheVariants.{CallRefused, Broken};
 
 // The fault record's ops but for 0, which is none.
@@ -43,17 +43,20 @@ pub enum Reason {
     SystemCall = 2,
 }
 
-// What ends a step, a run or the call itself.
+// What ends a step, a run or the call itself. Its number and address tell it (`same_stop` in proofs/Stops.antt), so what is promised of these two
+// is promised of the stop: a load's is no other than a store's.
 #[derive(Clone, Copy, PartialEq, Eq)]
 pub enum Stop {
     CallRefused(CallRefusal),
     BudgetTooLarge,
     OddPc,
-    AccessRefused(Op),
-    AccessAbsent(Op, u64), // with the first absent address
+    FetchRefused,
+    FetchAbsent(u64), // with the first absent address
     IllegalWord,
     Broken(Rule),
     OddTarget,
+    AccessRefused, // of a load or a store
+    AccessAbsent(u64),
     SystemCall,
     Breakpoint,
     LeftSandbox,
@@ -91,20 +94,6 @@ impl Op {
     {
         self as u64
     }
-
-    // The numbers of a refused byte, questions 5 and 10, and of an absent one, 6 and 11. Of one function for both, `Stop::number` would have to
-    // write `op.either(11, 16)` and `op.either(12, 17)`: no name there for what the numbers are.
-    fn refused(self) -> u64
-        ensures { result ≡ refused_number self }
-    {
-        if self == Op::Fetch { 11 } else { 16 }
-    }
-
-    fn absent(self) -> u64
-        ensures { result ≡ absent_number self }
-    {
-        if self == Op::Fetch { 12 } else { 17 }
-    }
 }
 
 impl Reason {
@@ -139,11 +128,13 @@ impl Stop {
             Stop::CallRefused(refusal) => refusal.number(),
             Stop::BudgetTooLarge => 2,
             Stop::OddPc => 10,
-            Stop::AccessRefused(op) => op.refused(),
-            Stop::AccessAbsent(op, _) => op.absent(),
+            Stop::FetchRefused => 11,
+            Stop::FetchAbsent(_) => 12,
             Stop::IllegalWord => 13,
             Stop::Broken(rule) => rule.number(),
             Stop::OddTarget => 15,
+            Stop::AccessRefused => 16,
+            Stop::AccessAbsent(_) => 17,
             Stop::SystemCall => 18,
             Stop::Breakpoint => 19,
             Stop::LeftSandbox => 20,
@@ -156,7 +147,7 @@ impl Stop {
         ensures { result ≡ stop_address self }
     {
         match self {
-            Stop::AccessAbsent(_, at) => at,
+            Stop::FetchAbsent(at) | Stop::AccessAbsent(at) => at,
             _ => 0,
         }
     }

@@ -5,6 +5,7 @@ use Rattle.std.specs.Prelude.{cond, List, [], ◌∷◌, ◌++◌, ℕ, ◌+◌,
 use Rattle.text.specs.Number.{decimal, hexadecimal}
 use Rattle.text.specs.Split.{join_lines}
 use Rattle.model.specs.declared.Fault.{Fault}
+use Rattle.model.specs.declared.Machine.{Machine}
 use Rattle.model.specs.Run.{RunAnswer, run_call}
 use Rattle.setup.specs.Setup.{machine_of}
 use Rattle.sheet.specs.Words.{memory_of, blank}
@@ -13,6 +14,10 @@ use Rattle.sheet.specs.Sheet.{Sheet, read_sheet, refusal_text}
 -- "the fault record's occurred, region, op, address"
 abbrev pub fault_fields : Fault → List (List ℕ)
 fault_fields f = hexadecimal f.occurred ∷ hexadecimal f.region ∷ hexadecimal f.op ∷ hexadecimal f.address ∷ []
+
+-- a result by its parts
+abbrev pub answer : ℕ → ℕ → ℕ → Machine → RunAnswer
+answer stop count address m = record { stop = stop; count = count; address = address; machine = m }
 
 -- "number (decimal), steps, pc, reason, exit pc, and the fault record's occurred, region, op, address"; "All else is hexadecimal
 -- without leading zeros."

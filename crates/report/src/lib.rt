@@ -1,15 +1,15 @@
 // What is printed of a sheet: the definition of the whole program, and the lines of a run's result.
 #![tactic(auto)]
 
-ghost use Rattle.std.specs.Prelude.{[], ◌∷◌, ◌+◌, ◌≤◌, length};
+ghost use Rattle.std.specs.Prelude.{ℕ, [], ◌∷◌, ◌+◌, ◌≤◌, length};
 ghost use Rattle.text.specs.Scan.{comma};
 ghost use Rattle.text.specs.Number.{hexadecimal};
 ghost use Rattle.text.specs.Split.{join_line, join_lines};
 ghost use Rattle.text.specs.Write.{Put};
 ghost use Rattle.model.specs.Run.{run_answer};
-ghost use Rattle.report.specs.Report.{fault_fields, result_line, register_line, register_lines, result_text};
+ghost use Rattle.report.specs.Report.{answer, fault_fields, result_line, register_line, register_lines, result_text};
 
-use model::{Fault, Ran};
+use model::{Fault, Machine, Ran};
 use text::writer::Writer;
 
 // Put by hand, not by `write!`: each function asks for the room that its text needs at most, so that nothing here can fail, and fmt
@@ -40,15 +40,15 @@ fn put_fault(w: &mut Writer, f: Fault)
 }
 
 // The first line: 20 bytes for the number, 17 for each of 8 fields, and the line's end.
-fn put_result_line(w: &mut Writer, r: Ran)
+fn put_result_line(w: &mut Writer, stop: u64, count: u64, m: Machine)
     requires { w.old.at + 157 ≤ length w.old.buffer.now }
-    ensures put { Put w.old (join_lines (result_line (run_answer r) ∷ [])) w.new }
+    ensures put { Put w.old (join_lines (result_line (answer stop count 0 m) ∷ [])) w.new }
     ensures upper_bound { w.new.at ≤ w.old.at + 157 }
 {
-    let h = r.machine.hfi;
-    w.put_number::<10, 20>(r.stop.number());
-    put_field(w, r.count);
-    put_field(w, r.machine.pc);
+    let h = m.hfi;
+    w.put_number::<10, 20>(stop);
+    put_field(w, count);
+    put_field(w, m.pc);
     put_field(w, h.reason);
     put_field(w, h.epc);
     put_fault(w, h.fault);
@@ -80,12 +80,22 @@ fn put_registers(w: &mut Writer, x: [u64; 32])
     }
 }
 
-// A run's result: the first line and the registers' lines. 157 + 32 * 38 bytes are enough for every one.
+// A result by its numbers, whatever address the stop has, which is not printed: the first line and the registers' lines. 157 + 32 * 38 bytes
+// are enough for every one.
+pub fn put_answer(w: &mut Writer, stop: u64, count: u64, m: Machine)
+    requires { w.old.at + 1373 ≤ length w.old.buffer.now }
+    ensures put { (address : ℕ) → Put w.old (result_text (answer stop count address m)) w.new }
+    ensures upper_bound { w.new.at ≤ w.old.at + 1373 }
+{
+    put_result_line(w, stop, count, m);
+    put_registers(w, m.x);
+}
+
+// A run's result.
 pub fn put_result(w: &mut Writer, r: Ran)
     requires { w.old.at + 1373 ≤ length w.old.buffer.now }
     ensures put { Put w.old (result_text (run_answer r)) w.new }
     ensures upper_bound { w.new.at ≤ w.old.at + 1373 }
 {
-    put_result_line(w, r);
-    put_registers(w, r.machine.x);
+    put_answer(w, r.stop.number(), r.count, r.machine);
 }

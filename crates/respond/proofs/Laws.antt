@@ -6,6 +6,7 @@ use native.Mathlib.Omega.{arith}
 use lib.ListN.{length, take}
 use lib.Seq.{length-sets, length-take-le}
 use borrow.Author.Tests.{eq-eqb, ne_eqb}
+use Rattle.std.specs.Prelude.{Result, Ok, Err, OnOk}
 use Rattle.text.specs.Write.{Wrote}
 use Rattle.text.proofs.Writing.{wrote_parts}
 use Rattle.model.specs.declared.Machine.{Machine}
@@ -14,6 +15,8 @@ use Rattle.model.specs.Run.{ran_with, run_call}
 use Rattle.setup.specs.Setup.{machine_of}
 use Rattle.setup.specs.Question.{question_number}
 use Rattle.setup.specs.declared.Setup.{Setup}
+use Rattle.setup.specs.declared.Refused.{Refused}
+use Rattle.setup.specs.Refused.{values_in, answer_in}
 use Rattle.sheet.specs.declared.Refusal as code
 use Rattle.sheet.specs.Words.{memory_of}
 use Rattle.sheet.specs.Sheet.{refusal, read_sheet, refusal_text}
@@ -41,6 +44,12 @@ module _ (mem s : List ℕ) where
       ∙ ap (λ k. result_text (run_call (machine_of k) filled k.budget).result) t
       ∙ ap (λ k. result_text (run_call (machine_of (read_sheet s).setup) k (read_sheet s).setup.budget).result) f
       ∙ sym (rw (eq-eqb (read_sheet s).refusal.question 0 y))
+
+-- what passed was read with its values
+pub ran : (setup : Setup) (r : Result Setup (Refused code.Refusal)) → Ok setup ≡ answer_in r
+    → (setup ≡ values_in r) × ((P : Type 0) → OnOk r P → P)
+ran setup (Ok s) e = (let same : setup ≡ s = cc in same, λ P p. p)
+ran setup (Err x) e = cc
 
 -- ---- a text was written from the start of a buffer that has room for it
 pub answered : (old text new : List ℕ) (r : ℕ) → Wrote old 0 text new r → r ≤ length old

@@ -2,17 +2,28 @@
 #![tactic(auto)]
 
 ghost use Rattle.std.specs.Prelude.{◌≡◌, ◌≤◌, length, take};
+ghost use Rattle.setup.specs.Refused.{answer_in};
 ghost use Rattle.report.specs.Report.{report, report_over};
 ghost use Rattle.respond.specs.Answered.{Answered};
 
 use report::put_result;
 use run::run_call;
-use setup::machine_of;
-use sheet::read_sheet;
+use setup::{Refused, Setup, machine_of};
+use sheet::{Refusal, read_sheet};
 use text::writer::Writer;
 
 // Room for every report: 157 bytes for the first line, 38 for each of 32 registers.
 pub const MOST: usize = 1373;
+
+// The setup that a sheet is run with, or what refuses it: a refused sheet's values are not used.
+fn passed(read: Result<Setup, Refused<Refusal>>) -> Result<Setup, Refusal>
+    ensures { result ≡ answer_in read }
+{
+    match read {
+        Ok(setup) => Ok(setup),
+        Err(e) => Err(e.by),
+    }
+}
 
 // Reads the sheet over a memory, runs it there and writes the report, from the buffer's start on.
 fn respond_over(input: &[u8], output: &mut [u8], mem: &mut [u8; 65536]) -> usize
@@ -21,7 +32,7 @@ fn respond_over(input: &[u8], output: &mut [u8], mem: &mut [u8; 65536]) -> usize
     ensures upper_bound { (result ≤ length output.new) × (result ≡ length (take result output.new)) }
 {
     let mut w = Writer::new(output);
-    match read_sheet(input, mem) {
+    match passed(read_sheet(input, mem)) {
         Ok(setup) => {
             let r = run_call(machine_of(setup), mem, setup.budget);
             put_result(&mut w, r);

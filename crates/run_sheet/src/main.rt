@@ -17,7 +17,7 @@ fn main(rt: HostRuntime) {
     }
     let mut room = [0u8; input::ROOM];
     match input::read_sheet(&mut rt.reader(), &mut room) {
-        Ok(sheet) => answer(&rt, sheet),
+        Ok(n) => answer(&rt, input::counted(&room, n)),
         Err(e) => fail(&rt, "run_sheet: standard input", e),
     }
 }

@@ -3,11 +3,13 @@
 
 pub mod question;
 
-ghost use Rattle.std.specs.Prelude.{◌≡◌, ℕ, ◌++◌, ◌+◌, ◌-◌, ◌*◌, ◌≤◌, length, true, false, replicate, IfOk, MatchOption};
+ghost use Rattle.std.specs.Prelude.{◌≡◌, ℕ, ◌++◌, ◌+◌, ◌-◌, ◌*◌, ◌≤◌, length, true, false, replicate, MatchOption};
 ghost use Rattle.text.specs.Split.{row_as};
 ghost use Rattle.model.specs.Machine.{last_region, no_region, regions_from};
+ghost use Rattle.text.specs.Questions.{first_no};
 ghost use Rattle.setup.specs.Question.{question_of};
-ghost use Rattle.setup.specs.Setup.{regions_in, regions_given, counted, permissions_in_range, budget_field, digits_in_range, values_in_range, setup_row, setup_of, read_setup, machine_of};
+ghost use Rattle.setup.specs.Setup.{regions_in, regions_given, counted, permissions_in_range, budget_field, digits_in_range, values_in_range, setup_questions, setup_row, setup_of, read_setup, machine_of};
+ghost use Rattle.setup.specs.Refused.{setup_as};
 
 use model::stop::keep;
 use model::{HfiState, Machine, REGIONS, Region};
@@ -35,6 +37,13 @@ pub struct Setup {
     pub budget: u64,
 }
 
+// What refuses a line 1, or a sheet, and the values of that line: it is read all the same.
+#[derive(Clone, Copy)]
+pub struct Refused<R> {
+    pub by: R,
+    pub setup: Setup,
+}
+
 // The forms of line 1.
 #[derive(Clone, Copy)]
 enum Form {
@@ -46,13 +55,20 @@ impl Form {
     // The form of a line of so many fields, where that is a form. Not TryFrom: its error would be question 32, which `read_setup`
     // names where it asks it.
     fn of_count(count: usize) -> Option<Form>
-        ensures { MatchOption result (counted count ≡ false) (λ form. (counted count ≡ true) × (regions_in form ≡ regions_given count)) }
+        ensures { MatchOption result ((counted count ≡ false) × (regions_given count ≡ last_region)) (λ form. (counted count ≡ true) × (regions_in form ≡ regions_given count)) }
     {
         match count {
             SHORT_FORM => Some(Form::Short),
             LONG_FORM => Some(Form::Long),
             _ => None,
         }
+    }
+
+    // The form that a line of so many fields is read as: the long one, where that is no form.
+    fn read_as(count: usize) -> Form
+        ensures { regions_in result ≡ regions_given count }
+    {
+        Form::of_count(count).unwrap_or(Form::Long)
     }
 
     // How many regions it gives.
@@ -134,18 +150,26 @@ fn values_in_range(s: &Setup) -> bool
     s.options <= 0xff && permissions_in_range(&s.regions) && s.budget <= 0xffffffff
 }
 
-// The questions of line 1 in their order. The line is taken apart once.
+// The questions of line 1 in their order, of its count of fields, its fields and its values.
+fn ask_line(count: usize, fields: &[Field; LONG_FORM], setup: &Setup) -> Result<(), Question>
+    ensures { question_of result ≡ first_no (setup_questions (regions_given count) (row_as count fields.now) setup.now) }
+{
+    let form = Form::of_count(count).ok_or(Question::FieldCount)?;
+    keep(digits_in_range(form, fields), Question::FieldWidth)?;
+    keep(values_in_range(setup), Question::Range)
+}
+
+// The values of line 1, beside the question that refuses it where one does. The line is taken apart once.
 #[tactic(auto, unfolding(crate::specs::Setup::read_setup))]
-pub fn read_setup(line: &[u8]) -> Result<Setup, Question>
-    ensures refusal { question_of result ≡ (read_setup (setup_row line.now)).question }
-    ensures value { IfOk result (λ setup. setup ≡ (read_setup (setup_row line.now)).setup) }
+pub fn read_setup(line: &[u8]) -> Result<Setup, Refused<Question>>
+    ensures { setup_as result ≡ read_setup (setup_row line.now) }
 {
     let (count, fields) = read_row::<LONG_FORM>(line);
-    let form = Form::of_count(count).ok_or(Question::FieldCount)?;
-    let setup = setup_of(form, &fields);
-    keep(digits_in_range(form, &fields), Question::FieldWidth)?;
-    keep(values_in_range(&setup), Question::Range)?;
-    Ok(setup)
+    let setup = setup_of(Form::read_as(count), &fields);
+    match ask_line(count, &fields, &setup) {
+        Ok(()) => Ok(setup),
+        Err(by) => Err(Refused { by, setup }),
+    }
 }
 
 // The machine in HFI mode, with the values of line 1; all else is 0. A function, not `From`: `Machine::from(s)` would not say that this is

@@ -1,18 +1,20 @@
 // The run sheet: questions 30 to 35, its setup, its words placed in memory, and the line of a refusal.
 #![tactic(auto)]
 
-ghost use Rattle.std.specs.Prelude.{◌≡◌, ◌+◌, ◌-◌, ◌≤◌, length, drop, get_or, IfOk, OnOk};
+ghost use Rattle.std.specs.Prelude.{◌≡◌, [], ◌+◌, ◌-◌, ◌≤◌, length, drop, get_or, IfOk, OnOk};
 ghost use Rattle.text.specs.Scan.{newline, LineStart};
 ghost use Rattle.text.specs.Split.{lines, row_of};
 ghost use Rattle.text.specs.Write.{Put};
 ghost use Rattle.setup.specs.Question.{question_number, question_of};
+ghost use Rattle.setup.specs.Setup.{setup_row, read_setup};
+ghost use Rattle.setup.specs.Refused.{values_in, answer_in};
 ghost use Rattle.sheet.specs.Words.{word_of, read_word, in_range, words_of, memory_of};
 ghost use Rattle.sheet.specs.Sheet.{refusal_of, whole, foreign as foreign_of, foreign_found, file_refusal, words_refusal, read_sheet, refusal_text};
 
 use memory::bytes::write;
 use model::stop::keep;
 use setup::question::Question;
-use setup::{Setup, read_setup};
+use setup::{Refused, Setup, read_setup};
 use text::field::line_at;
 use text::number::is_digit;
 use text::row::{all_wide, read_row, values};
@@ -30,19 +32,28 @@ pub struct Refusal {
     pub lineno: u64,
 }
 
+// "sheet,", the number of a question, a line number and the line's end. Not `write!`: at most 48 bytes go into a buffer that has room for
+// them by contract, and fmt would have to answer an error where it is full (text::writer).
+pub fn put_refusal(w: &mut Writer, question: u64, lineno: u64)
+    requires { w.old.at + 48 ≤ length w.old.buffer.now }
+    ensures put { Put w.old (refusal_text question lineno) w.new }
+    ensures upper_bound { w.new.at ≤ w.old.at + 48 }
+{
+    w.put_text(b"sheet,");
+    w.put_number::<10, 20>(question);
+    w.put_byte(b',');
+    w.put_number::<10, 20>(lineno);
+    w.put_byte(b'\n');
+}
+
 impl Refusal {
-    // "sheet,", the question, the line number and the line's end. Not `write!`: at most 48 bytes go into a buffer that has room for
-    // them by contract, and fmt would have to answer an error where it is full (text::writer).
+    // Its line, by the number of its question.
     pub fn put(self, w: &mut Writer)
         requires { w.old.at + 48 ≤ length w.old.buffer.now }
         ensures put { Put w.old (refusal_text (question_number self.question) self.lineno) w.new }
         ensures upper_bound { w.new.at ≤ w.old.at + 48 }
     {
-        w.put_text(b"sheet,");
-        w.put_number::<10, 20>(self.question.number());
-        w.put_byte(b',');
-        w.put_number::<10, 20>(self.lineno);
-        w.put_byte(b'\n');
+        put_refusal(w, self.question.number(), self.lineno);
     }
 }
 
@@ -64,7 +75,7 @@ fn whole(s: &[u8]) -> bool
 fn foreign(b: u8) -> bool
     ensures { result ≡ foreign_of b }
 {
-    !(is_digit(b) || b == b',' || b == b'\n')
+    !(is_digit(b) | (b == b',') | (b == b'\n'))
 }
 
 // The line of the first byte that no sheet has. The line number runs along, since document 02 asks for that: "carry the line number along as
@@ -145,19 +156,45 @@ fn read_words(s: &[u8], start: usize, mem: &mut [u8]) -> Result<(), Refusal>
     Ok(())
 }
 
-// The setup and, in memory, the words; where the sheet is refused, memory is left free.
-pub fn read_sheet(s: &[u8], mem: &mut [u8]) -> Result<Setup, Refusal>
-    requires { length mem.old ≡ 65536 }
+// The values of line 1, apart from the question that refuses it, if one does.
+fn apart(read: Result<Setup, Refused<Question>>) -> (Setup, Result<(), Question>)
+    ensures { (result.0 ≡ values_in read) × (question_of result.1 ≡ question_of (answer_in read)) }
+{
+    match read {
+        Ok(setup) => (setup, Ok(())),
+        Err(e) => (e.setup, Err(e.by)),
+    }
+}
+
+// The questions of a sheet in their order, of which line 1 was asked its own, and the words placed in memory.
+fn ask_sheet(
+    s: &[u8],
+    line: &[u8],
+    asked: Result<(), Question>,
+    mem: &mut [u8],
+) -> Result<(), Refusal>
+    requires { (length mem.old ≡ 65536) × (line.now ≡ get_or (lines s.now) 0 []) × (question_of asked ≡ (read_setup (setup_row line.now)).question) }
     ensures refusal { refusal_of result ≡ (read_sheet s.now).refusal }
-    ensures value { IfOk result (λ setup. setup ≡ (read_sheet s.now).setup) }
     ensures mem_after { OnOk result (mem.new ≡ memory_of mem.old (read_sheet s.now).words) }
 {
     ask_file(s)?;
-    let line = line_at(s, 0);
-    let setup = read_setup(line).map_err(|question| Refusal {
+    asked.map_err(|question| Refusal {
         question,
         lineno: 1,
     })?;
-    read_words(s, line.len() + 1, mem)?;
-    Ok(setup)
+    read_words(s, line.len() + 1, mem)
+}
+
+// The setup and, in memory, the words; where the sheet is refused, the setup beside what refuses it, and memory is left free.
+pub fn read_sheet(s: &[u8], mem: &mut [u8]) -> Result<Setup, Refused<Refusal>>
+    requires { length mem.old ≡ 65536 }
+    ensures refusal_value { (refusal_of (answer_in result) ≡ (read_sheet s.now).refusal) × (values_in result ≡ (read_sheet s.now).setup) }
+    ensures mem_after { OnOk result (mem.new ≡ memory_of mem.old (read_sheet s.now).words) }
+{
+    let line = line_at(s, 0);
+    let (setup, asked) = apart(read_setup(line));
+    match ask_sheet(s, line, asked, mem) {
+        Ok(()) => Ok(setup),
+        Err(by) => Err(Refused { by, setup }),
+    }
 }

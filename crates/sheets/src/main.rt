@@ -3,7 +3,7 @@
 #![tactic(auto)]
 
 use columns::{column, read_file, unpadded};
-use input::{fail, read_stored};
+use input::{counted, fail, read_stored};
 use std::rt::Files;
 use std::{io, str};
 
@@ -19,7 +19,7 @@ fn print_answer(rt: &impl Print, name: &str, sheet: &[u8]) -> io::Result<()> {
 fn show(rt: &(impl Files + Print + Eprint), name: &str) -> io::Result<()> {
     let mut room = [0u8; input::ROOM];
     match read_stored(rt, name, &mut room) {
-        Ok(sheet) => print_answer(rt, name, sheet),
+        Ok(n) => print_answer(rt, name, counted(&room, n)),
         Err(e) => {
             fail(rt, name, e);
             Ok(())
@@ -41,7 +41,8 @@ fn show_row(rt: &(impl Files + Print + Eprint), row: &[u8]) -> io::Result<()> {
 // Each row of an index is a name of at most 31 bytes, padded with spaces, and the line's end.
 fn show_index(rt: &(impl Files + Print + Eprint), name: &str) -> io::Result<()> {
     let mut room = [0u8; input::ROOM];
-    read_file(rt, name, &mut room)
+    let n = read_file(rt, name, &mut room);
+    counted(&room, n)
         .chunks_exact(32)
         .try_for_each(|row| show_row(rt, row))
 }

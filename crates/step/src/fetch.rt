@@ -36,7 +36,16 @@ pub fn check_word(h: &HfiState, mem: &[u8], pc: u64) -> Result<(), Denied>
     }
 }
 
-// How many bytes the word at `pc` has, and its instruction.
+// How many bytes the word at `pc` has. Its first two tell: of a long word the others need not be in memory. It has no caller here, and stays for
+// its promise.
+pub fn size_at(mem: &[u8], pc: u64) -> u64
+    requires { pc + 2 ≤ length mem.now }
+    ensures { result ≡ size_at mem.now pc }
+{
+    if is_long(read(mem, pc, 2)) { 4 } else { 2 }
+}
+
+// How many bytes the word at `pc` has, and its instruction. (Not by `size_at`: the two bytes would be read twice.)
 #[tactic(auto, unfolding(crate::specs::Fetch::word_at))]
 pub fn word_at(mem: &[u8], pc: u64) -> (u64, Option<Instruction>)
     requires { (pc + 2 ≤ length mem.now) × (is_long (half_at mem.now pc) ≡ true → pc + 4 ≤ length mem.now) }

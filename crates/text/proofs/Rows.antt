@@ -41,14 +41,20 @@ sets_push vs g fs f =
     ∙ sym (stores_append vs 0 (map g fs) (g f ∷ []))
     ∙ ap (λ k. set (sets vs 0 (map g fs)) k (g f)) n
 
--- the field f goes to the slot after those of fs
+-- the field f goes to the slots after those of fs
+pub row_pushed : (vs ws xs ys : List ℕ) (n v : ℕ) (fs : List (List ℕ)) (f : List ℕ) → v ≡ number 16 f
+    → row_with n xs ys ≡ row_by vs ws fs → row_with (n + 1) (set xs n v) (set ys n (length f)) ≡ row_by vs ws (fs ++ (f ∷ []))
+row_pushed vs ws xs ys n v fs f g e =
+    let count : n ≡ length fs = ap (λ r. r.count) e in
+    let more : length (fs ++ (f ∷ [])) ≡ n + 1 = omega (arith, length-append fs (f ∷ []), count) in
+    rw g (rw (more, sets_push vs (number 16) fs f, sets_push ws length fs f, ← count, ← ap (λ r. r.values) e, ← ap (λ r. r.widths) e) refl)
+
+-- the same of slots for both
 pub row_push : (vs ws : List ℕ) (slots : List Field) (n v : ℕ) (fs : List (List ℕ)) (f : List ℕ) → v ≡ number 16 f
     → row_as n slots ≡ row_by vs ws fs → row_as (n + 1) (set slots n (record { value = v; width = length f })) ≡ row_by vs ws (fs ++ (f ∷ []))
 row_push vs ws slots n v fs f g e =
-    let count : n ≡ length fs = ap (λ r. r.count) e in
-    let more : length (fs ++ (f ∷ [])) ≡ n + 1 = omega (arith, length-append fs (f ∷ []), count) in
-    rw (map-set (λ k. k.value) slots n (record { value = v; width = length f }), map-set (λ k. k.width) slots n (record { value = v; width = length f }), g)
-    (rw (more, sets_push vs (number 16) fs f, sets_push ws length fs f, ← count, ← ap (λ r. r.values) e, ← ap (λ r. r.widths) e) refl)
+    rw (map-set (λ k. k.value) slots n (record { value = v; width = length f }), map-set (λ k. k.width) slots n (record { value = v; width = length f }))
+    (row_pushed vs ws (values_of slots) (widths_of slots) n v fs f g e)
 
 -- ---- widths
 pub wide_is : (fs : List Field) → all_wide (widths_of fs) ≡ list_all (λ f. wide f.width) fs

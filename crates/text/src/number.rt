@@ -13,11 +13,12 @@ fn digit(b: u8) -> Option<u64>
     }
 }
 
-// Is it a digit?
+// Is it a digit? By `|`, here and in `sheet::foreign`, and not by `digit`: without a branch a sheet is looked through in the time that it took as
+// loops over positions, where with one fields of many digits took half as long again.
 pub fn is_digit(b: u8) -> bool
     ensures { result ≡ is_digit b }
 {
-    digit(b).is_some()
+    (b'0'..=b'9').contains(&b) | (b'a'..=b'f').contains(&b)
 }
 
 // The value of a digit. 0 of any other byte, and no Option: what is no digit is asked apart, by `is_digit`.

@@ -1,6 +1,6 @@
 // The fields of a line as numbers, each field read once.
 ghost use Rattle.std.specs.Prelude.{◌≡◌, ◌≤◌, set};
-ghost use Rattle.text.specs.Split.{row_as, row_of, row_over, all_wide, values_of, widths_of};
+ghost use Rattle.text.specs.Split.{row_as, row_with, row_of, row_over, all_wide, values_of, widths_of};
 
 use crate::number::number;
 
@@ -24,8 +24,9 @@ pub fn fill<T: Copy>(slots: &mut [T], k: usize, v: T)
 
 // A line's fields, in as many slots as are lent, and how many fields there are. Counted by hand, since the count is answered too:
 // `enumerate` drops it at the loop's end, and `line.split(..).count()` after the loop says the split a second time and looks at each byte
-// again. Tried by `slots.iter_mut().zip(line.split(..))`: the proof did not close, for the reason that `fill` has.
-fn read_into(line: &[u8], slots: &mut [Field]) -> usize
+// again. Tried by `slots.iter_mut().zip(line.split(..))`: the proof did not close, for the reason that `fill` has. A slot past the last
+// field keeps what it held.
+pub fn read_into(line: &[u8], slots: &mut [Field]) -> usize
     ensures { row_as result slots.new ≡ row_over (values_of slots.old) (widths_of slots.old) line.now }
 {
     let mut count = 0;
@@ -38,6 +39,19 @@ fn read_into(line: &[u8], slots: &mut [Field]) -> usize
         count += 1;
     }
     count
+}
+
+// The same into numbers and widths that stand apart, of which there may be unlike many. It has no caller here, and stays for its promise.
+pub fn read_over(line: &[u8], values: &mut [u64], widths: &mut [u64]) -> usize
+    ensures { row_with result values.new widths.new ≡ row_over values.old widths.old line.now }
+{
+    let mut n = 0;
+    for piece in line.split(|&b| b == b',') {
+        fill(values, n, number(piece, 16));
+        fill(widths, n, piece.len() as u64);
+        n += 1;
+    }
+    n
 }
 
 // A line's fields, in N slots, and how many fields there are.

@@ -41,7 +41,7 @@ impl<'a> Writer<'a> {
 
     // The digits of n in a base, in at most `room` positions. The higher digits come first: they are the digits of n / base. Not
     // `write!`: fmt has to answer Err where a buffer is full, which the bound on the positions rules out, and states no such bound.
-    fn put_digits(&mut self, n: u64, base: u64, room: usize)
+    pub fn put_digits(&mut self, n: u64, base: u64, room: usize)
         requires base { (1 < base) × (base ≤ 16) }
         requires room { self.old.at + room ≤ length self.old.buffer.now }
         ensures { Put self.old (digits base room n) self.new }

@@ -2,7 +2,7 @@
 // stand.
 #![tactic(auto)]
 
-ghost use Rattle.std.specs.Prelude.{◌≡◌, ◌≤◌, Ok, Some};
+ghost use Rattle.std.specs.Prelude.{◌≡◌, ◌≤◌, Ok, Some, IfOk, IfSome};
 ghost use Rattle.model.specs.Run.{run_answer};
 ghost use Rattle.scheduler.specs.Turn.{most_slots, took_turn, turn_answer, turned_with, turn_call, put_answer, put_call};
 
@@ -18,7 +18,8 @@ use scheduler::{MOST_SLOTS, Refusal, Scheduler, Slot, Turned};
 // Slot n has made the run that answered r: what that run left, and whose turn is next.
 fn took_turn(s: &mut Scheduler, n: u64, r: Ran) -> Turned
     requires { (1 ≤ n) × (n ≤ most_slots) }
-    ensures { turn_answer (Ok (Some result)) s.new ≡ took_turn s.old n (run_answer r) }
+    ensures answer { turn_answer (Ok (Some result)) s.new ≡ took_turn s.old n (run_answer r) }
+    ensures whose { result.slot ≡ n }
 {
     s.slots[(n - 1) as usize] = Slot {
         machine: r.machine,
@@ -33,13 +34,14 @@ fn took_turn(s: &mut Scheduler, n: u64, r: Ran) -> Turned
     }
 }
 
-// A turn of any machines over any memory, with any allowance; none where all slots are stopped.
+// A turn of any machines over any memory, with any allowance; none where all slots are stopped. A turn that was made has a slot, so a refusal is an Err.
 pub fn turn_call(
     s: &mut Scheduler,
     mem: &mut [u8],
     allowance: u64,
 ) -> Result<Option<Turned>, Refusal>
-    ensures { turned_with (turn_answer result s.new) mem.new ≡ turn_call s.old mem.old allowance }
+    ensures answer { turned_with (turn_answer result s.new) mem.new ≡ turn_call s.old mem.old allowance }
+    ensures made { IfOk result (λ o. IfSome o (λ t. (1 ≤ t.slot) × (t.slot ≤ most_slots))) }
 {
     refusal(s, mem.len(), allowance)?;
     let Some(n) = next_slot(s) else {
@@ -50,6 +52,15 @@ pub fn turn_call(
     Ok(Some(took_turn(s, n, r)))
 }
 
+// It has had no turn. It stays a call, so that a machine goes into its slot by way of the stack: from the caller's, which the
+// compiler cannot tell to lie apart from the slots, the copy would be a memmove, and C's host need have memcpy and memset alone.
+#[inline(never)]
+fn begin(slot: &mut Slot)
+    ensures { slot.new ≡ record { machine = slot.old.machine; stop = 0 } }
+{
+    slot.stop = 0;
+}
+
 // A machine put into slot n; a number that no slot has changes nothing. A bool and no Result: there is one way
 // to fail, to which the documents give no number.
 #[tactic(auto, unfolding(scheduler::specs::Turn::put_call))]
@@ -58,10 +69,12 @@ pub fn put_call(s: &mut Scheduler, n: u64, m: Machine) -> bool
 {
     let there = within(MOST_SLOTS, n);
     if there {
-        s.slots[(n - 1) as usize] = Slot {
+        let mut slot = Slot {
             machine: m,
-            stop: 0,
+            ..Slot::default()
         };
+        begin(&mut slot);
+        s.slots[(n - 1) as usize] = slot;
     }
     there
 }

@@ -4,6 +4,7 @@
 mod stored;
 
 use columns::{each_doubleword, read_file};
+use input::counted;
 use scheduler::{Refusal, Scheduler, Turned};
 use std::fmt::{self, Display};
 use std::io;
@@ -81,15 +82,17 @@ fn show(rt: &impl Print, r: &Record) -> io::Result<()> {
     println!(rt)
 }
 
-// Each record of a file. The room is made elsewhere: the prover takes no part of so large an array where it is made.
-fn show_all(rt: &(impl Files + Print + Eprint), room: &mut [u8; 524288]) -> io::Result<()> {
-    for r in read_file(rt, "turns", room).chunks_exact(RECORD) {
+// Each record of a file.
+fn show_all(rt: &(impl Files + Print + Eprint), room: &mut [u8]) -> io::Result<()> {
+    let n = read_file(rt, "turns", room);
+    for r in counted(room, n).chunks_exact(RECORD) {
         show(rt, &read_record(r))?;
     }
     Ok(())
 }
 
+// The room is on the heap: it is larger than some hosts' whole stack.
 fn main(rt: HostRuntime) -> io::Result<()> {
-    let mut room = [0u8; 524288];
+    let mut room = vec![in rt.alloc(); 0u8; 524288]?;
     show_all(&rt, &mut room)
 }

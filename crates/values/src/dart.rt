@@ -2,6 +2,7 @@
 // the return address ends a run with 18, and x10 is then the result. Printed are the stop and, for 18, pc and x10.
 use crate::setting::{machine, place_words};
 use columns::{column, hexadecimal_at, read_file, unpadded};
+use input::counted;
 use memory::bytes::write;
 use model::Ran;
 use model::stop::Stop;
@@ -48,7 +49,8 @@ fn print_case(rt: &impl Print, r: &[u8]) -> io::Result<()> {
 // output has it.
 pub fn print_cases(rt: &(impl Files + Print + Eprint), path: &str) -> io::Result<()> {
     let mut room = [0u8; 131072];
-    for r in read_file(rt, path, &mut room).chunks_exact(257) {
+    let n = read_file(rt, path, &mut room);
+    for r in counted(&room, n).chunks_exact(257) {
         print_case(rt, r)?;
     }
     Ok(())

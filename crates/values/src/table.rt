@@ -2,6 +2,7 @@
 // x5, and x10 after one step for each value as x6.
 use crate::setting::machine;
 use columns::{column, hexadecimal_at, read_file, unpadded};
+use input::counted;
 use memory::bytes::write;
 use run::run_call;
 use std::io;
@@ -49,10 +50,11 @@ pub fn print_table(
     values_path: &str,
 ) -> io::Result<()> {
     let mut words_room = [0u8; 1024];
-    let words = read_file(rt, words_path, &mut words_room);
+    let n = read_file(rt, words_path, &mut words_room);
     let mut values_room = [0u8; 1024];
-    let values = read_file(rt, values_path, &mut values_room);
-    for r in words.chunks_exact(17) {
+    let m = read_file(rt, values_path, &mut values_room);
+    let values = counted(&values_room, m);
+    for r in counted(&words_room, n).chunks_exact(17) {
         print_rows(rt, r, values)?;
     }
     Ok(())

@@ -3,6 +3,7 @@
 // doubleword of memory that is not 0.
 use crate::setting::{machine, place_words};
 use columns::{column, each_doubleword, each_register, hexadecimal_at, read_file, unpadded};
+use input::counted;
 use memory::bytes::write;
 use run::run_call;
 use std::io;
@@ -45,7 +46,8 @@ fn print_cases_in(
     path: &str,
     room: &mut [u8; 524288],
 ) -> io::Result<()> {
-    for r in read_file(rt, path, room).chunks_exact(161) {
+    let n = read_file(rt, path, room);
+    for r in counted(room, n).chunks_exact(161) {
         print_case(rt, r)?;
     }
     Ok(())

@@ -1,6 +1,6 @@
--- Products: their halves over the width, and the signed ones from the unsigned.
+-- Products: their halves over the width, a way to them by halves of 32 bits, and the signed ones from the unsigned.
 -- Assumes nothing.
-use Rattle.std.proofs.Common.{◌≡◌, ℕ, suc, ◌+◌, ◌-◌, ◌*◌, ◌/◌, ◌%◌, ◌^◌, ◌<◌, ◌≤◌, Bool, true, false, cond, ltb, ℤ, pos, negsuc, ◌*ℤ◌, sym, refl, ap, ◌∙◌, ap₂, lt_of_lt_of_le, lt_of_le_of_lt, le_of_lt, add_assoc, mod-lt, mod-eq_of_lt, mul_assoc, suc-mul, add-mul, mul-le-mul_left, mul-lt-mul_of_pos_right, mul-add, mul_right_comm, div-one, arith, pow_pos, pow_mono, pow-add}
+use Rattle.std.proofs.Common.{◌≡◌, ℕ, suc, ◌+◌, ◌-◌, ◌*◌, ◌/◌, ◌%◌, ◌^◌, ◌<◌, ◌≤◌, Bool, true, false, cond, ltb, ℤ, pos, negsuc, ◌*ℤ◌, sym, refl, ap, ◌∙◌, ap₂, lt_of_lt_of_le, lt_of_le_of_lt, le_of_lt, add_assoc, mod-lt, mod-eq_of_lt, mul_assoc, suc-mul, add-mul, mul-le-mul, mul-le-mul_left, mul-lt-mul_of_pos_right, mul-add, mul_right_comm, div-one, arith, pow_pos, pow_mono, pow-add, w64, Fits}
 use native.Mathlib.Nat.{mul-mul-mul_comm, mod-mod, add-mul-div_right, add-mul-mod_self_left, mod-add-mod, add-mod-mod}
 use lib.Signed.{non_neg}
 use lib.Pow.{field, shr_mod, high_ones, suc_ones}
@@ -37,6 +37,23 @@ exact a b =
     let p : a ≡ a / 2 ^ 32 * 2 ^ 32 + a % 2 ^ 32 = omega arith in
     let q : b ≡ b / 2 ^ 32 * 2 ^ 32 + b % 2 ^ 32 = omega arith in
     ap₂ (λ (m n : ℕ). m * n) p q ∙ cross_terms (a / 2 ^ 32) (a % 2 ^ 32) (b / 2 ^ 32) (b % 2 ^ 32) (2 ^ 32)
+
+-- a product of two halves leaves room for two halves more
+pub half_product : (m n : ℕ) → m < 2 ^ 32 → n < 2 ^ 32 → m * n ≤ 0xfffffffe00000001
+half_product m n h l =
+    let p : m ≤ 0xffffffff = omega arith in
+    let q : n ≤ 0xffffffff = omega arith in
+    mul-le-mul p q
+
+pub half_products : {a b : ℕ} → Fits w64 a → Fits w64 b
+    → (a % 2 ^ 32 * (b % 2 ^ 32) ≤ 0xfffffffe00000001) × (a / 2 ^ 32 * (b % 2 ^ 32) ≤ 0xfffffffe00000001)
+    × (a % 2 ^ 32 * (b / 2 ^ 32) ≤ 0xfffffffe00000001) × (a / 2 ^ 32 * (b / 2 ^ 32) ≤ 0xfffffffe00000001)
+half_products {a} {b} h l =
+    let p : a % 2 ^ 32 < 2 ^ 32 = omega arith in
+    let q : a / 2 ^ 32 < 2 ^ 32 = omega arith in
+    let r : b % 2 ^ 32 < 2 ^ 32 = omega arith in
+    let s : b / 2 ^ 32 < 2 ^ 32 = omega arith in
+    (half_product _ _ p r, half_product _ _ q r, half_product _ _ p s, half_product _ _ q s)
 
 -- ---- the high half
 
@@ -92,6 +109,20 @@ high_signed w a z l = go (ltb a (2 ^ (w - 1))) refl
         → (high_half w (signed w a *ℤ z) + cond (non_neg (signed w a)) 0 (word w z)) % 2 ^ w ≡ high_half w (pos a *ℤ z)
     go true e = rw e (ap (λ (n : ℕ). n % 2 ^ w) (omega arith) ∙ mod-eq_of_lt (high_lt w (pos a *ℤ z)))
     go false e = rw e (high_negative w a z l)
+
+-- ---- a product by the products of halves
+
+-- `ll + (hl + lh << 32)`, wrapping
+pub low_halves : (a b c : ℕ) → c ≡ (a / 2 ^ 32 * (b % 2 ^ 32) + a % 2 ^ 32 * (b / 2 ^ 32)) % 2 ^ 64
+    → (a % 2 ^ 32 * (b % 2 ^ 32) + c * 2 ^ 32 % 2 ^ 64) % 2 ^ 64 ≡ a * b % 2 ^ 64
+low_halves a b c e = omega (arith, exact a b)
+
+-- what the products of halves come to, with the carries of the lower ones
+pub high_halves : (a b low middle cross : ℕ) → low ≡ a % 2 ^ 32 * (b % 2 ^ 32)
+    → middle ≡ a / 2 ^ 32 * (b % 2 ^ 32) + low / 2 ^ 32
+    → cross ≡ a % 2 ^ 32 * (b / 2 ^ 32) + middle % 2 ^ 32
+    → a / 2 ^ 32 * (b / 2 ^ 32) + middle / 2 ^ 32 + cross / 2 ^ 32 ≡ a * b / 2 ^ 64
+high_halves a b low middle cross e f g = omega (arith, exact a b)
 
 -- ---- the code's way
 difference : (r h s : ℕ) → r < 2 ^ 64 → h < 2 ^ 64 → (r + s) % 2 ^ 64 ≡ (h + s) % 2 ^ 64 → r ≡ h

@@ -1,10 +1,46 @@
--- The test for the sign of a number, and its shift to the right, by the code's way.
+-- The order of signed numbers, the test for the sign of a number, and its shift to the right, by the code's way.
 -- Assumes nothing.
 use Rattle.std.proofs.Common.{◌≡◌, ℕ, suc, ◌+◌, ◌-◌, ◌/◌, ◌^◌, ◌<◌, ◌≤◌, Bool, true, false, not, ltb, pos, negsuc, sym, refl, ap, ◌∙◌, true≢false, lt_of_le_of_lt, mod-eq_of_lt, div-le_self, arith, pow_pos, ltb-false, ltb-true, le-ltb, lt-ltb}
 use lib.Pow.{ones_split, high, ones_lt}
-use lib.Signed.{shr_z, non_neg}
+use lib.Bits.{bit_xor}
+use lib.Signed.{lt_z, shr_z, non_neg}
 use Rattle.words.specs.Word.{signed, word}
-use Rattle.words.proofs.Extend.{halves}
+use Rattle.words.proofs.Extend.{xor_clear, xor_set, halves}
+
+same_order : (m n p q : ℕ) → (m < n → p < q) → (n ≤ m → q ≤ p) → ltb m n ≡ ltb p q
+same_order m n p q f g = go (ltb m n) refl
+  where
+    go : (b : Bool) → ltb m n ≡ b → ltb m n ≡ ltb p q
+    go true e = e ∙ sym (lt-ltb p q (f (ltb-true m n e)))
+    go false e = e ∙ sym (le-ltb p q (g (ltb-false m n e)))
+
+-- `(a ^ 2^63) < (b ^ 2^63)`
+pub flipped_order : (a b : ℕ) → a < 2 ^ 64 → b < 2 ^ 64 → ltb (bit_xor a (2 ^ 63)) (bit_xor b (2 ^ 63)) ≡ lt_z (signed 64 a) (signed 64 b)
+flipped_order a b ha hb = go (ltb a (2 ^ 63)) (ltb b (2 ^ 63)) refl refl
+  where
+    go : (s t : Bool) → ltb a (2 ^ 63) ≡ s → ltb b (2 ^ 63) ≡ t → ltb (bit_xor a (2 ^ 63)) (bit_xor b (2 ^ 63)) ≡ lt_z (signed 64 a) (signed 64 b)
+    go true true e d =
+        let h = xor_clear 63 a (ltb-true a (2 ^ 63) e) in
+        let l = xor_clear 63 b (ltb-true b (2 ^ 63) d) in
+        rw (e, d, h, l) (same_order (2 ^ 63 + a) (2 ^ 63 + b) a b (λ t. omega arith) (λ t. omega arith))
+    go true false e d =
+        let p = ltb-true a (2 ^ 63) e in
+        let q = ltb-false b (2 ^ 63) d in
+        let h = xor_clear 63 a p in
+        let l = xor_set 63 b q (omega arith) in
+        rw (e, d, h, l) (le-ltb (2 ^ 63 + a) (b - 2 ^ 63) (omega arith))
+    go false true e d =
+        let p = ltb-false a (2 ^ 63) e in
+        let q = ltb-true b (2 ^ 63) d in
+        let h = xor_set 63 a p (omega arith) in
+        let l = xor_clear 63 b q in
+        rw (e, d, h, l) (lt-ltb (a - 2 ^ 63) (2 ^ 63 + b) (omega arith))
+    go false false e d =
+        let p = ltb-false a (2 ^ 63) e in
+        let q = ltb-false b (2 ^ 63) d in
+        let h = xor_set 63 a p (omega arith) in
+        let l = xor_set 63 b q (omega arith) in
+        rw (e, d, h, l) (same_order (a - 2 ^ 63) (b - 2 ^ 63) (2 ^ 64 - suc b) (2 ^ 64 - suc a) (λ t. omega arith) (λ t. omega arith))
 
 -- `u64::MAX >> (64 - k)`
 pub all_ones : (k : ℕ) → k ≤ 64 → 0xffffffffffffffff / 2 ^ (64 - k) ≡ 2 ^ k - 1

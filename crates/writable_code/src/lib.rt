@@ -2,9 +2,8 @@
 // test is made at the edges of the regions; model/specs/WritableCode.antt says why that is enough.
 #![tactic(auto)]
 
-ghost use Rattle.std.specs.Prelude.{◌≡◌, true};
+ghost use Rattle.std.specs.Prelude.{◌≡◌, true, ◌<◌};
 ghost use Rattle.hart.specs.Kinds.{kind_of};
-ghost use Rattle.model.specs.Regions.{permission_bit};
 ghost use Rattle.model.specs.WritableCode.{covers as is_covered, explicit_covers, writable_at, executable_at, both_at, keeps_rule, region_end, edges_of, some, writable_code, exposes_code};
 
 use hart::regions::{RegionKind, region_at};
@@ -14,17 +13,19 @@ use memory::region::{explicit_rule, implicit_rule, mask_zeros, permits};
 use model::permission::Permission;
 use model::{CODE_REGIONS, DATA_REGIONS, EXPLICIT_REGIONS, HfiState, REGIONS, Region};
 
-// Does the explicit region have the byte at `a`, with the permission `wanted`?
+// Does the explicit region have the byte at `a`, with the permission `wanted`, a bit number?
 #[tactic(auto, using(model::proofs::Intervals::explicit_ends))]
-fn covers(wanted: Permission, a: u64, r: Region) -> bool
-    ensures { result ≡ is_covered (permission_bit wanted) a r }
+fn covers(wanted: u64, a: u64, r: Region) -> bool
+    requires { wanted < 64 }
+    ensures { result ≡ is_covered wanted a r }
 {
     explicit_rule(r) && permits(wanted, r) && (r.base..r.base + r.bound).contains(&a)
 }
 
 // Does one of the explicit regions `ns`?
-fn explicit_covers(rs: &[Region; REGIONS], ns: &[u64], wanted: Permission, a: u64) -> bool
-    ensures { result ≡ explicit_covers rs.now ns.now (permission_bit wanted) a }
+fn explicit_covers(rs: &[Region; REGIONS], ns: &[u64], wanted: u64, a: u64) -> bool
+    requires { wanted < 64 }
+    ensures { result ≡ explicit_covers rs.now ns.now wanted a }
 {
     ns.iter().any(|&n| covers(wanted, a, region_at(rs, n)))
 }
@@ -32,14 +33,14 @@ fn explicit_covers(rs: &[Region; REGIONS], ns: &[u64], wanted: Permission, a: u6
 fn writable_at(rs: &[Region; REGIONS], a: u64) -> bool
     ensures { result ≡ writable_at rs.now a }
 {
-    grants(rs, &DATA_REGIONS, Permission::Write, a)
-        | explicit_covers(rs, &EXPLICIT_REGIONS, Permission::Write, a)
+    grants(rs, &DATA_REGIONS, Permission::Write.bit(), a)
+        | explicit_covers(rs, &EXPLICIT_REGIONS, Permission::Write.bit(), a)
 }
 
 fn executable_at(rs: &[Region; REGIONS], a: u64) -> bool
     ensures { result ≡ executable_at rs.now a }
 {
-    grants(rs, &CODE_REGIONS, Permission::Execute, a)
+    grants(rs, &CODE_REGIONS, Permission::Execute.bit(), a)
 }
 
 // Is the byte at `a` both?

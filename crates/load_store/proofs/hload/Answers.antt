@@ -17,5 +17,5 @@ finish_load-requires c =
       rw (c.explicit_address-first.ensures, c.region_at.ensures)
           (passed_fits a.m.now.hfi.mode (length a.mem.now) access (load_is_width a.k)
           (word_lt 64 (pos (region rs a.region).base +ℤ offset a.offset.operand a.offset.imm)) (search rules)
-          (c.check_explicit-verdict.ensures ∙ rw c.load_width.ensures)),
+          (c.check_explicit-verdict.ensures ∙ rw (c.bit.ensures, c.load_width.ensures))),
     )

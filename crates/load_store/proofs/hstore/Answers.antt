@@ -16,4 +16,4 @@ finish_store-requires c =
     rw (c.explicit_address-first.ensures, c.region_at.ensures)
     (passed_fits a.m.now.hfi.mode (length a.mem.now) access (store_is_width a.k)
     (word_lt 64 (pos (region rs a.region).base +ℤ offset a.offset.operand a.offset.imm)) (search rules)
-    (c.check_explicit-verdict.ensures ∙ rw c.store_width.ensures))
+    (c.check_explicit-verdict.ensures ∙ rw (c.bit.ensures, c.store_width.ensures)))

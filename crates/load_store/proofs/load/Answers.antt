@@ -12,5 +12,5 @@ finish_load-requires c =
     let access = data_access a.m.now.hfi.regions read a.a (load_width a.k) in (
       c.requires,
       passed_fits a.m.now.hfi.mode (length a.mem.now) access (load_is_width a.k) (search rules) (search rules)
-          (c.check_data-verdict.ensures ∙ rw c.load_width.ensures),
+          (c.check_data-verdict.ensures ∙ rw (c.bit.ensures, c.load_width.ensures)),
     )

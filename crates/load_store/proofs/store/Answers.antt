@@ -11,4 +11,4 @@ finish_store-requires c =
     let a = c.args in
     let access = data_access a.m.now.hfi.regions write a.a (store_width a.k) in
     passed_fits a.m.now.hfi.mode (length a.mem.now) access (store_is_width a.k) (search rules) (search rules)
-    (c.check_data-verdict.ensures ∙ rw c.store_width.ensures)
+    (c.check_data-verdict.ensures ∙ rw (c.bit.ensures, c.store_width.ensures))

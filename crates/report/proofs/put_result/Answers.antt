@@ -1,13 +1,11 @@
--- The result's row, then the registers' rows.
-use Rattle.std.proofs.Common.{[], ◌∷◌, sym}
-use Rattle.text.proofs.Writing.{put_then, put_as}
-use Rattle.model.specs.Run.{run_answer}
-use Rattle.report.specs.Report.{result_line, register_lines}
-use Rattle.report.proofs.Laws.{rows_append}
+-- It is by numbers.
+use Rattle.std.proofs.Common.{ap}
+use Rattle.text.proofs.Writing.{put_as}
+use Rattle.model.specs.Stops.{stop_address}
+use Rattle.report.specs.Report.{answer, result_text}
 use Rattle.report.proofs.put_result.Goals as goal
 
 pub returns-clause-put : goal.returns-clause-put
 returns-clause-put c =
-    let r = run_answer c.args.r in
-    let rows = sym (rows_append (result_line r ∷ []) (register_lines 0 r.machine.x)) in
-    put_as rows (put_then c.put_result_line.ensures.put c.put_registers.ensures.put)
+    let r = c.args.r in
+    put_as (ap (λ n. result_text (answer n r.count (stop_address r.stop) r.machine)) c.number.ensures) (c.put_answer.ensures.put (stop_address r.stop))

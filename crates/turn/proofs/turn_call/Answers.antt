@@ -10,9 +10,9 @@ use Rattle.scheduler.proofs.Turn.{accepted, turn_runs}
 use Rattle.turn.proofs.Refusals.{never_zero}
 use Rattle.turn.proofs.turn_call.Goals as goal
 
-pub returns-in_err-refusal : goal.returns-in_err-refusal
+pub returns-in_err-refusal-clause-answer : goal.returns-in_err-refusal-clause-answer
 unfolding turn_call
-returns-in_err-refusal c =
+returns-in_err-refusal-clause-answer c =
     let s = c.args.s.now in
     let mem = c.args.mem.now in
     let why = c.in_err-refusal.field-0.0 in
@@ -31,19 +31,24 @@ slot_at-requires c = in_slots c.args.s.now (length c.args.mem.now) c.args.allowa
 pub took_turn-requires : goal.took_turn-requires
 took_turn-requires c = in_slots c.args.s.now (length c.args.mem.now) c.args.allowance c.in-Some.n (sym c.in_ok-refusal.ensures) c.in-Some.ensures.numbered
 
-pub returns-in_default : goal.returns-in_default
+pub returns-in_default-clause-answer : goal.returns-in_default-clause-answer
 unfolding turn_call
-returns-in_default c =
+returns-in_default-clause-answer c =
     let s = c.args.s.now in
     rw (eq-eqb (refusal s (length c.args.mem.now) c.args.allowance) 0 (sym c.in_ok-refusal.ensures), eq-eqb (next_slot s) 0 (sym c.in_default.ensures.value))
 
-pub returns : goal.returns
-returns c =
+pub returns-clause-answer : goal.returns-clause-answer
+returns-clause-answer c =
     let s = c.args.s.now in
     let mem = c.args.mem.now in
     let n = c.in-Some.n in
     let ran = c.run_call-r.ensures ∙ ap (λ (d : Slot). run_call d.machine mem c.args.allowance) c.slot_at.ensures in
-    ap (λ (t : TurnAnswer). turned_with t c.run_call-r.new.mem) c.took_turn.ensures
+    ap (λ (t : TurnAnswer). turned_with t c.run_call-r.new.mem) c.took_turn.ensures.answer
     ∙ ap (λ (e : Ended). turned_with (took_turn s n e.result) e.memory) ran
     ∙ sym (turn_runs s mem c.args.allowance n (sym c.in_ok-refusal.ensures) (sym c.in-Some.ensures.value)
     (λ e. omega (arith, e, c.in-Some.ensures.numbered.0)))
+
+-- the slot is the next one's
+pub returns-clause-made : goal.returns-clause-made
+returns-clause-made c =
+    rw c.took_turn.ensures.whose (in_slots c.args.s.now (length c.args.mem.now) c.args.allowance c.in-Some.n (sym c.in_ok-refusal.ensures) c.in-Some.ensures.numbered)
