@@ -34,8 +34,8 @@ pub fn unpadded(s: &[u8]) -> &[u8]
     split_byte(s, b' ').0
 }
 
-// How many bytes of a file there is room for; none where it cannot be read, which is told on standard error. Their count lies within
-// the room; which bytes they are and how many is left free: no contract can speak of what a file holds. A program goes through the records
+// Reads a file into the room, as far as that goes, and counts the bytes: none where it cannot be read, which is told on standard error. Their
+// count lies within the room; which bytes they are and how many is left free: no contract can speak of what a file holds. A program goes through the records
 // by `counted` and `chunks_exact`: as `each_record(rt, path, &mut room, size, |r| show(rt, r))` it would still make the room, and say
 // the size and the printer.
 pub fn read_file(rt: &(impl Files + Eprint), path: &str, room: &mut [u8]) -> usize

@@ -13,8 +13,8 @@ fn digit(b: u8) -> Option<u64>
     }
 }
 
-// Is it a digit? By `|`, here and in `sheet::foreign`, and not by `digit`: without a branch a sheet is looked through in the time that it took as
-// loops over positions, where with one fields of many digits took half as long again.
+// Is it a digit? By `|`, here and in `sheet::foreign`, and not by `digit`: that has a branch, with which a sheet of fields of many digits took 1.3
+// to 1.4 times as long (docs/LOOK-BACK.md).
 pub fn is_digit(b: u8) -> bool
     ensures { result ≡ is_digit b }
 {
