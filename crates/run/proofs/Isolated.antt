@@ -1,5 +1,5 @@
--- Demand 3 read off the contract of the code's run, so that nobody has to join the two: two calls of `run_call`, each of which
--- met its contract, from one machine in HFI mode with regions locked, over memories of one length that agree wherever it may
+-- Demand 3 read off the contract of the code's run, so that nobody has to join the two: two calls of `run_call`, or of `koubospar_run`, each of
+-- which met its contract, from one machine in HFI mode with regions locked, over memories of one length that agree wherever it may
 -- read or execute.
 -- Assumes nothing.
 use mathlib.Core.Path.{◌≡◌, ap, ◌∙◌}
@@ -18,8 +18,8 @@ use Rattle.model.proofs.Isolation.{runs_isolated}
 use Rattle.model.proofs.Stops.{same_stop}
 use Rattle.model.proofs.Runs.{count_at_most, locked_keeps, locked_executable}
 
--- ---- by the documents' numbers, as a call on a lent machine answers too: the clause of `koubospar_run` is this, of what it answers with the machine
--- that it left
+-- ---- of an answer by the documents' numbers. `koubospar_run` answers so: its clause is `Called` of what it answers with the machine that it left
+-- (`run_stop_with`)
 
 -- what is promised of a call on m and the memory s: the answer r, and the memory s' after it
 abbrev pub Called : Machine → List ℕ → ℕ → RunAnswer → List ℕ → Type 0
@@ -61,7 +61,7 @@ call_keeps m s budget r s' e l = ap (λ (o : Ended). settings o.result.machine) 
 pub call_count : (m : Machine) (s : List ℕ) (budget : ℕ) (r : RunAnswer) (s' : List ℕ) → Called m s budget r s' → r.count ≤ budget
 call_count m s budget r s' e = rw (ap (λ o. o.result.count) e) (count_at_most m s budget)
 
--- ---- of what `run_call` itself answers: its clause is this
+-- ---- of what `run_call` itself answers: its clause is `CalledRan`
 
 abbrev pub CalledRan : Machine → List ℕ → ℕ → Ran → List ℕ → Type 0
 CalledRan m s budget r s' = Called m s budget (run_answer r) s'
